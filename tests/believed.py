@@ -36,6 +36,16 @@ STATEMENTS = [
     ("no network is stuck", [("laws_progress", "NotStuck", "NoNetworkIsStuck")], [*EXECUTIONS, ("laws_progress", "NetworkStates", "RunsWith")]),
     ("chains reach genesis", [("laws_chains", "Chains", "FinalizedReachGenesis")], EXECUTIONS),
     ("exactness", [("laws_safety", "ExactVotes", "ExactAt")], []),
+    (
+        "hosts agree",
+        [
+            ("laws_hosts", "HostNetworks", "OfEachHostNetwork"),
+            ("laws_hosts", "HostAgreement", "OneFinalOfEachView"),
+            ("laws_hosts", "HostAgreement", "FinalsUncovered"),
+            ("laws_hosts", "HostAgreement", "ChainsHoldFinals"),
+        ],
+        [("laws_hosts", "EngineCalls", "IsEngineCall"), ("laws_hosts", "Processes", "EngineBegins")],
+    ),
 ]
 
 DEFINITION = re.compile(r"^ {0,2}(?:(?:abbrev|unfoldable) (?:pub )?|pub (?:record|data) |record |data )([\w'-]+)")

@@ -260,8 +260,9 @@ def try_wanting(room, archive):
 
 def package_faults(target, archive):
     """Which of the package's own tests and lints fail."""
-    for words in (("test", "--quiet"), ("clippy", "--quiet", "--all-targets", "--", "-D", "warnings"), ("fmt", "--check")):
-        if shutil.which(f"cargo-{words[0]}") or words[0] == "test":
+    for words in (("test", "--quiet"), ("clippy", "--quiet", "--all-targets", "--", "-D", "warnings"), ("fmt", "--check"),
+                  ("package", "--quiet", "--allow-dirty")):
+        if shutil.which(f"cargo-{words[0]}") or words[0] in ("test", "package"):
             try:
                 cargo(BINDINGS / "rust", target, archive, *words)
             except subprocess.CalledProcessError as error:
@@ -291,6 +292,18 @@ def refusal_faults(room):
         yield f"a build without the kit says, in place of one line that names it: {done.stderr[-500:]}"
 
 
+def name_faults(room, archive):
+    """What is not as it has to be where the package is built over an archive of another name: one line says which names there are."""
+    other = room / "lib.a"
+    other.write_bytes(Path(archive).read_bytes())
+    try:
+        cargo(BINDINGS / "rust", room / "name-target", other, "build", "--quiet")
+        yield "an archive named lib.a is not refused"
+    except subprocess.CalledProcessError as error:
+        if "is not named libNAME.a" not in error.stderr.decode():
+            yield f"an archive named lib.a is refused without a word of its name: {error.stderr.decode()[-500:]}"
+
+
 def info_faults(room, archive, is_of_now):
     """What is wrong with what an archive says of itself to C; one that was built just now is of the commit that is checked out."""
     source, asks = room / "info.c", room / "info"
@@ -311,7 +324,7 @@ def try_all(given, room, pool):
     again = room / "again.a"
     for made in [archive] * (not given.archive) + [again] * (given.again or not given.archive):
         faults += built(made)
-    faults += info_faults(room, archive, is_of_now=again.exists())
+    faults += [*info_faults(room, archive, is_of_now=again.exists()), *name_faults(room, archive)]
     if again.exists() and archive.read_bytes() != again.read_bytes():
         faults.append("two builds of the archive have other bytes")
     target = room / "target"

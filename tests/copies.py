@@ -15,6 +15,7 @@ import argparse
 import re
 import sys
 
+import results
 import wrong_bodies
 import wrong_definitions
 from lib import edits, schedules, scripts, tables
@@ -129,8 +130,15 @@ def listed_names():
     told = {name for cell in cells for name in re.findall(r"\w+", cell)} & (crates | listed)
     yield from (f"{what} has other crates than stand: {names ^ crates}" for what, names in (("crates.txt", listed), ("docs/DESIGN.md", told)) if names != crates)
     for name in wrong_bodies.ALL_WRONG:
-        if name.split("/")[1] not in text_of("docs/TESTED.md"):
-            yield f"docs/TESTED.md does not tell of the wrong body {name}"
+        if name.split("/")[1] not in text_of("docs/TESTED.md") + text_of("tests/results.txt"):
+            yield f"tests/results.txt does not name the wrong body {name}"
+    for wrong in wrong_definitions.WRONG_DEFINITIONS:
+        try:
+            wrong_definitions.turned(wrong, text_of(f"crates/{wrong.file}"))
+        except (wrong_definitions.Stale, OSError) as fault:
+            yield f"tests/wrong_definitions.py: {fault}"
+    if text_of("docs/inside/RESULTS.md") != results.page():
+        yield "docs/inside/RESULTS.md isn't what tests/results.txt says: run tests/results.py"
     refused = [name for name, _ in table_rows("docs/inside/REFUSED.md")[1:]]
     if refused != [it.name for it in wrong_definitions.WRONG_DEFINITIONS]:
         yield "docs/inside/REFUSED.md has other wrong definitions than tests/wrong_definitions.py"

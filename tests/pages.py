@@ -8,14 +8,15 @@ Words are those between spaces, outside fenced blocks, which are code or output,
 
     tests/pages.py
 
-It ends with status 1 where a path leads nowhere, where it found next to none, or where a page that keeps to the field's words has one of
-the repository's own."""
+It ends with status 1 where a path leads nowhere, where it found next to none, where a page or a comment has a word of the repository's own
+for one of the field's, where a comment of a crate has a name outside of backquotes, or one in them that no code has."""
 
 import re
 import shutil
 import sys
 from pathlib import Path
 
+from lib import words
 from lib.floors import lacking
 from lib.program import ROOT
 
@@ -26,14 +27,8 @@ RATTLE_PATH = re.compile(r"^Rattle\.([^\s{]+?)(?:\.\{([^}]*)\})?$")
 SIBLING = re.compile(r"^((?:\w+\.)*[A-Z]\w*)(?:\.\{([^}]*)\})?$")
 GENERATED = ("Goals", "Given", "Answers", "TheVariants")
 PACKAGE = "bindings/rust/src/lib.rs"
-WRITTEN_BY_SCRIPTS = ("DEFINITIONS.md", "REFUSED.md", "SPEED.md")
-# Words of this repository's own, where the field has one (returns, passes, out of memory, lifetime, host ..), and pages that keep to the
-# field's.
-DIALECT = re.compile(
-    r"\b(hand(?:s|ed|ing)? (?:in|out)|giv(?:es?|en|ing) (?:out|up)|(?:is|are|was|were|be|been) told|want of memory|memory is wanting|of no use"
-    r"|lets? go|likewise|its kin|comes? of|go(?:es)? on|leaves? behind|a life|lives|drivers?|owes?|owed|reckoned|late comers?)\b",
-    re.IGNORECASE,
-)
+WRITTEN_BY_SCRIPTS = ("DEFINITIONS.md", "REFUSED.md", "SPEED.md", "RESULTS.md")
+# Pages that keep to the field's words.
 IN_PLAIN_WORDS = ("README.md", "CONTRIBUTING.md", "CHANGELOG.md", "SECURITY.md", *(f"docs/{name}.md" for name in (
     "CALLERS", "DECISIONS", "DESIGN", "DIFFERENCES", "EMBEDDING", "GLOSSARY", "GUARANTEES", "PARTS", "PRODUCTION", "PROGRAM", "TESTED", "TRACE", "TUTORIAL")),
     "docs/inside/PROOFS.md", "docs/inside/CALLS.md",
@@ -183,7 +178,7 @@ def in_dialect():
     """The words of the repository's own in pages that are written in the field's, outside code."""
     for name in IN_PLAIN_WORDS:
         text = FENCED.sub("", (ROOT / name).read_text())
-        yield from (f"{name}: say {found[0]!r} in the field's words" for found in DIALECT.finditer(re.sub(r"`[^`]*`", "`", text)))
+        yield from (f"{name}: say {found[0]!r} in the field's words" for found in words.DIALECT.finditer(re.sub(r"`[^`]*`", "`", text)))
 
 
 def words_by_hand(texts):
@@ -201,7 +196,7 @@ def main():
                 look(path, names)
             except LeadsNowhere as fault:
                 faults.append(f"{page.relative_to(ROOT)}: {path}: {fault}")
-    faults += [*in_dialect(), *lacking(seen, LEAST)]
+    faults += [*in_dialect(), *words.faults(), *lacking(seen, LEAST)]
     print(f"pages: {', '.join(f'{count} {what}' for what, count in seen.items())}; {len(faults)} faults")
     print("".join(f"  {fault}\n" for fault in faults), end="")
     callings = [page for page in pages() if page.name == "CALLING.md"]

@@ -61,10 +61,12 @@ EXAMPLES = {
         "parents_need_one_elector", "votes_may_be_on_another_parent", "verdicts_on_offers_await_parents"))),
     "laws_engine": Examples(("Examples", "Votes"), (
         "laws::calls_were_received_before", "laws::nullifies_once_due", "laws::work_was_given", "laws::engines_run_on_offers")),
+    "laws_hosts": Examples((), ("agreement",)),
 }
-VOTER, RECORD, MEMBER, RESOLVER, LAWS, HISTORIES, PROGRESS, CHAINS, ENGINE = (
+VOTER, RECORD, MEMBER, RESOLVER, LAWS, HISTORIES, PROGRESS, CHAINS, ENGINE, HOSTS = (
     (name,) for name in (
-        "laws_voter", "simplex_record", "simplex_member", "simplex_resolver", "laws_safety", "laws_history", "laws_progress", "laws_chains", "laws_engine"))
+        "laws_voter", "simplex_record", "simplex_member", "simplex_resolver", "laws_safety", "laws_history", "laws_progress", "laws_chains", "laws_engine",
+        "laws_hosts"))
 
 
 class Wrong(NamedTuple):
@@ -430,7 +432,7 @@ WRONG_DEFINITIONS = (
     ),
     Wrong(
         "work may come of nothing", "simplex_engine/specs/Provenance.antt",
-        (("[] causes asked m left end = AreAmong left causes ×", "[] matters asked m left end = AreAmong left left ×"),), ENGINE,
+        (("[] causes asked m left end = AreAmong left causes ×", "[] causes asked m left end = AreAmong left left ×"),), ENGINE,
     ),
     Wrong(
         "views that are kept may be forgotten", "simplex_engine/specs/Provenance.antt",
@@ -475,6 +477,39 @@ WRONG_DEFINITIONS = (
     Wrong(
         "a certificate has a signature less", "simplex_types/specs/Quorums.antt",
         (("quorum_of members = members - (members - 1) / 3", "quorum_of members = members - members / 3"),), ENGINE,
+    ),
+    Wrong(
+        "a certificate of hosts needs a vote less", "laws_hosts/specs/HostNetworks.antt",
+        (("AtLeastFrom 0 (quorum (length hosts)) (MayHaveSent subject) hosts", "AtLeastFrom 0 (quorum (length hosts) - 1) (MayHaveSent subject) hosts"),), HOSTS,
+    ),
+    Wrong(
+        "one host more than f may be faulty", "laws_hosts/specs/HostNetworks.antt",
+        (("(count_by is_faulty_host hosts ≤ max_faults (length hosts))", "(count_by is_faulty_host hosts ≤ max_faults (length hosts) + 1)"),
+         ("◌-◌, ◌*◌", "◌+◌, ◌-◌, ◌*◌")), HOSTS,
+    ),
+    Wrong(
+        "a passed vote need not have been carried out", "laws_hosts/specs/HostNetworks.antt",
+        (("Some host → MayHaveSent vote.subject vote.signer host", "Some host → Unit {0}"),), HOSTS,
+    ),
+    Wrong(
+        "a floor need not have votes", "laws_hosts/specs/HostNetworks.antt",
+        (("(Accepts subject) → IsCertifiable hosts subject", "(Accepts subject) → Unit {0}"),), HOSTS,
+    ),
+    Wrong(
+        "a process is resumed from outputs that were not carried out", "laws_hosts/specs/Processes.antt",
+        (("(before ++ process.carried) rest", "(before ++ outputs_of process.calls) rest"),), HOSTS,
+    ),
+    Wrong(
+        "a host carries out what its engine did not return", "laws_hosts/specs/Processes.antt",
+        (("pub carries_out : MayBeCarriedOut (outputs_of process.calls) process.carried", "pub carries_out : Unit {0}"),), HOSTS,
+    ),
+    Wrong(
+        "an engine counts another number of members", "laws_hosts/specs/Processes.antt",
+        (("pub members_are : length (keys_of process.start.settings.scheme) ≡ members", "pub members_are : Unit {0}"),), HOSTS,
+    ),
+    Wrong(
+        "a chain of hosts names other parents", "laws_hosts/specs/HostAgreement.antt",
+        (("× (p.parent ≡ q.round.view) ×", "× (q.parent ≡ q.round.view) ×"),), HOSTS,
     ),
 )
 
@@ -557,15 +592,26 @@ def refused(root, crate, used, kept, built):
     return list(dict.fromkeys(examples or laws)), unread
 
 
+class Stale(Exception):
+    """A wrong definition whose text is not in its file exactly once."""
+
+
+def turned(wrong, text):
+    """The text of its file with the wrong definition in it."""
+    for old, new in wrong.turns:
+        # (a line may have been broken since, at any space)
+        place = r"\s+".join(map(re.escape, old.split(" "))) if old.strip() == old else re.escape(old)
+        text, count = re.subn(place, lambda _, new=new: new, text)
+        if count != 1:
+            raise Stale(f"{wrong.name}: {wrong.file} has {old!r} {count} times")
+    return text
+
+
 def put(root, wrong):
     """Puts a wrong definition in place; returns the text that stood there."""
     path = root / wrong.file
-    before = text = path.read_text()
-    for old, new in wrong.turns:
-        if text.count(old) != 1:
-            raise SystemExit(f"{wrong.name}: {wrong.file} has {old!r} {text.count(old)} times")
-        text = text.replace(old, new)
-    path.write_text(text)
+    before = path.read_text()
+    path.write_text(turned(wrong, before))
     return before
 
 

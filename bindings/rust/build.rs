@@ -23,9 +23,13 @@ fn main() {
         .file_name()
         .and_then(|name| name.to_str())
         .and_then(|name| name.strip_prefix("lib"))
-        .and_then(|name| name.strip_suffix(".a"));
+        .and_then(|name| name.strip_suffix(".a"))
+        .filter(|name| !name.is_empty());
     let Some(name) = name else {
-        eprintln!("{} is not named libNAME.a", archive.display());
+        eprintln!(
+            "{} is not named libNAME.a, as the linker takes it: rename or link it",
+            archive.display()
+        );
         exit(1);
     };
     println!("cargo:rustc-link-search=native={}", folder.display());

@@ -15,6 +15,7 @@ from lib.program import ROOT  # noqa: E402
 FOLDER = ROOT / "crates/tests_program/src/program"
 ESCAPES = {"\r": r"\r", "\t": r"\t", "\0": r"\0", '"': r"\"", "\\": r"\\"}
 WIDEST_PAIR = 60
+WRITTEN = "//!\n//! Written by `tests/lib/tables.py` from `tests/scripts/{}.md`.\n"
 
 
 def literal(text):
@@ -54,9 +55,9 @@ def table(page):
     name, count = page.name.upper(), len(page.scripts)
     if page.name == scripts.MISUSES:
         head = f"/// What each shows, and the command line.\npub static {name}: [(&str, &str); {count}] = [\n"
-        return f"//! {page.title}\n\n{head}{''.join(pair(it) for it in page.scripts)}];\n"
+        return f"//! {page.title}\n{WRITTEN.format(page.name)}\n{head}{''.join(pair(it) for it in page.scripts)}];\n"
     head = f"use super::script::Script;\n\npub static {name}: [Script; {count}] = [\n"
-    return f"//! {page.title}\n\n{head}{''.join(entry(it) for it in page.scripts)}];\n"
+    return f"//! {page.title}\n{WRITTEN.format(page.name)}\n{head}{''.join(entry(it) for it in page.scripts)}];\n"
 
 
 def differing():

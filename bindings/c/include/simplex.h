@@ -62,8 +62,8 @@ typedef struct simplex_engine simplex_engine;
 /** The handle of a member. simplex_member_start and simplex_member_resume make one, simplex_member_free frees it. */
 typedef struct simplex_member simplex_member;
 
-/** A peer resolver behind its handle: which certificates are kept, served and fetched. Made by simplex_resolver_start, let go by
- * simplex_resolver_free. */
+/** The handle of a peer resolver, which decides which certificates are retained, served and fetched. simplex_resolver_start makes one,
+ * simplex_resolver_free frees it. */
 typedef struct simplex_resolver simplex_resolver;
 
 /** What a call, a start, a resume or a restart ends in. Numbers are only ever added. */
@@ -76,7 +76,7 @@ enum simplex_status {
     /** A view is above 2^63 - 1, or a deadline above 2^64 - 1 milliseconds: nothing has changed. */
     SIMPLEX_VIEW_TOO_LARGE = 3,
     SIMPLEX_TIME_OVERFLOW = 4,
-    /** The call asks something of its caller that is not so: nothing has changed. */
+    /** The host broke a condition of the call: nothing has changed. */
     SIMPLEX_NOT_ALLOWED = 5,
     /** A number of the call is none of a kind, a reason or a flag: no call was made. */
     SIMPLEX_NO_CALL = 6,
@@ -127,21 +127,21 @@ enum simplex_status {
     SIMPLEX_RETENTION_GROWN = 52
 };
 
-/** Which call is made. Behind each, the fields of simplex_call that it reads; C is the certificate's bytes. */
+/** Which call is made. After each, the fields of simplex_call that it reads; C is the certificate's bytes. */
 enum simplex_call_kind {
     SIMPLEX_ADD_NOTARIZATION = 0,             /**< proposal, C */
     SIMPLEX_ADD_NULLIFICATION = 1,            /**< round, moment, C */
     SIMPLEX_ADD_FINALIZATION = 2,             /**< proposal, moment, C */
     SIMPLEX_SET_PROPOSAL = 3,                 /**< view, proposal: that of the view's leader */
-    SIMPLEX_TRY_PROPOSE = 4,                  /**< what this member is to build next */
+    SIMPLEX_TRY_PROPOSE = 4,                  /**< returns the next block to build */
     SIMPLEX_PROPOSED = 5,                     /**< view, proposal.payload, moment: what was built on request */
     SIMPLEX_SUPERSEDE_PROPOSAL_REQUEST = 6,   /**< view */
     SIMPLEX_PENDING_HANDOFF_ABANDONMENT = 7,  /**< view */
     SIMPLEX_RELEASE_PROPOSAL_REQUEST = 8,     /**< view */
-    SIMPLEX_TRY_VERIFY = 9,                   /**< what is to be verified next */
+    SIMPLEX_TRY_VERIFY = 9,                   /**< returns the next proposal to verify */
     SIMPLEX_VERIFIED = 10,                    /**< view: its proposal was found valid */
     SIMPLEX_VERIFICATION_FAILED = 11,         /**< view, reason, moment */
-    SIMPLEX_CERTIFY_CANDIDATES = 12,          /**< what is to be certified next */
+    SIMPLEX_CERTIFY_CANDIDATES = 12,          /**< returns the proposals to certify */
     SIMPLEX_SET_CERTIFY_HANDLE = 13,          /**< view, token: its certification is under way, under the token */
     SIMPLEX_CERTIFIED = 14,                   /**< view, success, moment: the verdict */
     SIMPLEX_CONSTRUCT_NOTARIZE = 15,          /**< view */
@@ -272,7 +272,7 @@ struct simplex_call {
 };
 SIMPLEX_SIZE(struct simplex_call, 112);
 
-/** In what a proposal is built or verified: its round, the parent's view and the parent's payload. */
+/** What a proposal is built on or verified against: its round, the parent's view and the parent's payload. */
 struct simplex_context {
     struct simplex_round round;
     uint64_t parent;
@@ -301,7 +301,7 @@ struct simplex_fetch {
 };
 SIMPLEX_SIZE(struct simplex_fetch, 16);
 
-/** How a member is set up. Times are milliseconds. */
+/** The settings of a member. Times are milliseconds. */
 struct simplex_settings {
     uint32_t members;           /**< how many there are */
     uint32_t signer;            /**< the member that signs here, or SIMPLEX_NOBODY */
@@ -313,7 +313,7 @@ struct simplex_settings {
     uint64_t stall_timeout;
     uint64_t optimistic_views;
     uint64_t epoch;
-    uint64_t view_retention;    /**< how many views below the last finalized one are kept */
+    uint64_t view_retention;    /**< how many views below the last finalized one are retained */
     uint64_t leader_timeout;
     uint64_t certification_timeout;
     uint64_t timeout_retry;
@@ -326,8 +326,8 @@ SIMPLEX_SIZE(struct simplex_settings, 152);
 /** What is stored beside a journal. */
 struct simplex_stored {
     uint64_t entries;         /**< how many the record had: a journal of fewer is refused */
-    uint64_t closed;          /**< no drop takes one of the first so many */
-    uint64_t retention;       /**< the view_retention of the last life */
+    uint64_t closed;          /**< no drop takes one of this number of first entries */
+    uint64_t retention;       /**< the view_retention of the last lifetime */
     uint64_t least_retention; /**< the least of all lifetimes */
     uint32_t is_pruned;       /**< 1: the record was ever pruned */
     uint32_t reserved;
@@ -335,7 +335,7 @@ struct simplex_stored {
 SIMPLEX_SIZE(struct simplex_stored, 40);
 
 struct simplex_restart {
-    uint64_t drop;   /**< at most so many of the last entries are dropped, but never a vote nor anything before one */
+    uint64_t drop;   /**< at most this number of the last entries is dropped, but never a vote or an entry before one */
     uint64_t moment; /**< milliseconds */
     uint32_t prune;  /**< 1: the record is pruned then: entries far below the last finalized view are taken away */
     uint32_t reserved;
@@ -365,7 +365,7 @@ struct simplex_view {
     uint64_t epoch;
     uint64_t current;            /**< the current view */
     uint64_t last_finalized;
-    uint64_t min_active;         /**< the lowest view that is kept */
+    uint64_t min_active;         /**< the lowest view that is retained */
     struct simplex_proposal forwardable;
 };
 SIMPLEX_SIZE(struct simplex_view, 128);
@@ -442,7 +442,7 @@ struct simplex_effects {
 };
 SIMPLEX_SIZE(struct simplex_effects, 24);
 
-/** What is to be done with fetches. */
+/** The changes to the outstanding fetches. */
 enum simplex_effect_kind {
     SIMPLEX_FETCH = 1,     /**< fetch a nullification that covers view; cause: the view that called for it; reason: a simplex_fetch_reason */
     SIMPLEX_SETTLED = 2,   /**< nothing is left to ask for at the views view to end; reason: a simplex_certificate_kind,
@@ -542,7 +542,7 @@ struct simplex_subject {
 };
 SIMPLEX_SIZE(struct simplex_subject, 64);
 
-/** How an engine is set up beside its member. Times are milliseconds. Usual ones are 250, 25 and 2048. */
+/** An engine's options beside its member's settings. Times are milliseconds. Usual ones are 250, 25 and 2048. */
 struct simplex_options {
     uint64_t retry;       /**< after how long a fetch asks again, the next member: 1 at least */
     uint64_t on_its_way;  /**< how long a missing certificate may be on its way before the engine asks for it */
@@ -566,7 +566,7 @@ struct simplex_taken {
     uint32_t status; /**< SIMPLEX_OK; SIMPLEX_NO_CALL where a number is none of an input, or a vote is passed where certificates name leaders,
                         and SIMPLEX_NOT_MADE where there is no memory for the bytes: the engine received nothing. SIMPLEX_OUT_OF_MEMORY to
                         SIMPLEX_TIME_OVERFLOW: the engine has failed */
-    uint32_t is_of_use; /**< 0: it was dropped, and changed nothing */
+    uint32_t is_of_use; /**< 0: it was ignored, and changed nothing */
 };
 SIMPLEX_SIZE(struct simplex_taken, 8);
 
@@ -594,7 +594,7 @@ struct simplex_engine_status {
 };
 SIMPLEX_SIZE(struct simplex_engine_status, 32);
 
-/** A fetch that is open: it is asked again, of the next member in turn, until it is closed. */
+/** An outstanding fetch: the engine asks again, the next member round-robin, until it ends. */
 struct simplex_open {
     uint32_t status;  /**< SIMPLEX_OK */
     uint32_t fetch;   /**< a simplex_fetch_kind; 0: there is no such fetch */
@@ -674,8 +674,7 @@ void simplex_engine_free(simplex_engine *at);
  * (none for genesis), at a moment. A member that voted must resume by simplex_member_resume, or it could vote twice in a view.
  *
  * Returns SIMPLEX_OK and writes the handle to *out; else the status says why there is none, and *out is as it was. Store
- * simplex_member_entries(.., 0) and its
- * stored at once: with a finalized floor the record is not empty.
+ * simplex_member_entries(.., 0) and its stored at once: with a finalized floor the record is not empty.
  */
 uint32_t simplex_member_start(const struct simplex_settings *settings, const uint32_t *leaders, size_t leaders_len,
                               const uint8_t *certificate, size_t certificate_len, uint64_t now, simplex_member **out);
@@ -684,8 +683,7 @@ uint32_t simplex_member_start(const struct simplex_settings *settings, const uin
  * Resumes a member from its journal: the bytes that simplex_member_entries showed, one after another, with what was stored beside them
  * last. The settings are those of the lifetime that begins, with the floor that was passed last.
  *
- * Returns SIMPLEX_OK and writes the handle to *out; else the status says why there is none, and *out is as it was: SIMPLEX_DAMAGED or
- * SIMPLEX_NO_ENTRY where the
+ * Returns SIMPLEX_OK and writes the handle to *out; else the status says why there is none, and *out is as it was: SIMPLEX_DAMAGED or SIMPLEX_NO_ENTRY if the
  * bytes are no journal (simplex_scan tells where), SIMPLEX_ENTRIES_LOST where there are fewer entries than stored.entries or
  * stored.closed, and the errors of settings and records.
  */
@@ -792,7 +790,7 @@ static inline struct simplex_outstanding simplex_outstanding_views(simplex_resol
     return shown;
 }
 
-/** Lets a resolver go; nothing where the handle is null. It must not be used again. */
+/** Frees a resolver; does nothing where the handle is null. The handle must not be used again. */
 void simplex_resolver_free(simplex_resolver *at);
 
 #ifdef __cplusplus

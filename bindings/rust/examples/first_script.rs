@@ -4,7 +4,7 @@
 //!     cargo run --example first_script -- voter N ME T OPTIMISTIC          the lines of standard input
 //!     cargo run --example first_script -- voter N ME T OPTIMISTIC resume   each `restart 0 NOW` by a resume from the journal's bytes
 //!     cargo run --example first_script -- voter N ME T OPTIMISTIC compact  with a journal, in whose place each `prune` puts what is left of the
-//!                                                                          record, and from which the member goes on before a `restart-pruned`
+//!                                                                          record, and from which the member resumes before a `restart-pruned`
 
 use simplex_view_state::{
     Added, Candidates, Certificate, Config, Context, Cut, Digest, Entries, EntriesError, EntryCount, Epoch, Finalization, Lacking, Member,
@@ -259,7 +259,7 @@ impl Voter {
     }
 }
 
-/// The place of an error in the program's table, in which want of memory is the 13th.
+/// The place of an error in the program's table, in which out of memory is the 13th.
 fn place_of(error: RecoverError) -> u32 {
     match error as u32 {
         place @ 0..=11 => place + 1,

@@ -2,11 +2,13 @@
 
 mod input;
 mod output;
+mod snapshot;
 #[cfg(test)]
 mod tests;
 
 pub use input::Input;
 pub use output::{Fetch, FetchKind, OpenFetch, Order, Output};
+pub use snapshot::Snapshot;
 
 use crate::errors::{EngineError, OpenError};
 use crate::ffi;
@@ -142,7 +144,7 @@ impl Engine {
         }
     }
 
-    /// Passes an input, and returns whether it was of use. An input that was not is counted by [`Engine::ignored`].
+    /// Passes an input. Returns whether it changed anything; [`Engine::ignored`] counts the inputs that did not.
     ///
     /// # Errors
     ///
@@ -154,12 +156,12 @@ impl Engine {
         answered(taken.status, taken.is_of_use != 0)
     }
 
-    /// Returns the next output to carry out; `None` where there is none before another input, or before [`Engine::wake`].
+    /// Returns the next output to carry out; `None` if there is none before another input, or before [`Engine::wake`].
     ///
     /// # Errors
     ///
     /// As of [`handle`](Engine::handle).
-    #[must_use = "what is handed out is to be carried out, in order"]
+    #[must_use = "carry out each output, in order"]
     pub fn poll(&mut self, now: Moment) -> Result<Option<Output>, EngineError> {
         // SAFETY: the handle is this engine's.
         let output = unsafe { ffi::simplex_engine_poll(self.at.as_ptr(), now.as_millis()) };
@@ -167,7 +169,7 @@ impl Engine {
         Ok(Output::of(&output, |which| self.bytes(which)))
     }
 
-    /// All of the bytes that wait.
+    /// Returns all bytes that wait to be read.
     fn bytes(&self, which: u32) -> Vec<u8> {
         // SAFETY: the handle is this engine's.
         ffi::all_bytes(|from| unsafe { ffi::simplex_engine_bytes(self.at.as_ptr(), which, from) })
@@ -268,7 +270,7 @@ impl Engine {
         (shown.has_forwardable != 0).then(|| Proposal::of(&shown.forwardable))
     }
 
-    /// Returns a view's certificate of a kind, where the view is tracked and has it. An error changes nothing.
+    /// Returns a view's certificate of a kind, if the view is tracked and has it. An error changes nothing.
     pub fn certificate(&self, kind: CertificateKind, view: View) -> Result<Option<Certificate>, EngineError> {
         // SAFETY: the handle is this engine's.
         let found = unsafe { ffi::simplex_engine_certificate(self.at.as_ptr(), kind.number(), view.get()) };
@@ -290,7 +292,7 @@ impl Engine {
     }
 }
 
-/// An answer, or the error of its status.
+/// Returns a reply, or the error of its status.
 fn answered<T>(status: u32, answer: T) -> Result<T, EngineError> {
     EngineError::of(status).map_or(Ok(answer), Err)
 }

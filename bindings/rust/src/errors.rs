@@ -1,4 +1,4 @@
-//! Why a call has no answer, and why there is no member.
+//! Why a call returns no reply, and why there is no member.
 
 use std::error::Error;
 use std::fmt;
@@ -7,23 +7,23 @@ use std::fmt;
 #[derive(Clone, Copy, PartialEq, Eq, Hash, Debug)]
 #[non_exhaustive]
 pub enum Refusal {
-    /// Out of memory: nothing has changed, or the member has failed and answers [`Refusal::Failed`] from now on.
+    /// Out of memory: nothing has changed, or the member has failed and returns [`Refusal::Failed`] from now on.
     OutOfMemory,
-    /// The member has failed. Its record is left: [`Member::restart`](crate::Member::restart), or store it and resume.
+    /// The member has failed. Its record is still there: call [`Member::restart`](crate::Member::restart), or store it and resume.
     Failed,
     /// A view is above 2^63 - 1.
     ViewTooLarge,
     /// A deadline is above 2^64 - 1 milliseconds.
     TimeOverflow,
-    /// The call asks something of its caller that is not so: a certificate or a proposal is of another epoch or of a view that is not kept,
+    /// The host broke a condition of the call: a certificate or a proposal is of another epoch or of a view that is not retained,
     /// or no request, verification or offer is open in the view.
     NotAllowed,
-    /// There was no memory for the certificate that was handed in, and no call was made.
+    /// There was no memory for the certificate that was passed, and no call was made.
     NotMade,
 }
 
 impl Refusal {
-    /// The refusal of a status; none where the call was answered.
+    /// Returns the refusal of a status; `None` if the call returned a reply.
     pub(crate) fn of(status: u32) -> Option<Refusal> {
         Some(match status {
             0 => return None,
@@ -53,14 +53,14 @@ impl fmt::Display for Refusal {
 
 impl Error for Refusal {}
 
-/// Why an engine has no answer. After an error of [`Engine::handle`](crate::Engine::handle) or [`Engine::poll`](crate::Engine::poll) it has
-/// failed, but for `NotAllowed` and `NotMade`: resume another from what was stored.
+/// Why an engine returns no reply. After an error of [`Engine::handle`](crate::Engine::handle) or [`Engine::poll`](crate::Engine::poll) the engine
+/// has failed, except after `NotAllowed` and `NotMade`: resume another from what was stored.
 #[derive(Clone, Copy, PartialEq, Eq, Hash, Debug)]
 #[non_exhaustive]
 pub enum EngineError {
     /// Out of memory.
     OutOfMemory,
-    /// It failed before, or its member has.
+    /// The engine or its member failed before.
     Failed,
     /// A view is above 2^63 - 1.
     ViewTooLarge,
@@ -68,15 +68,15 @@ pub enum EngineError {
     TimeOverflow,
     /// An entry of the record has 2^32 bytes or more: a certificate is too long.
     EntryTooLong,
-    /// What is told is nothing that this engine can be told: a vote, where leaders are drawn from certificates
-    /// ([`Leaders::Drawn`](crate::Leaders::Drawn)), which no votes make. Nothing was told.
+    /// This engine can't take the input: a vote, where leaders are drawn from certificates
+    /// ([`Leaders::Drawn`](crate::Leaders::Drawn)), which no votes make. Nothing was passed.
     NotAllowed,
-    /// There was no memory for the signature or the certificate. Nothing was told.
+    /// There was no memory for the signature or the certificate. Nothing was passed.
     NotMade,
 }
 
 impl EngineError {
-    /// The error of a status; none where the call was answered.
+    /// Returns the error of a status; `None` if the call returned a reply.
     pub(crate) fn of(status: u32) -> Option<EngineError> {
         Some(match status {
             0 => return None,
@@ -108,13 +108,13 @@ impl fmt::Display for EngineError {
 
 impl Error for EngineError {}
 
-/// Why settings are none of a member.
+/// Why settings don't make a member.
 #[derive(Clone, Copy, PartialEq, Eq, Hash, Debug)]
 #[non_exhaustive]
 pub enum SettingsError {
-    /// There is no member, or the signer is none of them.
+    /// There is no member, or the signer is not one of them.
     NoSuchMember,
-    /// A term has no view, or the table of leaders no entry.
+    /// A term has no view, or the table of leaders has no entry.
     NothingLeads,
     /// There are no participants.
     NoParticipants,
@@ -197,13 +197,13 @@ pub enum RecoverError {
     ContradictingVerdicts,
     /// A view was voted both to nullify and to finalize.
     NullifyBesideFinalize,
-    /// Two votes of one kind in a view are for two proposals.
+    /// The record has two votes of one kind in a view, for two proposals.
     ContradictingVotes,
     /// A vote to finalize has no true verdict of its view before it.
     FinalizeWithoutVerdict,
     /// A deadline is above 2^64 - 1 milliseconds.
     TimeOverflow,
-    /// The record was pruned, and more views are to be kept than in an earlier life.
+    /// The record was pruned, and the new retention is larger than an earlier lifetime's.
     RetentionGrown,
 }
 
@@ -237,11 +237,11 @@ pub enum OpenError {
     OtherVersion,
     /// Out of memory.
     OutOfMemory,
-    /// The settings are none of a member.
+    /// The settings don't make a member.
     Settings(SettingsError),
-    /// The journal has fewer entries than were stored: votes may be among those that are lost. Such a member must not go on.
+    /// The journal has fewer entries than were stored, so votes may be lost. Such a member must not continue.
     EntriesLost,
-    /// Bytes of the journal are damaged, or its end is cut: [`scan`](crate::scan) tells where.
+    /// Bytes of the journal are damaged, or its end is cut: [`scan`](crate::scan) returns where.
     Damaged,
     /// A frame of the journal holds no entry of a record.
     NoEntry,
@@ -250,7 +250,7 @@ pub enum OpenError {
 }
 
 impl OpenError {
-    /// The error of a status; none where there is a member.
+    /// Returns the error of a status; `None` if there is a member.
     pub(crate) fn of(status: u32) -> Option<OpenError> {
         Some(match status {
             0 => return None,
@@ -329,7 +329,7 @@ impl Error for OpenError {
     }
 }
 
-/// Why what a member recorded is not shown as bytes. The record stays, and can be asked for again.
+/// Why recorded entries are not returned as bytes. The record stays, and can be asked for again.
 #[derive(Clone, Copy, PartialEq, Eq, Hash, Debug)]
 #[non_exhaustive]
 pub enum EntriesError {

@@ -78,7 +78,7 @@ mod settings;
 mod withheld;
 
 pub use build_info::build_info;
-pub use engine::{Engine, Fetch, FetchKind, Input, OpenFetch, Options, Order, Output};
+pub use engine::{Engine, Fetch, FetchKind, Input, OpenFetch, Options, Order, Output, Snapshot};
 pub use errors::{EngineError, EntriesError, OpenError, RecoverError, Refusal, SettingsError};
 pub use journal::{Ending, Entries, EntryCount, Scan, Stored, scan};
 pub use member::{Answer, Cut, Member, Timeout, Views};

@@ -14,7 +14,7 @@ use crate::withheld::{VoteKind, Withheld};
 use std::fmt;
 use std::ptr::{NonNull, null_mut};
 
-/// A call's answer, or why there is none.
+/// A call's reply, or why there is none.
 pub type Answer<T> = Result<T, Refusal>;
 
 /// The kinds of calls.
@@ -46,16 +46,16 @@ mod kind {
     pub(super) const PRUNE: u32 = 24;
 }
 
-/// What a restart takes away of the record before the new life begins.
+/// What a restart removes from the record before the new lifetime begins.
 #[derive(Clone, Copy, PartialEq, Eq, Hash, Debug, Default)]
 pub struct Cut {
-    /// At most so many of the last entries, but never a vote nor anything before one.
+    /// At most this number of the last entries, but never a vote or an entry before one.
     pub last: EntryCount,
-    /// Each entry more than the last life's retention below the highest finalized view.
+    /// All entries further below the highest finalized view than the last lifetime's retention.
     pub prune: bool,
 }
 
-/// What a member knows of itself.
+/// A member's views.
 #[derive(Clone, Copy, PartialEq, Eq, Hash, Debug)]
 pub struct Views {
     /// The epoch.
@@ -64,7 +64,7 @@ pub struct Views {
     pub current: View,
     /// The last finalized view; genesis until one is finalized.
     pub last_finalized: View,
-    /// The lowest view that is kept.
+    /// The lowest view that is retained.
     pub min_active: View,
 }
 
@@ -82,16 +82,16 @@ impl Views {
 /// The next timeout of the current view.
 #[derive(Clone, Copy, PartialEq, Eq, Hash, Debug)]
 pub struct Timeout {
-    /// When it is.
+    /// When it comes.
     pub moment: Moment,
-    /// Why.
+    /// Its reason.
     pub reason: TimeoutReason,
 }
 
-/// A member of the protocol: the state of its voter, with the record from which it can be made again.
+/// A member of the protocol: the state of its voter, with the record from which the member can be made again.
 ///
-/// A call that answers a vote has recorded it. The engine stores what the record has grown by ([`Member::entries_since`]) before it sends
-/// the vote. A member may go from thread to thread, but is called by one at a time.
+/// A call that returns a vote has recorded it. The host stores the new entries of the record ([`Member::entries_since`]) before it sends
+/// the vote. A member may be passed from thread to thread; one thread at a time calls it.
 ///
 /// ```
 /// use simplex_view_state::{Config, Digest, Epoch, Member, Moment, Participant, ProposalRequest, View};
@@ -119,7 +119,7 @@ pub struct Member {
 unsafe impl Send for Member {}
 
 impl Member {
-    /// A member that never voted. One that did goes on by [`Member::resume`], or could vote twice in a view.
+    /// Starts a member that never voted. One that voted must [`Member::resume`], or it could vote twice in a view.
     pub fn start(config: &Config, now: Moment) -> Result<Member, OpenError> {
         let Flat {
             settings,
@@ -142,8 +142,8 @@ impl Member {
         Member::begun(status, at)
     }
 
-    /// A member that goes on from its journal: the bytes that [`Member::entries_since`] answered, one behind the other, and what was
-    /// stored beside them last.
+    /// Resumes a member from its journal: the bytes that [`Member::entries_since`] returned, in that order, and what was last stored
+    /// beside them.
     pub fn resume(config: &Config, now: Moment, stored: &Stored, journal: &[u8]) -> Result<Member, OpenError> {
         let Flat {
             settings,
@@ -178,10 +178,10 @@ impl Member {
         }
     }
 
-    /// Ends the member's life, also one that has failed, and begins another from its record, cut as asked.
+    /// Ends the member's lifetime, also one that has failed, and begins another from its record, cut as asked.
     ///
-    /// Where settings are refused, or `RetentionGrown`, nothing has changed. After another error the record is cut and the member has
-    /// failed. Store [`Member::entries_since`] of no entries in place of the journal then.
+    /// If settings are refused, or with `RetentionGrown`, nothing has changed. After another error the record is cut and the member has
+    /// failed: store [`Member::entries_since`] of no entries in place of the journal.
     pub fn restart(&mut self, config: &Config, now: Moment, cut: Cut) -> Result<(), OpenError> {
         let Flat {
             settings,
@@ -231,13 +231,13 @@ impl Member {
         self.of_view(kind, View::GENESIS)
     }
 
-    /// All of the bytes that wait.
+    /// Returns all bytes that wait to be read.
     fn bytes(&self, which: u32) -> Vec<u8> {
         // SAFETY: the handle is this member's.
         ffi::all_bytes(|from| unsafe { ffi::simplex_member_bytes(self.at.as_ptr(), which, from) })
     }
 
-    /// All items of a list of the last reply.
+    /// Returns all items of a list of the last reply.
     fn items<T>(&self, which: u32, read: impl Fn(&ffi::Item) -> T) -> Vec<T> {
         let item_at = |index| {
             // SAFETY: the handle is this member's.
@@ -247,13 +247,13 @@ impl Member {
         (0..).map_while(item_at).collect()
     }
 
-    /// Hands in a notarization that the engine made or was sent, and verified.
+    /// Passes a notarization that the host made or received, and verified.
     pub fn add_notarization(&mut self, it: &Notarization) -> Answer<Added> {
         let call = of_proposal(kind::ADD_NOTARIZATION, &it.proposal);
         Ok(added(&self.make(&call, &it.certificate)?))
     }
 
-    /// Hands in a nullification that the engine made or was sent, and verified. Whether it is new.
+    /// Passes a nullification that the host made or received, and verified. Returns whether it is new.
     pub fn add_nullification(&mut self, it: &Nullification, now: Moment) -> Answer<bool> {
         let call = ffi::Call {
             kind: kind::ADD_NULLIFICATION,
@@ -264,7 +264,7 @@ impl Member {
         Ok(self.make(&call, &it.certificate)?.flag != 0)
     }
 
-    /// Hands in a finalization that the engine made or was sent, and verified.
+    /// Passes a finalization that the host made or received, and verified.
     pub fn add_finalization(&mut self, it: &Finalization, now: Moment) -> Answer<Added> {
         let call = ffi::Call {
             moment: now.as_millis(),
@@ -273,7 +273,7 @@ impl Member {
         Ok(added(&self.make(&call, &it.certificate)?))
     }
 
-    /// Hands in a proposal of its view's leader. Whether it is to be verified.
+    /// Passes a proposal of its view's leader. Returns whether it must be verified.
     pub fn set_proposal(&mut self, proposal: &Proposal) -> Answer<bool> {
         let call = ffi::Call {
             view: proposal.view().get(),
@@ -282,7 +282,7 @@ impl Member {
         Ok(self.make(&call, &[])?.flag != 0)
     }
 
-    /// What this member is to build next.
+    /// Returns the next block to build, if there is one.
     pub fn try_propose(&mut self) -> Answer<Option<ProposalRequest>> {
         let reply = self.plain(kind::TRY_PROPOSE)?;
         let context = Context::of(&reply.context, reply.member);
@@ -293,7 +293,7 @@ impl Member {
         })
     }
 
-    /// Hands in the payload that was built on request in the view. Whether it is taken.
+    /// Passes the payload that was built on request in the view. Returns whether it is accepted.
     pub fn proposed(&mut self, view: View, payload: Digest, now: Moment) -> Answer<bool> {
         let call = ffi::Call {
             kind: kind::PROPOSED,
@@ -308,23 +308,23 @@ impl Member {
         Ok(self.make(&call, &[])?.flag != 0)
     }
 
-    /// Whether the request to build in the view is given up, to be asked for anew on another parent.
+    /// Returns whether the request to build in the view is superseded; then ask again, for another parent.
     pub fn supersede_proposal_request(&mut self, view: View) -> Answer<bool> {
         Ok(self.of_view(kind::SUPERSEDE_PROPOSAL_REQUEST, view)?.flag != 0)
     }
 
-    /// Why the handoff that is built in the view has to be given up, if it has.
+    /// Returns why the handoff that is built in the view must be abandoned, if it must.
     pub fn pending_handoff_abandonment(&mut self, view: View) -> Answer<Option<HandoffAbandonedReason>> {
         let reply = self.of_view(kind::PENDING_HANDOFF_ABANDONMENT, view)?;
         Ok((reply.has != 0).then(|| HandoffAbandonedReason::of(reply.reason)))
     }
 
-    /// Gives up the request to build in the view. Whether one was open.
+    /// Abandons the request to build in the view. Returns whether one was open.
     pub fn release_proposal_request(&mut self, view: View) -> Answer<bool> {
         Ok(self.of_view(kind::RELEASE_PROPOSAL_REQUEST, view)?.flag != 0)
     }
 
-    /// What is to be verified next.
+    /// Returns the next proposal to verify, or the certificate that is missing before one can be verified.
     pub fn try_verify(&mut self) -> Answer<Verify> {
         let reply = self.plain(kind::TRY_VERIFY)?;
         Ok(match reply.has {
@@ -339,18 +339,18 @@ impl Member {
         })
     }
 
-    /// The view's proposal was found valid. Whether it is marked so: not where it or its parent changed since it was given.
+    /// Reports the view's proposal as valid. Returns whether it is marked so: not if it or its parent changed since it was returned.
     pub fn verified(&mut self, view: View) -> Answer<bool> {
         Ok(self.of_view(kind::VERIFIED, view)?.flag != 0)
     }
 
-    /// The view's proposal was found invalid, or could not be verified.
+    /// Reports the view's proposal as invalid, or as one that could not be verified.
     pub fn verification_failed(&mut self, view: View, reason: TimeoutReason, now: Moment) -> Answer<()> {
         self.make(&timed(kind::VERIFICATION_FAILED, view, reason, now), &[])?;
         Ok(())
     }
 
-    /// What is to be certified next.
+    /// Returns the proposals to certify, and the notarizations to fetch for other members.
     pub fn certify_candidates(&mut self) -> Answer<Candidates> {
         self.plain(kind::CERTIFY_CANDIDATES)?;
         Ok(Candidates {
@@ -362,7 +362,7 @@ impl Member {
         })
     }
 
-    /// The certification of the view's proposal goes on under a token.
+    /// Notes the host's token for the certification of the view's proposal.
     pub fn set_certify_handle(&mut self, view: View, token: Token) -> Answer<()> {
         let call = ffi::Call {
             kind: kind::SET_CERTIFY_HANDLE,
@@ -374,7 +374,7 @@ impl Member {
         Ok(())
     }
 
-    /// The verdict of the certification of the view's proposal. The notarization that was judged, where the view is tracked.
+    /// Passes the application's verdict on the view's proposal. Returns the notarization that was judged, if the view is tracked.
     pub fn certified(&mut self, view: View, is_success: bool, now: Moment) -> Answer<Option<Notarization>> {
         let call = ffi::Call {
             kind: kind::CERTIFIED,
@@ -390,7 +390,7 @@ impl Member {
         }))
     }
 
-    /// This member's vote to notarize the view's proposal, where it may be cast.
+    /// Returns this member's vote to notarize the view's proposal, if its rule allows the vote.
     pub fn construct_notarize(&mut self, view: View) -> Answer<Option<Notarize>> {
         let reply = self.of_view(kind::CONSTRUCT_NOTARIZE, view)?;
         Ok((reply.has != 0).then(|| Notarize {
@@ -400,7 +400,7 @@ impl Member {
         }))
     }
 
-    /// This member's vote to nullify the view, where it may be cast, for a reason that has no effect.
+    /// Returns this member's vote to nullify the view, if its rule allows the vote. The reason has no effect.
     pub fn construct_nullify(&mut self, view: View, reason: TimeoutReason) -> Answer<Option<Nullify>> {
         let reply = self.make(&timed(kind::CONSTRUCT_NULLIFY, view, reason, Moment::default()), &[])?;
         Ok((reply.has != 0).then(|| Nullify {
@@ -411,7 +411,7 @@ impl Member {
         }))
     }
 
-    /// This member's vote to finalize the view's proposal, where it may be cast.
+    /// Returns this member's vote to finalize the view's proposal, if its rule allows the vote.
     pub fn construct_finalize(&mut self, view: View) -> Answer<Option<Finalize>> {
         let reply = self.of_view(kind::CONSTRUCT_FINALIZE, view)?;
         Ok((reply.has != 0).then(|| Finalize {
@@ -421,36 +421,36 @@ impl Member {
         }))
     }
 
-    /// The view's notarization, to be sent to all, once.
+    /// Returns the view's notarization for broadcast, once.
     pub fn broadcast_notarization(&mut self, view: View) -> Answer<Option<Certificate>> {
         let reply = self.of_view(kind::BROADCAST_NOTARIZATION, view)?;
         Ok(self.certificate_in(reply.has, &reply.proposal, ffi::OF_REPLY))
     }
 
-    /// The view's nullification, to be sent to all, once.
+    /// Returns the view's nullification for broadcast, once.
     pub fn broadcast_nullification(&mut self, view: View) -> Answer<Option<Certificate>> {
         let reply = self.of_view(kind::BROADCAST_NULLIFICATION, view)?;
         Ok(self.certificate_in(reply.has, &reply.proposal, ffi::OF_REPLY))
     }
 
-    /// The view's finalization, to be sent to all, once.
+    /// Returns the view's finalization for broadcast, once.
     pub fn broadcast_finalization(&mut self, view: View) -> Answer<Option<Certificate>> {
         let reply = self.of_view(kind::BROADCAST_FINALIZATION, view)?;
         Ok(self.certificate_in(reply.has, &reply.proposal, ffi::OF_REPLY))
     }
 
-    /// The certificate that lets others enter the current view.
+    /// Returns the certificate that lets other members enter the current view.
     pub fn get_best_certificate(&mut self) -> Answer<Option<Certificate>> {
         let reply = self.plain(kind::GET_BEST_CERTIFICATE)?;
         Ok(self.certificate_in(reply.has, &reply.proposal, ffi::OF_REPLY))
     }
 
-    /// The view times out for a reason that the member does not see by itself. Whether that timeout counts from now on.
+    /// Times the view out for a reason that the member does not see by itself. Returns whether that timeout counts from now on.
     pub fn trigger_timeout(&mut self, view: View, reason: TimeoutReason, now: Moment) -> Answer<bool> {
         Ok(self.make(&timed(kind::TRIGGER_TIMEOUT, view, reason, now), &[])?.flag != 0)
     }
 
-    /// The next timeout of the current view: when it has come, this member votes to nullify the view.
+    /// Returns the next timeout of the current view. Once it has come, the member votes to nullify the view.
     pub fn next_timeout(&mut self, now: Moment) -> Answer<Timeout> {
         let call = ffi::Call {
             kind: kind::NEXT_TIMEOUT,
@@ -464,25 +464,25 @@ impl Member {
         })
     }
 
-    /// Forgets the views that are kept no longer, and answers them, rising. The record stays: [`Member::prune_record`].
+    /// Drops the views that are no longer retained, and returns them, lowest first. The record stays: [`Member::prune_record`].
     pub fn prune(&mut self) -> Answer<Vec<View>> {
         self.plain(kind::PRUNE)?;
         Ok(self.items(ffi::DROPPED, |item| View::new(item.view)))
     }
 
-    /// What the record has behind its first entries, to be stored before a vote is sent. Also of a member that has failed.
+    /// Returns the record's entries after its first ones, to be stored before a vote is sent. A member that has failed returns them too.
     pub fn entries_since(&mut self, count: EntryCount) -> Result<Entries, EntriesError> {
         // SAFETY: the handle is this member's.
         let shown = unsafe { ffi::simplex_member_entries(self.at.as_ptr(), count.0) };
         self.entries_of(&shown)
     }
 
-    /// Takes away from the record what lies far below the last finalized view, as a restart that prunes would, but for views that are
-    /// tracked still; so [`Member::prune`] comes before it. Answers the whole record that is left, to be stored in place of the journal with
-    /// its `stored`, in one step; from then on [`Member::entries_since`] counts from the shorter record. The life goes on as it is. Also
-    /// of a member that has failed.
+    /// Removes from the record what is far below the last finalized view, as a restart that prunes does, except for views that are
+    /// still tracked: call [`Member::prune`] first. Returns the whole remaining record, to be stored in place of the journal with its
+    /// `stored`, in one step. From then on [`Member::entries_since`] counts from the shorter record. The lifetime continues. It also
+    /// works for a member that has failed.
     ///
-    /// After an error the record is pruned and not shown: ask for [`Member::entries_since`] of [`EntryCount::ZERO`].
+    /// After an error the record is pruned but not returned: ask for [`Member::entries_since`] of [`EntryCount::ZERO`].
     ///
     /// ```
     /// use simplex_view_state::{Config, Digest, EntryCount, Epoch, Finalization, Member, Moment, Participant, Proposal, Round, View};
@@ -509,7 +509,7 @@ impl Member {
         self.entries_of(&shown)
     }
 
-    /// The entries that were shown.
+    /// Returns the entries that were shown.
     fn entries_of(&self, shown: &ffi::Entries) -> Result<Entries, EntriesError> {
         match shown.status {
             0 => Ok(Entries {
@@ -521,52 +521,52 @@ impl Member {
         }
     }
 
-    /// What is stored beside the journal, with how many entries the record has. Also of a member that has failed.
+    /// Returns what is stored beside the journal, with the number of entries of the record. It also works for a member that has failed.
     pub fn stored(&self) -> Stored {
         // SAFETY: the handle is this member's. No record has so many entries, so none is shown.
         let shown = unsafe { ffi::simplex_member_entries(self.at.as_ptr(), u64::MAX) };
         Stored::of(&shown.stored)
     }
 
-    /// What the member knows, and what it knows of a view; none where it has failed.
+    /// Returns what the member knows, and what it knows of a view; `None` if it has failed.
     fn view(&self, view: View) -> Option<ffi::View> {
         // SAFETY: the handle is this member's.
         let shown = unsafe { ffi::simplex_member_view(self.at.as_ptr(), view.get()) };
         (shown.status == 0).then_some(shown)
     }
 
-    /// Whether the member has failed, for want of memory or since a restart was refused. Its record is left.
+    /// Returns whether the member has failed: out of memory, or a restart was refused. Its record is still there.
     pub fn is_failed(&self) -> bool {
         self.view(View::GENESIS).is_none()
     }
 
-    /// The current view and its like; none where the member has failed.
+    /// Returns the current view, the last finalized one and the lowest retained one; `None` if the member has failed.
     pub fn views(&self) -> Option<Views> {
         Some(Views::of(&self.view(View::GENESIS)?))
     }
 
-    /// The leader of a view that is tracked, once it is known.
+    /// Returns the leader of a tracked view, once it is known.
     pub fn leader(&self, view: View) -> Option<Participant> {
         let leader = self.view(view)?.leader;
         (leader != ffi::NOBODY).then(|| Participant::new(leader))
     }
 
-    /// Whether the view is tracked.
+    /// Returns whether the view is tracked.
     pub fn is_tracked(&self, view: View) -> bool {
         self.view(view).is_some_and(|shown| shown.is_tracked != 0)
     }
 
-    /// Whether a vote of the view may be taken into account: what a batcher of votes keeps.
+    /// Returns whether a vote of the view may count: a batcher stores only such votes.
     pub fn admits_vote(&self, view: View) -> bool {
         self.view(view).is_some_and(|shown| shown.admits_vote != 0)
     }
 
-    /// Whether a certificate of the view may be handed in.
+    /// Returns whether a certificate of the view may be passed.
     pub fn admits_certificate(&self, view: View) -> bool {
         self.view(view).is_some_and(|shown| shown.admits_certificate != 0)
     }
 
-    /// Whether this member voted to nullify the view.
+    /// Returns whether this member voted to nullify the view.
     pub fn voted_nullify(&self, view: View) -> bool {
         self.view(view).is_some_and(|shown| shown.voted_nullify != 0)
     }
@@ -582,13 +582,13 @@ impl Member {
         }
     }
 
-    /// The proposal of the view that may be forwarded to peers, if there is one.
+    /// Returns the proposal of the view that may be forwarded to peers, if there is one.
     pub fn forwardable_proposal(&self, view: View) -> Option<Proposal> {
         let shown = self.view(view)?;
         (shown.has_forwardable != 0).then(|| Proposal::of(&shown.forwardable))
     }
 
-    /// A view's certificate of a kind, where the view is tracked and has it.
+    /// Returns a view's certificate of a kind, if the view is tracked and has it.
     pub fn certificate(&self, kind: CertificateKind, view: View) -> Answer<Option<Certificate>> {
         // SAFETY: the handle is this member's.
         let found = unsafe { ffi::simplex_member_certificate(self.at.as_ptr(), kind.number(), view.get()) };
@@ -619,7 +619,7 @@ impl fmt::Debug for Member {
     }
 }
 
-/// The settings as the library takes them, if it is the one that this package was written for.
+/// Returns the settings as the library takes them, if it is the library that this package was written for.
 pub(crate) fn tested(config: &Config) -> Result<Flat, OpenError> {
     if ffi::simplex_version() != ffi::VERSION {
         return Err(OpenError::OtherVersion);

@@ -3,19 +3,19 @@
 use crate::ffi;
 use crate::numbers::{Digest, Epoch, Participant, Round, View};
 
-/// A block that a leader proposes: its round, the view of its parent, and its payload's digest.
+/// A block that a leader proposes: its round, its parent's view, and its payload's digest.
 #[derive(Clone, Copy, PartialEq, Eq, Hash, Debug, Default)]
 pub struct Proposal {
-    /// The round that it is of.
+    /// Its round.
     pub round: Round,
-    /// The view of its parent, below its own.
+    /// Its parent's view, below its own.
     pub parent: View,
     /// The digest of its payload.
     pub payload: Digest,
 }
 
 impl Proposal {
-    /// The view that it is of.
+    /// Returns its view.
     pub const fn view(&self) -> View {
         self.round.view
     }
@@ -53,19 +53,19 @@ impl Round {
     }
 }
 
-/// What a vote says.
+/// What a vote is about.
 #[derive(Clone, Copy, PartialEq, Eq, Hash, Debug)]
 pub enum Subject {
     /// The proposal may be built on.
     Notarize(Proposal),
-    /// The round is given up.
+    /// The round is abandoned.
     Nullify(Round),
     /// The proposal is final.
     Finalize(Proposal),
 }
 
 impl Subject {
-    /// The round that it is of.
+    /// Returns its round.
     pub const fn round(&self) -> Round {
         match self {
             Subject::Notarize(proposal) | Subject::Finalize(proposal) => proposal.round,
@@ -73,7 +73,7 @@ impl Subject {
         }
     }
 
-    /// The text that a vote on it signs: what the votes of other members are verified on. A member's own votes come with their text, see
+    /// Returns the text that a vote on it signs; verify other members' votes on this text. A member's own votes come with their text:
     /// [`Notarize::text`].
     ///
     /// ```
@@ -89,7 +89,7 @@ impl Subject {
         text.bytes[..text.count as usize].to_vec()
     }
 
-    /// The subject whose text stands in front of bytes, and the bytes behind it; none where no text stands there.
+    /// Reads a subject's text at the front of bytes. Returns the subject and the bytes after it; `None` if there is no such text.
     ///
     /// ```
     /// use simplex_view_state::{Round, Subject};
@@ -124,7 +124,7 @@ impl Subject {
         }
     }
 
-    /// The number of votes on it, which is that of the certificate that they make, and what it is on; of a round the round alone.
+    /// Returns the number of its kind, which votes and certificates share, and its proposal; of a round only the round.
     pub(crate) fn flat(&self) -> (u32, ffi::Proposal) {
         match self {
             Subject::Notarize(proposal) => (ffi::NOTARIZATION, proposal.flat()),
@@ -142,7 +142,7 @@ impl Subject {
         }
     }
 
-    /// The subject of numbers of the library, which knows no other kind.
+    /// Returns the subject of numbers of the library, which uses no other kind.
     pub(crate) fn of(kind: u32, proposal: &ffi::Proposal) -> Subject {
         match kind {
             ffi::NOTARIZATION => Subject::Notarize(Proposal::of(proposal)),
@@ -160,16 +160,16 @@ fn number_in_front(bytes: &[u8]) -> Option<(u64, &[u8])> {
 /// A member's vote, signed.
 #[derive(Clone, PartialEq, Eq, Hash, Debug)]
 pub struct Vote {
-    /// What it says.
+    /// What it is about.
     pub subject: Subject,
-    /// Whose it is.
+    /// The member that signed it.
     pub signer: Participant,
-    /// The signature on the subject's text: bytes that the library keeps and never reads.
+    /// The signature on the subject's text: bytes that the library stores and never reads.
     pub signature: Vec<u8>,
 }
 
 impl Vote {
-    /// What a vote to notarize proposes: where its signer leads, it is told as an [`Input::Proposal`](crate::Input::Proposal) too.
+    /// What a vote to notarize proposes. If its signer leads the view, pass it as an [`Input::Proposal`](crate::Input::Proposal) too.
     pub const fn proposal(&self) -> Option<Proposal> {
         match self.subject {
             Subject::Notarize(proposal) => Some(proposal),
@@ -178,22 +178,22 @@ impl Vote {
     }
 }
 
-/// A certificate that a proposal may be built on.
+/// A certificate by which a proposal may be built on.
 #[derive(Clone, PartialEq, Eq, Hash, Debug)]
 pub struct Notarization {
     /// The proposal.
     pub proposal: Proposal,
-    /// The engine's certificate, which it made and verified: bytes that the library keeps and never reads, but for their first four where
+    /// The host's certificate, which the host made and verified: bytes that the library stores and never reads, except for their first four if
     /// certificates name leaders ([`Leaders::Drawn`](crate::Leaders::Drawn)).
     pub certificate: Vec<u8>,
 }
 
-/// A certificate that a round is given up.
+/// A certificate that a round is abandoned.
 #[derive(Clone, PartialEq, Eq, Hash, Debug)]
 pub struct Nullification {
     /// The round.
     pub round: Round,
-    /// The engine's certificate.
+    /// The host's certificate.
     pub certificate: Vec<u8>,
 }
 
@@ -202,7 +202,7 @@ pub struct Nullification {
 pub struct Finalization {
     /// The proposal.
     pub proposal: Proposal,
-    /// The engine's certificate.
+    /// The host's certificate.
     pub certificate: Vec<u8>,
 }
 
@@ -211,14 +211,14 @@ pub struct Finalization {
 pub enum Certificate {
     /// A proposal may be built on.
     Notarization(Notarization),
-    /// A round is given up.
+    /// A round is abandoned.
     Nullification(Nullification),
     /// A proposal is final.
     Finalization(Finalization),
 }
 
 impl Certificate {
-    /// The certificate of votes on a subject, of its bytes.
+    /// Makes the certificate of votes on a subject, with these bytes.
     pub fn of(subject: Subject, certificate: Vec<u8>) -> Certificate {
         match subject {
             Subject::Notarize(proposal) => Certificate::Notarization(Notarization { proposal, certificate }),
@@ -227,7 +227,7 @@ impl Certificate {
         }
     }
 
-    /// Its bytes.
+    /// Returns its bytes.
     pub fn bytes(&self) -> &[u8] {
         match self {
             Certificate::Notarization(it) => &it.certificate,
@@ -236,7 +236,7 @@ impl Certificate {
         }
     }
 
-    /// Which of the three it is.
+    /// Returns which of the three it is.
     pub const fn kind(&self) -> CertificateKind {
         match self {
             Certificate::Notarization(_) => CertificateKind::Notarization,
@@ -245,10 +245,10 @@ impl Certificate {
         }
     }
 
-    /// The signatures that it is made of, where its bytes are as an [`Engine`](crate::Engine) makes them: of each signer, by rising index,
-    /// the index in four bytes and the signature's length in eight, big-endian, and the signature. None where they are no such bytes.
+    /// Returns the signatures in it, if its bytes are as an [`Engine`](crate::Engine) makes them: for each signer, lowest index first,
+    /// the index in four bytes and the signature's length in eight, big-endian, and the signature. `None` for other bytes.
     ///
-    /// It is good where n - f members signed and each signature is on the text of its [`subject`](Certificate::subject).
+    /// It is good if n - f members signed and each signature is on the text of its [`subject`](Certificate::subject).
     ///
     /// ```
     /// use simplex_view_state::{Certificate, Participant, Round, Subject};
@@ -274,7 +274,7 @@ impl Certificate {
         Some(signatures)
     }
 
-    /// The round that it is of.
+    /// Returns its round.
     pub const fn round(&self) -> Round {
         match self {
             Certificate::Notarization(it) => it.proposal.round,
@@ -283,7 +283,7 @@ impl Certificate {
         }
     }
 
-    /// What its votes say.
+    /// Returns what its votes are about.
     pub const fn subject(&self) -> Subject {
         match self {
             Certificate::Notarization(it) => Subject::Notarize(it.proposal),
@@ -305,7 +305,7 @@ pub enum CertificateKind {
 }
 
 impl CertificateKind {
-    /// Its number.
+    /// Returns its number.
     pub(crate) fn number(self) -> u32 {
         match self {
             CertificateKind::Notarization => ffi::NOTARIZATION,
@@ -315,15 +315,15 @@ impl CertificateKind {
     }
 }
 
-/// An order to vote to notarize: the engine signs the text with the signer's key, and sends it, once the record is stored.
+/// An order to vote to notarize: first store the record, then sign the text with the signer's key, then send the vote.
 #[derive(Clone, PartialEq, Eq, Hash, Debug)]
 #[must_use = "a vote that is dropped is not ordered again"]
 pub struct Notarize {
-    /// What it is for.
+    /// The proposal.
     pub proposal: Proposal,
     /// Who signs.
     pub signer: Participant,
-    /// What is to be signed: `Subject::Notarize(proposal).encode()`.
+    /// The text to sign: `Subject::Notarize(proposal).encode()`.
     pub text: Vec<u8>,
 }
 
@@ -331,34 +331,34 @@ pub struct Notarize {
 #[derive(Clone, PartialEq, Eq, Hash, Debug)]
 #[must_use = "a vote that is dropped is not ordered again until it is asked for as a repeat"]
 pub struct Nullify {
-    /// The round that it gives up.
+    /// The round to abandon.
     pub round: Round,
     /// Who signs.
     pub signer: Participant,
-    /// What is to be signed: `Subject::Nullify(round).encode()`.
+    /// The text to sign: `Subject::Nullify(round).encode()`.
     pub text: Vec<u8>,
-    /// The vote was ordered before: it stands in the record already.
+    /// The vote was ordered before: it is in the record already.
     pub is_repeat: bool,
 }
 
-/// An order to vote to finalize: the engine signs the text with the signer's key, and sends it, once the record is stored.
+/// An order to vote to finalize: first store the record, then sign the text with the signer's key, then send the vote.
 #[derive(Clone, PartialEq, Eq, Hash, Debug)]
 #[must_use = "a vote that is dropped is not ordered again"]
 pub struct Finalize {
-    /// What it is for.
+    /// The proposal.
     pub proposal: Proposal,
     /// Who signs.
     pub signer: Participant,
-    /// What is to be signed: `Subject::Finalize(proposal).encode()`.
+    /// The text to sign: `Subject::Finalize(proposal).encode()`.
     pub text: Vec<u8>,
 }
 
-/// In what a proposal is built or verified.
+/// What a proposal is built on, or verified against.
 #[derive(Clone, Copy, PartialEq, Eq, Hash, Debug)]
 pub struct Context {
     /// Its round.
     pub round: Round,
-    /// Who leads it.
+    /// Its leader.
     pub leader: Participant,
     /// The view of its parent.
     pub parent: View,
@@ -385,18 +385,18 @@ impl Context {
     }
 }
 
-/// What this member is to build.
+/// A block to build.
 #[derive(Clone, Copy, PartialEq, Eq, Hash, Debug)]
 pub enum ProposalRequest {
     /// A proposal on a certified parent.
     Propose(Context),
-    /// A handoff: a proposal on a parent that is not certified yet. It may have to be given up
+    /// A handoff: a proposal on a parent that is not certified yet. It may have to be abandoned
     /// ([`Member::pending_handoff_abandonment`](crate::Member::pending_handoff_abandonment)).
     Prepare(Context),
 }
 
 impl ProposalRequest {
-    /// In what it is built.
+    /// The context to build in.
     pub const fn context(&self) -> &Context {
         match self {
             ProposalRequest::Propose(context) | ProposalRequest::Prepare(context) => context,
@@ -404,7 +404,7 @@ impl ProposalRequest {
     }
 }
 
-/// Which certificate of its ancestry a proposal lacks.
+/// Which certificate of its ancestry a proposal misses.
 #[derive(Clone, Copy, PartialEq, Eq, Hash, Debug)]
 pub enum Lacking {
     /// A nullification of a view between its parent and itself.
@@ -414,7 +414,7 @@ pub enum Lacking {
 }
 
 impl Lacking {
-    /// The one of a number of the library, which knows no other.
+    /// Returns the kind of a number of the library, which uses no other number.
     pub(crate) fn of(kind: u32) -> Lacking {
         match kind {
             ffi::NULLIFICATION => Lacking::Nullification,
@@ -423,18 +423,18 @@ impl Lacking {
     }
 }
 
-/// What is to be verified.
+/// What to verify next.
 #[derive(Clone, Copy, PartialEq, Eq, Hash, Debug)]
 pub enum Verify {
-    /// The application is to verify the proposal.
+    /// The application must verify the proposal.
     Ready(Context, Proposal),
-    /// A certificate is lacking before the proposal can be verified: ask the member for it, and others behind it. It may be on its way.
+    /// A certificate is missing before the proposal can be verified: ask its `target`, then other members. It may be on its way.
     Resolve {
         /// The view of the proposal that waits.
         proposal: View,
-        /// The view of the certificate that is lacking.
+        /// The view of the missing certificate.
         view: View,
-        /// Which one is lacking.
+        /// Which one is missing.
         kind: Lacking,
         /// The leader of the proposal's view.
         target: Participant,
@@ -443,7 +443,7 @@ pub enum Verify {
     Wait,
 }
 
-/// What came of a certificate that was handed in.
+/// The result of a certificate that was passed.
 #[derive(Clone, Copy, PartialEq, Eq, Hash, Debug)]
 pub struct Added {
     /// It is new.
@@ -452,16 +452,16 @@ pub struct Added {
     pub equivocator: Option<Participant>,
 }
 
-/// What is to be certified.
+/// What to certify.
 #[derive(Clone, PartialEq, Eq, Hash, Debug, Default)]
 pub struct Candidates {
     /// The proposals whose certification is to begin.
     pub proposals: Vec<Proposal>,
-    /// The notarizations that are to be fetched for others.
+    /// The notarizations to fetch for other members.
     pub fetches: Vec<CertificateFetch>,
 }
 
-/// A notarization that is to be fetched.
+/// A notarization to fetch.
 #[derive(Clone, Copy, PartialEq, Eq, Hash, Debug)]
 pub struct CertificateFetch {
     /// The view of the proposal that waits for it.

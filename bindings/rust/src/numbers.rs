@@ -46,28 +46,28 @@ impl View {
     /// Genesis.
     pub const GENESIS: View = View(0);
 
-    /// The view of this number.
+    /// Makes the view of this number.
     pub const fn new(view: u64) -> View {
         View(view)
     }
 
-    /// Its number.
+    /// Returns its number.
     pub const fn get(self) -> u64 {
         self.0
     }
 }
 
-/// How many views: a distance between two.
+/// A number of views: a distance between two.
 #[derive(Clone, Copy, PartialEq, Eq, PartialOrd, Ord, Hash, Debug, Default)]
 pub struct ViewDelta(u64);
 
 impl ViewDelta {
-    /// So many views.
+    /// Makes a distance of this number of views.
     pub const fn new(views: u64) -> ViewDelta {
         ViewDelta(views)
     }
 
-    /// Their number.
+    /// Returns the number of views.
     pub const fn get(self) -> u64 {
         self.0
     }
@@ -78,12 +78,12 @@ impl ViewDelta {
 pub struct Epoch(u64);
 
 impl Epoch {
-    /// The epoch of this number.
+    /// Makes the epoch of this number.
     pub const fn new(epoch: u64) -> Epoch {
         Epoch(epoch)
     }
 
-    /// Its number.
+    /// Returns its number.
     pub const fn get(self) -> u64 {
         self.0
     }
@@ -94,12 +94,12 @@ impl Epoch {
 pub struct Participant(u32);
 
 impl Participant {
-    /// The member of this index.
+    /// Makes the member of this index.
     pub const fn new(index: u32) -> Participant {
         Participant(index)
     }
 
-    /// Its index.
+    /// Returns its index.
     pub const fn get(self) -> u32 {
         self.0
     }
@@ -110,12 +110,12 @@ impl Participant {
 pub struct Digest([u8; 32]);
 
 impl Digest {
-    /// The digest of these bytes.
+    /// Makes the digest of these bytes.
     pub const fn new(bytes: [u8; 32]) -> Digest {
         Digest(bytes)
     }
 
-    /// Its bytes.
+    /// Returns its bytes.
     pub const fn bytes(&self) -> &[u8; 32] {
         &self.0
     }
@@ -178,23 +178,23 @@ pub struct Round {
     pub view: View,
 }
 
-/// A moment of the engine's clock, in whole milliseconds since whatever the engine likes. Moments do not fall within a life of a member; a
-/// later life may count anew.
+/// A moment of the host's clock, in whole milliseconds since any moment that the host chooses. Moments never decrease within a lifetime of a
+/// member; a later lifetime may choose another beginning.
 #[derive(Clone, Copy, PartialEq, Eq, PartialOrd, Ord, Hash, Debug, Default)]
 pub struct Moment(u64);
 
 impl Moment {
-    /// The moment of so many milliseconds.
+    /// Makes the moment of this number of milliseconds.
     pub const fn from_millis(millis: u64) -> Moment {
         Moment(millis)
     }
 
-    /// Its milliseconds.
+    /// Returns its milliseconds.
     pub const fn as_millis(self) -> u64 {
         self.0
     }
 
-    /// How long it is from this moment until a later one; nothing where the other is not later.
+    /// Returns the time from this moment until a later one; zero if the other is not later.
     pub const fn until(self, later: Moment) -> Duration {
         Duration::from_millis(later.0.saturating_sub(self.0))
     }
@@ -206,17 +206,17 @@ impl fmt::Display for Moment {
     }
 }
 
-/// The number under which an engine runs a certification.
+/// The number by which a host names a certification.
 #[derive(Clone, Copy, PartialEq, Eq, PartialOrd, Ord, Hash, Debug, Default)]
 pub struct Token(u64);
 
 impl Token {
-    /// The token of this number.
+    /// Makes the token of this number.
     pub const fn new(token: u64) -> Token {
         Token(token)
     }
 
-    /// Its number.
+    /// Returns its number.
     pub const fn get(self) -> u64 {
         self.0
     }

@@ -1,4 +1,4 @@
-//! Why views time out, and why handoffs are given up.
+//! Why views time out, and why handoffs are abandoned.
 
 use std::fmt;
 
@@ -42,12 +42,12 @@ impl TimeoutReason {
         TimeoutReason::FailedCertification,
     ];
 
-    /// The reason of a number of the library, which knows no other.
+    /// Returns the reason of a number of the library, which uses no other number.
     pub(crate) fn of(number: u32) -> TimeoutReason {
         TimeoutReason::ALL[number as usize]
     }
 
-    /// Its number.
+    /// Returns its number.
     pub(crate) fn number(self) -> u32 {
         self as u32
     }
@@ -59,21 +59,21 @@ impl fmt::Display for TimeoutReason {
     }
 }
 
-/// Why a handoff, a proposal that is built before its parent is certified, has to be given up.
+/// Why a handoff, a proposal that is built before its parent is certified, must be abandoned.
 #[derive(Clone, Copy, PartialEq, Eq, Hash, Debug)]
 #[non_exhaustive]
 pub enum HandoffAbandonedReason {
-    /// The view was left.
+    /// The member left the view.
     ViewExit,
-    /// Another parent is to be built on.
+    /// The proposal must be built on another parent.
     AncestrySuperseded,
-    /// The parent no longer stands.
+    /// The parent may no longer be built on.
     AncestryInvalidated,
     /// The parent's view was nullified.
     ParentNullify,
     /// The view was nullified.
     ViewNullify,
-    /// The application answered nothing.
+    /// The application returned nothing.
     ResponseClosed,
     /// What was built could no longer be recorded.
     IneligibleAtRecording,
@@ -90,7 +90,7 @@ impl HandoffAbandonedReason {
         HandoffAbandonedReason::IneligibleAtRecording,
     ];
 
-    /// The reason of a number of the library, which knows no other.
+    /// Returns the reason of a number of the library, which uses no other number.
     pub(crate) fn of(number: u32) -> HandoffAbandonedReason {
         HandoffAbandonedReason::ALL[number as usize]
     }

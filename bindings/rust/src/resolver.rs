@@ -9,28 +9,28 @@ use std::fmt;
 use std::num::NonZeroU32;
 use std::ptr::{NonNull, null_mut};
 
-/// What is to be done with fetches.
+/// A change to the outstanding fetches.
 #[derive(Clone, Copy, PartialEq, Eq, Hash, Debug)]
 pub enum Effect {
     /// Fetch a nullification that covers a view. Its fetch may be open already.
     Fetch {
         /// The view.
         view: View,
-        /// The view of the certificate or verdict that calls for it.
+        /// The view of the certificate or verdict that causes it.
         cause: View,
-        /// Why.
+        /// Its reason.
         reason: FetchReason,
     },
-    /// Nothing is left to ask for of a kind at the views from the first to the last.
+    /// Nothing of a kind is missing any more at the views from the first to the last.
     Settled {
-        /// What is settled.
+        /// Which kind.
         kind: Lacking,
         /// The first view.
         start: View,
         /// The last view.
         end: View,
     },
-    /// Each ask at or below the view is settled.
+    /// Every fetch of a kind at or below the view is settled.
     Finalized(View),
     /// Each fetch at or below the view ends.
     Raised(View),
@@ -45,8 +45,8 @@ pub enum FetchReason {
     CertificationFailed,
 }
 
-/// A peer resolver: which certificates are kept and served to peers, and which are fetched. It is told of each certificate that the member
-/// newly added and of each verdict, and its open fetches are then exactly the views that are wanted by what it was told.
+/// A peer resolver: it decides which certificates are retained and served to peers, and which are fetched. Pass it each certificate that the
+/// member newly added and each verdict. Its outstanding fetches are then exactly the views whose certificate is missing.
 ///
 /// ```
 /// use simplex_view_state::{Certificate, Effect, Epoch, Nullification, Resolver, Round, View};
@@ -68,7 +68,7 @@ pub struct Resolver {
 unsafe impl Send for Resolver {}
 
 impl Resolver {
-    /// A resolver that starts from a member's whole journal, with its first fetches open ([`Resolver::outstanding`]).
+    /// Starts a resolver from a member's whole journal, with its first fetches outstanding ([`Resolver::outstanding`]).
     pub fn start(term_length: NonZeroU32, journal: &[u8]) -> Result<Resolver, OpenError> {
         if ffi::simplex_version() != ffi::VERSION {
             return Err(OpenError::OtherVersion);
@@ -117,7 +117,7 @@ impl Resolver {
         })
     }
 
-    /// Tells of a certificate that the member newly added. `NotAllowed` for one of genesis. After `OutOfMemory` it has failed: start another.
+    /// Passes a certificate that the member newly added. `NotAllowed` for one of genesis. After `OutOfMemory` the resolver has failed: start another.
     pub fn updated(&mut self, certificate: &Certificate) -> Answer<Vec<Effect>> {
         let (kind, proposal) = certificate.subject().flat();
         self.tell(
@@ -130,7 +130,7 @@ impl Resolver {
         )
     }
 
-    /// Tells of a verdict on a notarization, as [`Member::certified`](crate::Member::certified) answers it.
+    /// Passes a verdict on a notarization, as [`Member::certified`](crate::Member::certified) returns it.
     pub fn certified(&mut self, notarization: &Notarization, is_success: bool) -> Answer<Vec<Effect>> {
         let told = ffi::Told {
             kind: 4,
@@ -145,17 +145,17 @@ impl Resolver {
         unsafe { ffi::simplex_resolver_settled(self.at.as_ptr(), view.get()) }
     }
 
-    /// Whether it has failed for want of memory.
+    /// Returns whether it has failed, out of memory.
     pub fn is_failed(&self) -> bool {
         self.known(View::GENESIS).is_failed != 0
     }
 
-    /// Whether the view's fetch is open.
+    /// Returns whether the view's fetch is outstanding.
     pub fn is_open(&self, view: View) -> bool {
         self.known(view).is_open != 0
     }
 
-    /// The views whose fetch is open, rising.
+    /// Returns the views whose fetch is outstanding, lowest first.
     pub fn outstanding(&mut self) -> Answer<Vec<View>> {
         // SAFETY: the handle is this resolver's.
         let shown = unsafe { ffi::simplex_resolver_outstanding(self.at.as_ptr()) };
@@ -169,12 +169,12 @@ impl Resolver {
         }
     }
 
-    /// Whether no fetch is open.
+    /// Returns whether no fetch is outstanding.
     pub fn is_idle(&self) -> bool {
         self.known(View::GENESIS).fetches == 0
     }
 
-    /// Whether nothing is left to ask for of a kind at the view.
+    /// Returns whether nothing of a kind is missing at the view.
     pub fn is_settled(&self, view: View, kind: Lacking) -> bool {
         let known = self.known(view);
         match kind {
@@ -183,13 +183,13 @@ impl Resolver {
         }
     }
 
-    /// Whether the view's certification failed.
+    /// Returns whether the view's certification failed.
     pub fn is_uncertifiable(&self, view: View) -> bool {
         self.known(view).uncertifiable != 0
     }
 
-    /// What a peer is served that asks for the view: the text of the certificate's votes ([`Subject::encode`](crate::Subject::encode)), and
-    /// behind it the certificate's bytes.
+    /// Returns what a peer that asks for the view is served: the text of the certificate's votes ([`Subject::encode`](crate::Subject::encode)),
+    /// then the certificate's bytes.
     pub fn produce(&mut self, view: View) -> Answer<Option<Vec<u8>>> {
         // SAFETY: the handle is this resolver's.
         let served = unsafe { ffi::simplex_resolver_produce(self.at.as_ptr(), view.get()) };
@@ -199,7 +199,7 @@ impl Resolver {
         }
     }
 
-    /// All of the bytes that were served or shown last.
+    /// Returns all bytes that were served or shown last.
     fn bytes(&self) -> Vec<u8> {
         // SAFETY: the handle is this resolver's.
         ffi::all_bytes(|from| unsafe { ffi::simplex_resolver_bytes(self.at.as_ptr(), from) })

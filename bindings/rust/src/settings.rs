@@ -1,4 +1,4 @@
-//! How a member is set up.
+//! The settings of a member.
 
 use crate::errors::SettingsError;
 use crate::ffi;
@@ -7,21 +7,21 @@ use crate::numbers::{Digest, Epoch, Participant, Round, ViewDelta};
 use std::num::{NonZeroU32, NonZeroU64};
 use std::time::Duration;
 
-/// How a member is set up. All members of an epoch have the same, but for the signer and the floor.
+/// The settings of a member. All members of an epoch have the same ones, except for the signer and the floor.
 ///
 /// Times are read in whole milliseconds. [`Config::new`] has usual values; set the fields that differ.
 #[derive(Clone, PartialEq, Eq, Debug)]
 #[non_exhaustive]
 pub struct Config {
-    /// How many members there are.
+    /// The number of members.
     pub members: NonZeroU32,
-    /// The member that signs here; none for one that only follows.
+    /// The member that signs here; `None` for a member that only follows.
     pub signer: Option<Participant>,
     /// The epoch.
     pub epoch: Epoch,
-    /// Who leads.
+    /// The leaders.
     pub leaders: Leaders,
-    /// How views are parted into terms.
+    /// How views are divided into terms.
     pub terms: Terms,
     /// What is final at the start.
     pub floor: Floor,
@@ -29,28 +29,28 @@ pub struct Config {
     pub leader_timeout: Duration,
     /// How long a view waits for its certification; above the leader timeout.
     pub certification_timeout: Duration,
-    /// After how long a vote to nullify is sent again.
+    /// The time after which a vote to nullify is sent again.
     pub timeout_retry: Duration,
-    /// How many views below the last finalized one are kept.
+    /// The number of views below the last finalized one that are retained.
     pub view_retention: ViewDelta,
     /// Whether the views of inactive leaders are skipped.
     pub skip: Option<Skip>,
 }
 
-/// Who leads.
+/// The leaders.
 #[derive(Clone, PartialEq, Eq, Debug)]
 pub enum Leaders {
-    /// The table's members lead in turn, a term each, from its start again after its end. It has as many entries as there are members, each
-    /// a member's index; a member that stands there twice leads twice. Other tables are refused.
+    /// The table's members lead in its order, one term each, and then from its start again. It has as many entries as there are members, each
+    /// a member's index; a member that is in it twice leads twice. Other tables are refused.
     Table(Vec<Participant>),
-    /// The certificate that leads to a term names its leader: its first four bytes are the index, big-endian, and an index of no member
-    /// stands for its rest by the number of members. The table serves for the first term, and after a certificate of fewer bytes: it has one
-    /// entry or more, each a member's index. All certificates that may lead to a view have to name the same leader.
+    /// The certificate that leads to a term names its leader: its first four bytes are the index, big-endian. An index of no member counts
+    /// modulo the number of members. The table names the leader of the first term, and after a certificate of fewer bytes: it has at least one
+    /// entry, each a member's index. All certificates that may lead to a view must name the same leader.
     Drawn(Vec<Participant>),
 }
 
 impl Leaders {
-    /// Each of so many members in turn.
+    /// Returns the table in which each of this number of members leads once.
     pub fn round_robin(members: NonZeroU32) -> Leaders {
         Leaders::Table((0..members.get()).map(Participant::new).collect())
     }
@@ -62,19 +62,19 @@ impl Leaders {
     }
 }
 
-/// How views are parted into terms, each of one leader.
+/// How views are divided into terms, each with one leader.
 #[derive(Clone, Copy, PartialEq, Eq, Debug)]
 pub struct Terms {
-    /// How many views a term has.
+    /// The number of views of a term.
     pub length: NonZeroU32,
-    /// How many views ahead of the current one, in its term, may be voted for.
+    /// The number of views ahead of the current one, in its term, that may be voted for.
     pub optimistic_views: ViewDelta,
-    /// After how long a term stalls, if it does.
+    /// The time after which a term stalls, if it does.
     pub stall_timeout: Option<Duration>,
 }
 
 impl Terms {
-    /// A leader a view.
+    /// One view a term.
     pub const ONE_VIEW: Terms = Terms {
         length: NonZeroU32::MIN,
         optimistic_views: ViewDelta::new(0),
@@ -82,28 +82,28 @@ impl Terms {
     };
 }
 
-/// What is final where a member starts.
+/// What is final when a member starts.
 #[derive(Clone, PartialEq, Eq, Debug)]
 pub enum Floor {
     /// Genesis, with its payload.
     Genesis(Digest),
-    /// A finalized proposal, whose certificate the engine verified.
+    /// A finalized proposal, whose certificate the host verified.
     Finalized(Finalization),
 }
 
-/// That the views of inactive leaders are skipped.
+/// Skipping the views of inactive leaders.
 #[derive(Clone, Copy, PartialEq, Eq, Debug)]
 pub struct Skip {
-    /// After how long a leader counts as inactive. The engine finds that out, and says so by
+    /// The time after which a leader counts as inactive. The host finds that out, and reports it by
     /// [`Member::trigger_timeout`](crate::Member::trigger_timeout); the library tests only that it is above the other timeouts.
     pub timeout: Duration,
-    /// How many unfinalized terms may be skipped; none for as many as there are members.
+    /// The number of unfinalized terms that may be skipped; `None` for the number of members.
     pub budget: Option<NonZeroU64>,
 }
 
 impl Config {
-    /// So many members, round robin, a leader a view, from genesis, with these usual times: 1 s for a proposal, 2 s for its certification,
-    /// 500 ms for a repeat; 10 views are kept, and views of inactive leaders are skipped after 3 s.
+    /// Settings of this number of members that lead round-robin, one view each, from genesis. The times are usual ones: 1 s for a proposal, 2 s
+    /// for its certification, 500 ms for a repeat. 10 views are retained, and views of inactive leaders are skipped after 3 s.
     ///
     /// ```
     /// use simplex_view_state::{Config, Digest, Epoch, Participant};
@@ -131,7 +131,7 @@ impl Config {
         }
     }
 
-    /// What the library takes of it.
+    /// Returns what the library takes of it.
     pub(crate) fn flat(&self) -> Result<Flat, SettingsError> {
         let (is_finalized, floor, certificate) = match &self.floor {
             Floor::Genesis(payload) => (0, genesis(*payload), Vec::new()),
@@ -163,7 +163,7 @@ impl Config {
     }
 }
 
-/// What the library takes of settings.
+/// The settings as the library takes them.
 pub(crate) struct Flat {
     pub(crate) settings: ffi::Settings,
     pub(crate) leaders: Vec<u32>,
@@ -178,7 +178,7 @@ fn genesis(payload: Digest) -> Proposal {
     }
 }
 
-/// The index of a signer; the greatest number is none of a member.
+/// Returns the index of a signer; the greatest number is no member's.
 fn index_of(signer: Participant) -> Result<u32, SettingsError> {
     match signer.get() {
         ffi::NOBODY => Err(SettingsError::NoSuchMember),
@@ -190,7 +190,7 @@ pub(crate) fn millis(time: Duration) -> Result<u64, SettingsError> {
     u64::try_from(time.as_millis()).map_err(|_| SettingsError::TimeTooLong)
 }
 
-/// A skip timeout of no time is refused as the library refuses one that is not above the certification timeout.
+/// A skip timeout of 0 is refused as the library refuses one that is not above the certification timeout.
 fn skip_millis(time: Duration) -> Result<u64, SettingsError> {
     match millis(time)? {
         0 => Err(SettingsError::SkipNotAboveCertification),

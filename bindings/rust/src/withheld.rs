@@ -7,14 +7,14 @@ use std::fmt;
 pub enum VoteKind {
     /// The proposal may be built on.
     Notarize,
-    /// The view is given up.
+    /// The view is abandoned.
     Nullify,
     /// The proposal is final.
     Finalize,
 }
 
 impl VoteKind {
-    /// Its number, which is that of the certificate that such votes make.
+    /// Returns its number, which is that of the certificate that such votes make.
     pub(crate) fn number(self) -> u32 {
         self as u32 + 1
     }
@@ -81,7 +81,7 @@ impl Withheld {
         Withheld::NotCertified,
     ];
 
-    /// The reason of a number of the library, which knows no other; `None` of 0, where the vote is not withheld.
+    /// Returns the reason of a number of the library, which uses no other; `None` for 0: the vote is not withheld.
     pub(crate) fn of(number: u32) -> Option<Withheld> {
         let index = number.checked_sub(1)?;
         Some(Withheld::ALL[index as usize])

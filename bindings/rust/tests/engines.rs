@@ -1,4 +1,4 @@
-//! Engines through the package: networks of them, their lives, what they show, and what they refuse.
+//! Engines through the package: networks of them, their lifetimes, what they show, and what they refuse.
 
 #[path = "../examples/engine/network.rs"]
 mod network;
@@ -566,5 +566,36 @@ fn an_engine_goes_from_thread_to_thread() -> Tested {
     let engine = engine(1)?;
     let views = thread::spawn(move || engine.views()).join().expect("it does not panic");
     assert_eq!(views.ok_or("it lives")?.current, View::new(1));
+    Ok(())
+}
+
+#[test]
+fn a_snapshot_admits_what_the_engine_admits() -> Tested {
+    for (length, passed) in [(1, 0), (1, 30), (5, 3), (5, 23), (40, 12), (u32::MAX, 7)] {
+        let settings = changed(config(0), |it| it.terms.length = length.try_into().expect("not 0"));
+        let mut engine = Engine::start(&settings, &Options::default(), START)?;
+        if passed > 0 {
+            engine.handle(Input::Certificate(finalization(passed)), START)?;
+        }
+        outputs(&mut engine, START)?;
+        let snapshot = engine.snapshot().ok_or(EngineError::Failed)?;
+        assert_eq!(Some(snapshot.views), engine.views());
+        assert_eq!(snapshot.leader, engine.leader(snapshot.views.current));
+        assert_eq!((snapshot.wake, snapshot.ignored), (engine.wake(), engine.ignored()));
+        assert_eq!(snapshot.fetches as usize, engine.fetches().len());
+        let edge = snapshot.highest_vote.get();
+        for view in (0..100).chain(edge.saturating_sub(3)..=edge + 3).map(View::new) {
+            assert_eq!(
+                snapshot.admits_vote(view),
+                engine.admits_vote(view),
+                "a vote of {view} in terms of {length}"
+            );
+            assert_eq!(
+                snapshot.admits_certificate(view),
+                engine.admits_certificate(view),
+                "a certificate of {view}"
+            );
+        }
+    }
     Ok(())
 }

@@ -1,4 +1,4 @@
-//! Members through the package: their lives, their journals, and what is refused.
+//! Members through the package: their lifetimes, their journals, and what is refused.
 
 use simplex_view_state::{
     Certificate, CertificateKind, Config, Cut, Digest, Ending, EntryCount, Epoch, Finalization, Floor, Member, Moment, Notarization,

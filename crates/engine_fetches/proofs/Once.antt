@@ -86,12 +86,12 @@ once_opened (fetch ∷ rest) more none is =
     (of_turned fetch more ∙ first_not (is_of more.kind more.view fetch) (is_fetch_open more.kind more.view rest) none))
     (once_opened rest more (then_not (is_of more.kind more.view fetch) (is_fetch_open more.kind more.view rest) none) (rest_once (is_fetch_open fetch.kind fetch.view rest) (each_once rest) is))
 
--- or might have been, for want of memory
+-- or might have been, because memory ran out
 pub once_pushed : (pushed : Bool) (left fetches : List Fetch) (more : Fetch) → left ≡ cond pushed (fetches ++ more ∷ []) fetches → is_fetch_open more.kind more.view fetches ≡ false → each_once fetches ≡ true → each_once left ≡ true
 once_pushed true left fetches more are none is = ap each_once are ∙ once_opened fetches more none is
 once_pushed false left fetches more are none is = ap each_once are ∙ is
 
--- another stands in a place, of the same kind and view
+-- another is in a place, of the same kind and view
 module _ (again : Fetch) where
   abbrev pub IsAgain : Fetch → Type 0
   IsAgain fetch = (again.kind ≡ fetch.kind) × (again.view ≡ fetch.view)

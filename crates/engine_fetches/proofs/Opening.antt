@@ -1,4 +1,4 @@
--- That no fetch comes to be open but those that a resolver wants, and those that are opened.
+-- Only fetches that a resolver wants, and those that are opened, become open.
 use Rattle.std.proofs.Common.{◌≡◌, ℕ, ◌⊎◌, inl, inr, Bool, true, false, ◌&&◌, ◌||◌, ◌==◌, cond, not, List, [], ◌∷◌, ◌++◌, filter, refl, ap, sym, subst, ◌∙◌}
 use Rattle.std.specs.Prelude.{Option, Some, None, MatchOption, slice_get, slice_set}
 use Rattle.std.specs.List.{list_any}

@@ -103,7 +103,7 @@ module _ (p : Fetch → Bool) (kind : FetchKind) (view : ℕ) (keep : Bool) (eac
   left_out false b left is one = is
   left_out true b left is one = is ∙ ap (λ k. b && k) (sym (one refl)) ∙ and_none b ∙ one refl
 
-  -- those of a kind and view stand or fall together
+  -- those of a kind and view all stay or all go
   open_kept : (xs : List Fetch) → is_fetch_open kind view (filter p xs) ≡ (is_fetch_open kind view xs && keep)
   open_kept [] = refl
   open_kept (x ∷ xs) = by_test (open_kept xs) (p x) refl
@@ -166,7 +166,7 @@ joined true false true true out = refl
 joined true false false true out = refl
 joined true false f false out = refl
 
--- what they leave open: what was and is settled by none, and what was fetched and not settled behind that
+-- what they leave open: what was and is settled by none, and what was fetched and not settled after that
 pub effects_are : (v moment : ℕ) (es : List Effect) (xs : List Fetch)
     → is_fetch_open Nullification v (after_effects moment es xs) ≡ ((is_fetch_open Nullification v xs && not (list_any (settles v) es)) || is_outstanding es v)
 effects_are v moment [] xs = sym (or_none (is_fetch_open Nullification v xs && true) ∙ and_all (is_fetch_open Nullification v xs))
@@ -207,7 +207,7 @@ module _ (finalized : ℕ) (wanted : List ℕ) (xs : List Fetch) (asks : Fetches
       (λ x of. ap (λ w. nat_lt later w) (view_is v x of) ∙ lt-ltb later v (omega (arith, up, high))) xs
       ∙ and_all (is_fetch_open Nullification v xs) ∙ asks v is (omega (arith, before, high))
 
-  -- once those are closed of what is not lacking
+  -- once those are closed that are not missing
   pub asks_lacking : {K L D : Type 0} (x : StateFacts K L D) → finalized ≤ x.finalized → FetchesTheMissing wanted x (filter (is_missing wanted x) xs)
   asks_lacking x before = record {
     ahead = λ k d within. ltb-true x.finalized _ (both_are _ _ (filter_passes (is_missing wanted x) xs k d within)).0;

@@ -1,4 +1,4 @@
--- A resolver that is told of something, with the fetches that follow.
+-- A resolver that receives something, with the fetches that follow.
 use Rattle.std.proofs.Common.{◌≡◌, ◌∙◌, ℕ, List, ap, subst}
 use Rattle.simplex_resolver.specs.Steps.{Call}
 use Rattle.simplex_resolver.specs.CallHistory.{IsMade}

@@ -1,4 +1,4 @@
--- Fetches that are open, and of whom they are asked.
+-- Open fetches, and the peers that are asked.
 use Rattle.std.specs.Prelude.{◌≡◌, ℕ, ◌≤◌, ◌+◌, ◌-◌, ◌%◌, ◌^◌, Bool, true, false, ◌&&◌, ◌==◌, nat_le, nat_lt, min, List, [], ◌∷◌, ◌++◌, not, All, Any, Option, Some, None, MatchOption, if◌then◌else◌, position, filter}
 use Rattle.std.specs.List.{list_any}
 use Rattle.simplex_types.specs.declared.reasons.Kind.{Kind}
@@ -37,13 +37,14 @@ abbrev pub each_once : List Fetch → Bool
 each_once [] = true
 each_once (fetch ∷ rest) = not (is_fetch_open fetch.kind fetch.view rest) && each_once rest
 
--- one that was never asked for, and is to be at once
+-- a fetch that was never asked for, and is due at once
 abbrev pub fresh : FetchKind → ℕ → ℕ → ℕ → Fetch
 fresh kind view first now = record { kind = kind; view = view; first = first; count = 0; moment = now }
 
--- a fetch is opened, where it is not open
+-- a fetch is opened, if it is not open
 abbrev pub opened : FetchKind → ℕ → ℕ → ℕ → List Fetch → List Fetch
-opened kind view first moment fetches = if is_fetch_open kind view fetches then fetches else fetches ++ fresh kind view first moment ∷ []
+opened kind view first moment fetches =
+    if is_fetch_open kind view fetches then fetches else fetches ++ fresh kind view first moment ∷ []
 
 -- it is closed
 abbrev pub closed : FetchKind → ℕ → List Fetch → List Fetch
@@ -57,20 +58,22 @@ passed finalized fetches = filter (λ (fetch : Fetch). nat_lt finalized fetch.vi
 abbrev pub settled : FetchKind → ℕ → ℕ → List Fetch → List Fetch
 settled kind first last fetches = filter (λ fetch. not (is_within kind first last fetch)) fetches
 
--- one that was asked for once more, and is to be again after the retry interval; both numbers stop at 2^64 - 1
+-- a fetch that was asked for once more, and is due again after the retry interval; both numbers stop at 2^64 - 1
 abbrev pub asked_again : ℕ → ℕ → Fetch → Fetch
-asked_again now retry fetch = record fetch { count = min (fetch.count + 1) (2 ^ 64 - 1); moment = min (now + retry) (2 ^ 64 - 1) }
+asked_again now retry fetch =
+    record fetch { count = min (fetch.count + 1) (2 ^ 64 - 1); moment = min (now + retry) (2 ^ 64 - 1) }
 
 -- the place of the first one whose moment has come
 abbrev pub due_at : ℕ → List Fetch → Option ℕ
 due_at now fetches = position (λ fetch. nat_le fetch.moment now) fetches
 
--- all of so many members but this one
+-- all of this number of members but this one
 abbrev pub peers_of : ℕ → Option ℕ → Peers
 peers_of members None = record { others = members; me = members }
-peers_of members (Some me) = if nat_lt me members then record { others = members - 1; me = me } else record { others = members; me = members }
+peers_of members (Some me) =
+    if nat_lt me members then record { others = members - 1; me = me } else record { others = members; me = members }
 
--- the place of a member among the others; the first, where none is named
+-- the place of a member among the others; the first place, if none is named
 abbrev pub place_of : Peers → Option ℕ → ℕ
 place_of peers None = 0
 place_of peers (Some member) = if nat_lt member peers.me then member else member - 1
@@ -79,16 +82,18 @@ place_of peers (Some member) = if nat_lt member peers.me then member else member
 abbrev pub member_at : Peers → ℕ → ℕ
 member_at peers place = if nat_lt place peers.me then place else place + 1
 
--- whose turn it is after so many askings, of which the first went to this place
+-- the peer to ask after this number of askings, if the first went to this place
 abbrev pub whose_turn : Peers → ℕ → ℕ → Option ℕ
-whose_turn peers first count = if peers.others == 0 then None else Some (member_at peers ((first + count % peers.others) % peers.others))
+whose_turn peers first count =
+    if peers.others == 0 then None else Some (member_at peers ((first + count % peers.others) % peers.others))
 
--- the earlier one of two moments
+-- the earlier of two moments
 abbrev pub first_of : Option ℕ → ℕ → ℕ
 first_of None moment = moment
 first_of (Some before) moment = min before moment
 
--- the moment of one of them, and of none before; none where there is none
+-- the moment of one of them, and of none before; none if there is none
 abbrev pub IsEarliest : List Fetch → Option ℕ → Type 0
 IsEarliest fetches earliest =
-    MatchOption earliest (fetches ≡ []) (λ moment. Any (λ fetch. fetch.moment ≡ moment) fetches × All (λ fetch. moment ≤ fetch.moment) fetches)
+    MatchOption earliest (fetches ≡ [])
+    (λ moment. Any (λ fetch. fetch.moment ≡ moment) fetches × All (λ fetch. moment ≤ fetch.moment) fetches)

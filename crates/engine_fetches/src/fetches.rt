@@ -1,8 +1,12 @@
-//! The fetches that are open: certificates that are asked of peers, each again until it is closed.
+//! The outstanding fetches: certificates that are asked of peers, each again until its fetch is closed.
 //!
-//! It owes that a fetch stays open until its certificate came or a finalization passed it; that it is asked again once the
-//! retry interval is over, of the next peer in turn and never of this member; and that `wake` is the moment of the next
-//! asking. Moments are milliseconds, and do not fall.
+//! It guarantees:
+//!
+//! - a fetch stays open until its certificate arrived or a finalization passed it;
+//! - a fetch is asked again once the retry interval is over, of the next peer in round-robin order and never of this member;
+//! - `wake` is the moment of the next asking.
+//!
+//! Moments are milliseconds and never decrease.
 
 ghost use Rattle.std.specs.Prelude.{◌≡◌, ◌≢◌, ◌≤◌, ℕ, [], ◌++◌, ◌∷◌, true, not, filter, is_some, length, nat_lt, IfOk, OnOk, OnErr, IfSome, IsTrue, if◌then◌else◌};
 ghost use Rattle.engine_fetches.specs.Fetches.{fetch_kind, same_kind, is_of, is_within, is_fetch_open, each_once, due_at, fresh, asked_again, first_of, peers_of, place_of, whose_turn, IsEarliest};
@@ -14,19 +18,19 @@ use simplex_types::reasons::Kind;
 use simplex_types::types::{Participant, View};
 use std::alloc::{AllocError, Global};
 
-/// What is asked for.
+/// The certificate that a fetch asks for.
 #[derive(Clone, Copy, PartialEq, Eq, Debug)]
 pub enum FetchKind {
     /// The view's notarization.
     Notarization,
     /// A nullification that covers the view.
     Nullification,
-    /// Whatever certificate decides the view.
+    /// Any certificate that decides the view.
     Decision,
 }
 
 impl FetchKind {
-    /// Whether it is the same kind.
+    /// Returns whether it is the same kind.
     fn is(self, other: FetchKind) -> bool
         ensures { result ≡ same_kind self other }
     {
@@ -38,7 +42,7 @@ impl FetchKind {
     }
 }
 
-/// The kind of certificate to ask for.
+/// Returns the kind of certificate to ask for.
 pub fn fetch_kind(kind: Kind) -> FetchKind
     ensures { result ≡ fetch_kind kind }
 {
@@ -48,21 +52,21 @@ pub fn fetch_kind(kind: Kind) -> FetchKind
     }
 }
 
-/// The other members, who are asked in turn.
+/// The other members, who are asked round-robin.
 #[derive(Clone, Copy)]
 pub struct Peers {
     /// How many others there are.
     others: u32,
-    /// Where this member stands among all of them; behind them where it is none of them.
+    /// The place of this member among all of them; after them if it is none of them.
     me: u32,
 }
 
-/// A fetch that is open.
+/// An outstanding fetch.
 #[derive(Clone, Copy)]
 pub struct Fetch {
     pub kind: FetchKind,
     pub view: View,
-    /// Whose turn it was first, as a place among the others.
+    /// The peer that was asked first, as a place among the others.
     pub first: u32,
     /// How often it was asked for.
     pub count: u64,
@@ -70,7 +74,7 @@ pub struct Fetch {
     pub moment: u64,
 }
 
-/// What is to be asked, and of whom: of no one where there are no others.
+/// The certificate to ask for, and the peer: no one if there are no others.
 #[derive(Clone, Copy)]
 pub struct Ask {
     pub kind: FetchKind,
@@ -79,7 +83,7 @@ pub struct Ask {
 }
 
 impl Peers {
-    /// All of so many members but this one.
+    /// Returns all of this number of members but this one.
     pub fn new(members: u32, me: Option<Participant>) -> Peers
         ensures { result ≡ peers_of members me }
     {
@@ -95,7 +99,7 @@ impl Peers {
         }
     }
 
-    /// The place of a member among the others; the first, where none is named.
+    /// Returns the place of a member among the others; the first place, if none is named.
     fn place_of(self, member: Option<Participant>) -> u32
         ensures { result ≡ place_of self member }
     {
@@ -106,7 +110,7 @@ impl Peers {
         }
     }
 
-    /// Whose turn it is after so many askings, of which the first went to this place: one of the others.
+    /// Returns the peer to ask after this number of askings, if the first went to this place: one of the others.
     fn turn(self, first: u32, count: u64) -> Option<Participant>
         ensures whose { result ≡ whose_turn self first count }
         ensures another { IfSome result (λ member. member ≢ self.me) }
@@ -120,7 +124,7 @@ impl Peers {
     }
 }
 
-/// The fetches that are open, each once.
+/// The outstanding fetches, each once.
 #[derive(Drop)]
 pub struct Fetches {
     peers: Peers,
@@ -132,7 +136,7 @@ pub struct Fetches {
 impl Fetches {
     ghost use Rattle.engine_fetches.specs.Requests.{IsAsking};
 
-    /// None is open. Each is asked again after so many milliseconds.
+    /// Returns an empty list. Each fetch is asked again after `retry` milliseconds.
     pub fn new(alloc: Global, peers: Peers, retry: u64) -> Fetches
         ensures parts { (result.peers ≡ peers) × (result.retry ≡ retry) }
         ensures none { result.wanted.items ≡ [] }
@@ -144,8 +148,8 @@ impl Fetches {
         }
     }
 
-    /// Opens a fetch, which is to be asked for at once: of this member first, where one is named. Answers whether it was
-    /// opened; one that is open stays as it is.
+    /// Opens a fetch, which is due at once: of this member first, if one is named. Returns whether it was opened; one that is open is
+    /// unchanged.
     pub fn open(
         &mut self,
         kind: FetchKind,
@@ -173,7 +177,7 @@ impl Fetches {
         Ok(true)
     }
 
-    /// Closes a fetch: its certificate came.
+    /// Closes a fetch: its certificate arrived.
     pub fn close(&mut self, kind: FetchKind, view: View)
         ensures closed { self.new.wanted.items ≡ filter (λ f. not (is_of kind view f)) self.old.wanted.items }
         ensures same { (self.new.peers ≡ self.old.peers) × (self.new.retry ≡ self.old.retry) }
@@ -191,18 +195,20 @@ impl Fetches {
 
     /// Closes the fetches of this kind of the views from one to another: nothing is left to ask for there.
     pub fn settle(&mut self, kind: FetchKind, first: View, last: View)
-        ensures settled { self.new.wanted.items ≡ filter (λ f. not (is_within kind first last f)) self.old.wanted.items }
+        ensures settled { self.new.wanted.items ≡ filter (λ f. not (is_within kind first last f))
+            self.old.wanted.items }
         ensures same { (self.new.peers ≡ self.old.peers) × (self.new.retry ≡ self.old.retry) }
     {
         self.wanted
             .retain(|fetch| !fetch.is_within(kind, first, last));
     }
 
-    /// The first fetch whose moment has come, and of whom it is asked. It is to be asked for again, of the next peer, after the
-    /// retry interval. An engine asks until there is none.
+    /// Returns the first fetch whose moment has come, and the peer to ask. The fetch is due again, of the next peer, after the retry
+    /// interval. An engine calls this until there is none.
     pub fn ask(&mut self, now: u64) -> Option<Ask>
         ensures asked_again { IsAsking now self.old result self.new }
-        ensures still { (kind : _) (view : ℕ) → is_fetch_open kind view self.new.wanted.items ≡ is_fetch_open kind view self.old.wanted.items }
+        ensures still { (kind : _) (view : ℕ)
+            → is_fetch_open kind view self.new.wanted.items ≡ is_fetch_open kind view self.old.wanted.items }
     {
         let place = due_at(&self.wanted, now)?;
         let fetch = self.wanted[place];
@@ -216,28 +222,28 @@ impl Fetches {
         Some(ask)
     }
 
-    /// Whether the moment of one has come.
+    /// Returns whether the moment of one has come.
     pub fn is_due(&self, now: u64) -> bool
         ensures { result ≡ is_some (due_at now self.now.wanted.items) }
     {
         due_at(&self.wanted, now).is_some()
     }
 
-    /// Whether the fetch is open.
+    /// Returns whether the fetch is open.
     pub fn is_open(&self, kind: FetchKind, view: View) -> bool
         ensures { result ≡ is_fetch_open kind view self.now.wanted.items }
     {
         is_among(&self.wanted, kind, view)
     }
 
-    /// The moment of the next asking; none where no fetch is open.
+    /// Returns the moment of the next asking; `None` if no fetch is open.
     pub fn wake(&self) -> Option<u64>
         ensures { IsEarliest self.now.wanted.items result }
     {
         earliest(&self.wanted)
     }
 
-    /// The open fetches, in the order in which they were opened. No kind and view is open twice.
+    /// Returns the open fetches, in the order in which they were opened. No kind and view is open twice.
     pub fn all(&self) -> &[Fetch]
         ensures all { result.now ≡ self.now.wanted.items }
         ensures once { each_once result.now ≡ true }
@@ -245,7 +251,7 @@ impl Fetches {
         &self.wanted
     }
 
-    /// How many are open.
+    /// Returns how many are open.
     pub fn len(&self) -> usize
         ensures { result ≡ length self.now.wanted.items }
     {
@@ -254,21 +260,21 @@ impl Fetches {
 }
 
 impl Fetch {
-    /// Whether it is the fetch of this kind and view.
+    /// Returns whether it is the fetch of this kind and view.
     fn is_of(&self, kind: FetchKind, view: View) -> bool
         ensures { result ≡ is_of kind view self.now }
     {
         self.kind.is(kind) && self.view == view
     }
 
-    /// Whether it is a fetch of this kind and of a view from one to another.
+    /// Returns whether it is a fetch of this kind and of a view from one to another.
     fn is_within(&self, kind: FetchKind, first: View, last: View) -> bool
         ensures { result ≡ is_within kind first last self.now }
     {
         self.kind.is(kind) && first <= self.view && self.view <= last
     }
 
-    /// The same once it was asked for.
+    /// Returns the same fetch once it was asked for.
     fn asked(&self, now: u64, retry: u64) -> Fetch
         ensures { result ≡ asked_again now retry self.now }
     {
@@ -282,21 +288,21 @@ impl Fetch {
     }
 }
 
-/// Whether the fetch is open.
+/// Returns whether the fetch is open.
 fn is_among(fetches: &[Fetch], kind: FetchKind, view: View) -> bool
     ensures { result ≡ is_fetch_open kind view fetches.now }
 {
     fetches.iter().any(|fetch| fetch.is_of(kind, view))
 }
 
-/// The place of the first fetch whose moment has come.
+/// Returns the place of the first fetch whose moment has come.
 fn due_at(fetches: &[Fetch], now: u64) -> Option<usize>
     ensures { result ≡ due_at now fetches.now }
 {
     fetches.iter().position(|fetch| fetch.moment <= now)
 }
 
-/// The earliest moment of an asking.
+/// Returns the earliest moment of an asking.
 fn earliest(fetches: &[Fetch]) -> Option<u64>
     ensures { IsEarliest fetches.now result }
 {
@@ -307,7 +313,7 @@ fn earliest(fetches: &[Fetch]) -> Option<u64>
     earliest
 }
 
-/// The earlier one of two moments.
+/// Returns the earlier of two moments.
 fn first_of(earliest: Option<u64>, moment: u64) -> u64
     ensures { result ≡ first_of earliest moment }
 {

@@ -1,4 +1,4 @@
-//! Fetches of certificates that are open, each asked again of the next peer until it is closed, and the resolver behind them.
+//! The outstanding fetches of certificates, each asked again of the next peer until it is closed, and the resolver that decides them.
 #![tactic(auto)]
 
 pub mod fetches;

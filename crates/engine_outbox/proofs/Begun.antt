@@ -1,5 +1,4 @@
--- For `Journaled::begin`.
--- A life begins with its whole record queued.
+-- For `Journaled::begin`. A lifetime begins with its whole record queued.
 use Rattle.std.proofs.Common.{◌≡◌, ◌∙◌, ◌-◌, ◌^◌, arith, ℕ, true, false, List, [], ◌∷◌, ◌++◌, length, refl, ap, sym, subst}
 use Rattle.std.specs.Prelude.{IfSome}
 use Rattle.simplex_types.specs.declared.types.messages.Artifact.{Artifact}

@@ -1,4 +1,4 @@
--- Votes behind what stores them.
+-- Votes after what stores them.
 use Rattle.std.proofs.Common.{◌≡◌, List, [], ◌∷◌, ◌++◌, map, Option, Some, None, Vec, refl, ap, sym, ◌∙◌, append_assoc, append-nil}
 use Rattle.std.specs.Prelude.{Contains, IfSome, option_to_list}
 use Rattle.std.specs.Option.{option_map_or}
@@ -54,7 +54,7 @@ module _ {S D J K G C : Type 0} where
   stored_in-append [] ys = refl
   stored_in-append (x ∷ xs) ys = ap (λ es. entries_in x ++ es) (stored_in-append xs ys) ∙ sym (append_assoc (entries_in x) (stored_in xs) (stored_in ys))
 
-  -- one list of outputs behind another
+  -- one list of outputs after another
   pub joined : (stored : List (Artifact S D K G C)) (xs ys : List (Output S D J K G C)) → AreBehind stored xs → AreBehind (stored ++ stored_in xs) ys → AreBehind stored (xs ++ ys)
   joined stored [] ys front back = rw append-nil at back
   joined stored (x ∷ xs) ys front back = (front.0, joined (stored ++ entries_in x) xs ys front.1 (rw (append_assoc stored (entries_in x) (stored_in xs)) back))
@@ -70,7 +70,7 @@ module _ {S D K G C : Type 0} (J : Type 0) where
   votes_follow before (v ∷ vs) stored are =
       (rw are (contains_seam before v vs), rw append-nil (votes_follow (before ++ v ∷ []) vs stored (are ∙ sym (append_assoc before (v ∷ []) vs))))
 
-  -- entries, and behind them the votes among them
+  -- entries, and after them the votes among them
   pub storing_behind : (stored : List (Artifact S D K G C)) (entries : Vec (Artifact S D K G C) Global) → AreBehind {J = J} stored (storing entries)
   storing_behind stored entries = (tt, votes_follow (votes_of_entries stored) (votes_of_entries entries.items) (stored ++ entries.items) (votes_in-append stored entries.items))
 

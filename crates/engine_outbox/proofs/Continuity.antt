@@ -1,5 +1,4 @@
--- For the code of the engine.
--- A member with its outbox goes on, step by step.
+-- For the code of the engine. A member with its outbox continues, step by step.
 use Rattle.std.proofs.Common.{◌≡◌, ◌∙◌, refl, ℕ, Bool, List, [], ◌++◌, sym, subst, append_assoc, append-nil, Option, None, Result, Ok, Err}
 use Rattle.std.specs.Prelude.{IfOk}
 use Rattle.std.proofs.lemmas.List.Elements.{All-append, All-nil}
@@ -92,7 +91,7 @@ pub does_more : {S L D K G C : Type 0} {same : D → D → Bool} {elect : Elect 
 does_more {same = same} {elect = elect} {taken = taken} a b c went is =
     subst (λ member. ExtendsHistoryOn same elect taken a.member.facts member.facts) (sym is) (record { more = went.more; on_this = went.on_this; done = went.done })
 
--- where nothing is given out
+-- where nothing is returned
 pub gives_nothing : {S L D K G C : Type 0} {same : D → D → Bool} {elect : Elect L} {bytes_of : C → List ℕ} {is_signature : K → Subject D → G → Type 0} {taken : Option (Subject D)}
     {a b : Journaled S L D K G C} → Continues same elect bytes_of is_signature taken a b → HasReturned bytes_of [] a b
 gives_nothing {bytes_of = bytes_of} {b = b} went given kept = subst (λ outs. IsJournaled bytes_of outs b) (sym (append-nil given)) (went.kept given kept)
@@ -104,7 +103,7 @@ does_nothing_more {same = same} {elect = elect} {taken = taken} a b is =
     subst (λ member. ExtendsHistoryOn same elect taken a.member.facts member.facts) (sym is)
     (record { more = []; on_this = All-nil (IsActionOn taken); done = does_nothing a.member.facts })
 
--- no more is told as final than was queued, where no certificate is accepted
+-- no more is reported as final than was queued, where no certificate is accepted
 module _ {S L D K G C : Type 0} {same : D → D → Bool} {elect : Elect L} {bytes_of : C → List ℕ} {is_signature : K → Subject D → G → Type 0} (a b : Journaled S L D K G C) (went : Continues same elect bytes_of is_signature None a b) where
   pub tells_no_other : ReportsNoMore [] a.outbox b.outbox
   tells_no_other = tells_nothing (finals_by went.more) a.outbox b.outbox (none_finalized went.more went.on_this) went.told
@@ -124,7 +123,7 @@ made_on S K G bytes_of (subject.Nullify _) c = refl
 made_on S K G bytes_of (subject.Finalize _) c = refl
 
 module _ {S L D K G C : Type 0} {same : D → D → Bool} {elect : Elect L} {bytes_of : C → List ℕ} {is_signature : K → Subject D → G → Type 0} {taken : Option (Subject D)} where
-  -- what it has done, and then what is given out
+  -- what it has done, and then what is returned
   pub gives_then : {a b : Journaled S L D K G C} (c : Journaled S L D K G C) (out : List (Output S D Stored K G C)) → Continues same elect bytes_of is_signature taken a b
       → EmitsTraced same elect bytes_of out b c → EmitsSigned is_signature out b c → c.member ≡ b.member → EmitsOn same elect bytes_of is_signature taken out a c
   gives_then {a = a} c out went gives signs is = record {
@@ -135,13 +134,13 @@ module _ {S L D K G C : Type 0} {same : D → D → Bool} {elect : Elect L} {byt
     signed = λ i key given signed. signs i key given (went.signed i key given signed);
   }
 
-  -- nothing is given out
+  -- nothing is returned
   pub gives_none : {a b : Journaled S L D K G C} → Continues same elect bytes_of is_signature taken a b → EmitsOn same elect bytes_of is_signature taken [] a b
   gives_none {b = b} went = gives_then b [] went
       (λ term_length i earlier given all traced. subst (λ outs. IsTraced same elect bytes_of term_length i earlier outs all b) (sym (append-nil given)) traced)
       (λ i key given signed. subst (λ outs. IsSignedBy is_signature i key outs b) (sym (append-nil given)) signed) refl
 
-  -- nothing was queued any more, and so it goes on
+  -- nothing more was queued, and so it continues
   pub gives_later : {a b c : Journaled S L D K G C} (out : List (Output S D Stored K G C)) → EmitsTraced same elect bytes_of [] a b → EmitsSigned is_signature [] a b → b.member ≡ a.member
       → EmitsOn same elect bytes_of is_signature taken out b c → EmitsOn same elect bytes_of is_signature taken out a c
   gives_later {a = a} {b = b} {c = c} out none unsigned is gives = record {

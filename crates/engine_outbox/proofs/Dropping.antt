@@ -1,4 +1,4 @@
--- What calls of no use leave of a member.
+-- What ignored calls change of a member.
 use Rattle.std.proofs.Common.{◌≡◌, refl, ap, sym, ◌∙◌, ℕ, eqb, Bool, true, false, not, ◌&&◌, cond, ◌++◌, append-nil, Option, Some, None, is_some, unwrap_or, inl, inr}
 use Rattle.std.specs.Option.{option_map_or}
 use Rattle.std.specs.Prelude.{option_and_then}
@@ -47,7 +47,7 @@ module _ {K L D : Type 0} (x : StateFacts K L D) (view : ℕ) (reason : TimeoutR
   abbrev latched : RoundFacts K D
   latched = with_latch (round_of x view) now reason
 
-  -- the round is put where it stands
+  -- the round is put in its place
   stands_still : can_trigger x view reason ≡ true → has_no_latch (round_of x view).decision ≡ false → (other : ℕ) → find nat_cmp other (put nat_cmp view latched x.rounds) ≡ find nat_cmp other x.rounds
   stands_still can waits other =
       find-put nat_cmp nat_cmp_total other view latched x.rounds ∙ ap (λ b. cond b (Some latched) (find nat_cmp other x.rounds)) (is_eq-nat_cmp other view) ∙ by_view (eqb other view) refl
@@ -142,7 +142,7 @@ module _ {K L D : Type 0} (same : D → D → Bool) (elect : Elect L) where
       inr (verdict_noted same elect x m view success now left alive allowed (none_judged K success (certified_answer x view) (sym (ap says_nothing tells) ∙ says)) leaves)
   answered_left x m left _ told alive allowed tells leaves says = absurd (false≢true (sym (ap says_nothing tells) ∙ says))
 
-  -- a call of no use
+  -- an ignored call
   pub dropped_left : (m left : MemberFacts K L D) (call : CallFacts D) (told : ReplyFacts K D) → IsCall same elect m call told left → says_nothing told ≡ true → IsLeftByCall call m left
   unfolding IsCall
   dropped_left m left call told is_call says = by_life m.life refl is_call

@@ -1,5 +1,4 @@
--- For the code of the engine.
--- Each vote that is stored leaves, behind one output after the other.
+-- For the code of the engine. Each stored vote leaves, by one output after the other.
 use Rattle.std.proofs.Common.{◌≡◌, ◌⊎◌, inl, inr, Bool, true, false, cond, nat_lt, List, [], ◌∷◌, ◌++◌, map, filter, Option, Some, None, Vec, zero, suc, refl, ap, sym, subst, ◌∙◌, append_assoc, append-nil, arith}
 use Rattle.std.specs.Prelude.{Contains, option_to_list}
 use Rattle.std.specs.List.{flat_map}
@@ -101,7 +100,7 @@ module _ {S D J K G C : Type 0} where
 -- ---- one output after the other
 
 module _ {S D J K G C : Type 0} where
-  -- behind others, where each vote that these outputs store leaves among them, or was stored before
+  -- after others, where each vote that these outputs store leaves among them, or was stored before
   pub leave_behind : (outs more : List (Output S D J K G C))
       → ((vote : Vote D G) → Contains (votes_of_entries (stored_in more)) vote → Contains (votes_of_entries (stored_in outs)) vote ⊎ Contains more (output.Vote vote))
       → AllAreReturned more → AllAreReturned outs → AllAreReturned (outs ++ more)
@@ -131,7 +130,7 @@ module _ {S D J K G C : Type 0} where
       leave_behind outs (out ∷ []) (λ vote has. none_in vote (subst (λ es. Contains (votes_of_entries es) vote) (append-nil (entries_in out) ∙ plain) has))
       (λ vote has. none_in vote has) before
 
-  -- entries, and behind them the votes among them
+  -- entries, and after them the votes among them
   pub leave_stored : (outs : List (Output S D J K G C)) (entries : Vec (Artifact S D K G C) Global) → AllAreReturned outs → AllAreReturned (outs ++ storing entries)
   leave_stored outs entries before =
       leave_behind outs (storing entries)
@@ -160,7 +159,7 @@ module _ {S D J K G C : Type 0} where
       leave_behind outs (output.Replace entries beside ∷ []) (λ vote has. inl (old vote (subst (λ es. Contains (votes_of_entries es) vote) (append-nil entries.items) has)))
       (λ vote has. none_in vote has) before
 
-  -- a life begins with one
+  -- a lifetime begins with one
   pub leave_begun : (entries : Vec (Artifact S D K G C) Global) (beside : J) → AllAreReturned {S = S} {K = K} (output.Replace entries beside ∷ [])
   leave_begun entries beside = λ vote has. none_in vote has
 
@@ -171,7 +170,7 @@ module _ {S D J K G C : Type 0} where
       (leave_plain (given ++ old.queue.items) (output.Finalized p) refl before)
   leave_told_where given old new p false is before = subst (λ q. AllAreReturned (given ++ q)) (sym is.0) before
 
-  -- a proposal that is final, where one is told
+  -- a proposal that is final, where one is reported
   pub leave_told : (given : List (Output S D J K G C)) (old new : Outbox S D J K G C) (finalized : Option (Proposal D)) → IsTold finalized old new
       → AllAreReturned (given ++ old.queue.items) → AllAreReturned (given ++ new.queue.items)
   leave_told given old new None is before = subst (λ q. AllAreReturned (given ++ q)) (sym is.0) before

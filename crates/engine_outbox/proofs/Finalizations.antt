@@ -1,5 +1,4 @@
--- For the code of the engine.
--- Proposals that are told as final, by what was done.
+-- For the code of the engine. Proposals that are reported as final, by what was done.
 use Rattle.std.proofs.Common.{◌≡◌, ◌∙◌, ◌<◌, inl, inr, refl, ap, sym, subst, ℕ, zero, Bool, true, false, cond, max, nat_lt, List, [], ◌∷◌, ◌++◌, map, Option, Some, None, Vec, append_assoc, append-nil, arith}
 use Rattle.std.specs.Prelude.{All, Contains, option_to_list}
 use Rattle.std.specs.declared.alloc.Global.{Global}
@@ -34,7 +33,7 @@ module _ (S J K C : Type 0) {D G : Type 0} where
   votes_tell_none [] = refl
   votes_tell_none (v ∷ vs) = votes_tell_none vs
 
--- entries, and the votes behind them
+-- entries, and the votes after them
 pub storing_tells_none : {S D K G C : Type 0} (J : Type 0) (entries : Vec (Artifact S D K G C) Global) → finals_in {J = J} (storing entries) ≡ []
 storing_tells_none {S = S} {K = K} {C = C} J entries = votes_tell_none S J K C (votes_of_entries entries.items)
 
@@ -69,7 +68,7 @@ module _ {D : Type 0} where
   by_accepting (Accepts (subject.Nullify round) ∷ rest) p has = Contains-cons_rest (Accepts (subject.Nullify round)) rest (Accepts (subject.Finalize p)) (by_accepting rest p has)
   by_accepting (Signs signer vote ∷ rest) p has = Contains-cons_rest (Signs signer vote) rest (Accepts (subject.Finalize p)) (by_accepting rest p has)
 
-  -- those that are told are among them
+  -- those that are reported are among them
   rising_within : (view : ℕ) (finals : List (Proposal D)) (p : Proposal D) → Contains (rising_above view finals) p → Contains finals p
   rising_within view [] p has = has
   rising_within view (q ∷ rest) p has = by_test (λ v. rising_within v rest p) (nat_lt view q.round.view) has
@@ -114,7 +113,7 @@ module _ {D : Type 0} where
       by_test rest false e = rest view ∙ ap (λ v. rising_above view xs ++ rising_above (raised_to v xs) ys) (sym (max_below view x.round.view e))
 
 module _ {S D J K G C : Type 0} where
-  -- nothing is told
+  -- nothing is reported
   pub tells_none : (old new : Outbox S D J K G C) → finals_in new.queue.items ≡ finals_in old.queue.items → new.told ≡ old.told → ReportsRising [] old new
   tells_none old new queued told = record { queued = queued ∙ sym (append-nil (finals_in old.queue.items)); told = told }
 
@@ -127,7 +126,7 @@ module _ {S D J K G C : Type 0} where
     told = become.told_is;
   }
 
-  -- where each was accepted, and those are told that are accepted besides, each still was
+  -- where each was accepted, and those are reported that are accepted besides, each still was
   pub accepted_rising : (given : List (Output S D J K G C)) (old new : Outbox S D J K G C) (all more : List (TraceEvent D)) → ReportsRising (finals_by more) old new
       → WereAccepted all (finals_in (given ++ old.queue.items)) → WereAccepted (all ++ more) (finals_in (given ++ new.queue.items))
   accepted_rising given old new all more tells accepted p has =
@@ -166,12 +165,12 @@ module _ {S D J K G C : Type 0} where
     told = is.2 ∙ sym (max_below old.told p.round.view e);
   }
 
-  -- one is told, or none
+  -- one is reported, or none
   pub told_tells : (finalized : Option (Proposal D)) (old new : Outbox S D J K G C) → IsTold finalized old new → ReportsRising (option_to_list finalized) old new
   told_tells None old new is = stayed_tells old new is
   told_tells (Some p) old new is = told_where p old new (nat_lt old.told p.round.view) refl is
 
-  -- nothing is given out, and then this is
+  -- nothing is returned, and then this is
   pub tells_no_more : (finals : List (Proposal D)) (out : List (Output S D J K G C)) (a b c : Outbox S D J K G C) → finals ≡ [] → ReportsRising finals a b → ReportsNoMore out b c → ReportsNoMore out a c
   tells_no_more finals out a b c none first second =
       let nothing : ReportsRising [] a b = subst (λ ps. ReportsRising ps a b) none first in
@@ -183,6 +182,6 @@ module _ {S D J K G C : Type 0} where
   pub tells_nothing : (finals : List (Proposal D)) (a b : Outbox S D J K G C) → finals ≡ [] → ReportsRising finals a b → ReportsNoMore [] a b
   tells_nothing finals a b none first = tells_no_more finals [] a b b none first (record { queued = refl; told = refl })
 
-  -- after nothing was given out
+  -- after nothing was returned
   pub tells_still : (out : List (Output S D J K G C)) (a b c : Outbox S D J K G C) → ReportsNoMore [] a b → ReportsNoMore out b c → ReportsNoMore out a c
   tells_still out a b c first second = record { queued = first.queued ∙ second.queued; told = second.told ∙ first.told }

@@ -82,7 +82,7 @@ module _ {K D : Type 0} where
   event_none o _ none = refl
 
 module _ {K L D : Type 0} where
-  -- the last finalized view is the raised_to of the one before and of those that the call finalizes
+  -- the last finalized view is the highest of the one before and of those that the call finalizes
   abbrev pub Finalizes : CallFacts D → ReplyFacts K D → StateFacts K L D → StateFacts K L D → Type 0
   Finalizes call t x y = y.finalized ≡ raised_to x.finalized (finals_by (accepted_by call t ++ signed_in t))
 
@@ -110,7 +110,7 @@ module _ {K L D : Type 0} (same : D → D → Bool) (elect : Elect L) where
   call_finalizes : (m : MemberFacts K L D) (call : CallFacts D) (t : ReplyFacts K D) (left : MemberFacts K L D) → IsCall same elect m call t left → WhileAlive (Finalizes call t) m.life left.life
   call_finalizes = each_call same elect Finalizes (λ call fault x. refl) (λ call x. refl) (λ call x o allowed. by_hands x o call allowed (hands call))
 
-  -- the raised_to view that was told stays the last finalized one
+  -- the highest view that was reported stays the last finalized one
   last_told : (finals : List (Proposal D)) (life next : Option (StateFacts K L D)) (before after : ℕ) → IfSome life (λ x. before ≡ x.finalized)
       → WhileAlive (λ x y. y.finalized ≡ raised_to x.finalized finals) life next → after ≡ raised_to before finals → IfSome next (λ y. after ≡ y.finalized)
   last_told finals life None before after told goes is = tt
@@ -140,7 +140,7 @@ module _ {S D K G C : Type 0} where
   final_events call (reply.Finalize (Some vote)) finalized hands = refl
   final_events call _ finalized hands = refl
 
-  -- nothing is, where no finalization is handed in
+  -- nothing is, where no finalization is passed in
   pub final_none : (call : Call S D K G C) (r : Reply S D K G C) → finals_by (certificates_in call) ≡ [] → finals_by (taken_by call r ++ votes_in r) ≡ []
   final_none call r none = final_events call r None none ∙ ap option_to_list (nothing r)
     where

@@ -1,5 +1,4 @@
--- For the code of the engine.
--- That a host may stop behind each output that is queued, one behind the other, and amid each `Store`.
+-- For the code of the engine. A host may stop after each output that is queued, one after the other, and amid each `Store`.
 use Rattle.std.proofs.Common.{◌≡◌, ◌∙◌, ◌⊎◌, inl, inr, refl, ap, sym, subst, ℕ, Bool, true, false, nat_lt, List, [], ◌∷◌, ◌++◌, map, filter, Option, Some, None, Vec, append_assoc, append-nil, arith}
 use Rattle.std.specs.Prelude.{Contains}
 use Rattle.std.specs.declared.alloc.Global.{Global}
@@ -116,7 +115,7 @@ module _ {S L D K G C : Type 0} (same : D → D → Bool) (elect : Elect L) (byt
     signed = subst (λ es. WereSigned (earlier ++ may.since) (votes_of_entries es)) same_stored may.signed;
   }
 
-  -- so it is with one more behind these
+  -- the same with one more after these
   pub stop_alike_then : (all : List (TraceEvent D)) (outs others : List (Output S D Stored K G C)) (out : Output S D Stored K G C) → journal_of outs ≡ journal_of others
       → stored_in outs ≡ stored_in others → MayStopAfter same elect bytes_of term_length i earlier all (outs ++ out ∷ []) → MayStopAfter same elect bytes_of term_length i earlier all (others ++ out ∷ [])
   stop_alike_then all outs others out same_journal same_stored =
@@ -125,7 +124,7 @@ module _ {S L D K G C : Type 0} (same : D → D → Bool) (elect : Elect L) (byt
       (stored_in-append outs (out ∷ []) ∙ ap (λ es. es ++ (entries_in out ++ [])) same_stored ∙ sym (stored_in-append others (out ∷ [])))
 
   module _ (all : List (TraceEvent D)) where
-    -- behind all of them
+    -- after all of them
     pub stop_last : (outs : List (Output S D Stored K G C)) → MayStopAfterEach same elect bytes_of term_length i earlier all outs → MayStopAfter same elect bytes_of term_length i earlier all outs
     stop_last [] may = absurd may
     stop_last (first ∷ rest) may = may rest (inl ([], sym (append-nil rest)))
@@ -136,7 +135,7 @@ module _ {S L D K G C : Type 0} (same : D → D → Bool) (elect : Elect L) (byt
         (entries part : Vec (Artifact S D K G C) Global) (rest : List (Artifact S D K G C)) → out ≡ output.Store entries → entries.items ≡ part.items ++ rest
         → MayStopAfter same elect bytes_of term_length i earlier all (outs ++ output.Store part ∷ [])
 
-    -- behind one more
+    -- after one more
     pub stops_further : (outs : List (Output S D Stored K G C)) (out : Output S D Stored K G C) → MayStopAfterEach same elect bytes_of term_length i earlier all outs
         → MayStopAfter same elect bytes_of term_length i earlier all (outs ++ out ∷ []) → StopsIn outs out → MayStopAfterEach same elect bytes_of term_length i earlier all (outs ++ out ∷ [])
     stops_further [] out before may within = absurd before
@@ -214,7 +213,7 @@ module _ {S L D K G C : Type 0} (same : D → D → Bool) (elect : Elect L) (byt
           (signed_both all (votes_of_entries (stored_in outs)) (votes_of_entries (entries_in out)) before new));
     }
 
-    -- so it does behind others that one may stop behind
+    -- it does so after others that one may stop after
     pub stop_anew : (outs : List (Output S D Stored K G C)) (out : Output S D Stored K G C) (member : SignedMember K L D G) → MayStopAfter same elect bytes_of term_length i earlier all outs
         → HasHistory same elect term_length i all member.facts → IsRecordOf bytes_of member (journal_of (outs ++ out ∷ [])) → WereSigned all (votes_of_entries (entries_in out)) → MayStopAfter same elect bytes_of term_length i earlier all (outs ++ out ∷ [])
     stop_anew outs out member may done holds new =
@@ -249,7 +248,7 @@ module _ {S L D K G C : Type 0} (same : D → D → Bool) (elect : Elect L) (byt
           (stop_anew outs (output.Replace entries (stored_of member.facts)) member (stop_last outs before) done (replaced_now outs) signed_in_all)
           (λ others part rest is parted. absurd (cc))
 
-    -- a proposal is told as final, or nothing is
+    -- a proposal is reported as final, or nothing is
     told_where : (given : List (Output S D Stored K G C)) (old new : Outbox S D Stored K G C) (p : Proposal D) (is_above : Bool) → IsPassedIf is_above p old new
         → MayStopAfterEach same elect bytes_of term_length i earlier all (given ++ old.queue.items) → MayStopAfterEach same elect bytes_of term_length i earlier all (given ++ new.queue.items)
     told_where given old new p true is before =
@@ -271,7 +270,7 @@ module _ {S L D K G C : Type 0} (same : D → D → Bool) (elect : Elect L) (byt
         let tail : others ≡ rest = cc in
         subst (λ o. MayStopAfter same elect bytes_of term_length i earlier all (o ∷ carried)) head (may carried (subst (λ outs. MayBeCarriedOut outs carried) (sym tail) was))
 
-    -- what was carried out is behind what stores it
+    -- what was carried out comes after what stores it
     carried_behind : (first : Output S D Stored K G C) (rest carried : List (Output S D Stored K G C)) → AreBehind [] (first ∷ rest) → MayBeCarriedOut rest carried → AreBehind [] (first ∷ carried)
     carried_behind first rest carried behind (inl (back, is)) = beginning [] (first ∷ carried) back (subst (λ outs. AreBehind [] (first ∷ outs)) is behind)
     carried_behind first rest carried behind (inr torn) =
@@ -287,7 +286,7 @@ module _ {S L D K G C : Type 0} (same : D → D → Bool) (elect : Elect L) (byt
           votes = λ vote has. stop.signed vote (left_stored [] (first ∷ carried) (carried_behind first rest carried (subst (AreBehind []) is behind) was) vote has);
         }
 
--- a life begins with a whole record
+-- a lifetime begins with a whole record
 module _ {S L D K G C : Type 0} (same : D → D → Bool) (elect : Elect L) (bytes_of : C → List ℕ) (term_length i : ℕ) (earlier : List (TraceEvent D)) where
   pub stops_begun : (entries : Vec (Artifact S D K G C) Global) (member : SignedMember K L D G) → HasHistory same elect term_length i earlier member.facts → WereSigned earlier (votes_recorded member.votes)
       → entries_of bytes_of entries.items ≡ member.facts.entries → votes_of entries.items ≡ member.votes

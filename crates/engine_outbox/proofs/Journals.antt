@@ -32,7 +32,7 @@ module _ {S D J K G C : Type 0} where
   votes_unwritten journal [] = refl
   votes_unwritten journal (v ∷ vs) = votes_unwritten journal vs
 
-  -- behind others
+  -- after others
   pub behind_others : (outs more : List (Output S D J K G C)) → journal_of (outs ++ more) ≡ written_all (journal_of outs) more
   behind_others outs more = written-append empty_journal outs more
 
@@ -114,7 +114,7 @@ module _ {S L D K G C : Type 0} (bytes_of : C → List ℕ) (m : SignedMember K 
       ∙ ap (drop (length (votes_of journal.entries))) begun.votes
       ∙ drop-append_seam (votes_of journal.entries) begun.votes_left
 
-  -- with all that is behind it is the record
+  -- with all that is after it is the record
   pub with_all_behind : (copies : List (Artifact S D K G C)) → entries_of bytes_of copies ≡ drop count m.facts.entries → votes_of copies ≡ votes_since count m
       → IsRecordOf bytes_of m (record { entries = journal.entries ++ copies; beside = journal.beside })
   with_all_behind copies copied voted = record {
@@ -124,7 +124,7 @@ module _ {S L D K G C : Type 0} (bytes_of : C → List ℕ) (m : SignedMember K 
   }
 
   module _ (all : List (Artifact S D K G C)) (all_entries : entries_of bytes_of all ≡ m.facts.entries) (all_votes : votes_of all ≡ m.votes) where
-    -- as many of what is behind are votes
+    -- as many of the later ones are votes
     pub votes_behind_counted : length (filter is_vote begun.rest) ≡ length begun.votes_left
     votes_behind_counted =
         let held_votes = votes_counted bytes_of journal.entries in
@@ -134,7 +134,7 @@ module _ {S L D K G C : Type 0} (bytes_of : C → List ℕ) (m : SignedMember K 
         ∙ votes_counted bytes_of all ∙ ap length (all_votes ∙ begun.votes) ∙ length-append (votes_of journal.entries) begun.votes_left in
         omega (arith, held_votes, all_counted)
 
-    -- what was behind is stored too
+    -- the later ones were stored too
     pub stored_too : (copies : List (Artifact S D K G C)) → entries_of bytes_of copies ≡ drop count m.facts.entries → votes_of copies ≡ votes_since count m
         → IsBeginningOf bytes_of m (length all) (record { entries = journal.entries ++ copies; beside = journal.beside })
     stored_too copies copied voted =
@@ -152,7 +152,7 @@ module _ {S L D K G C : Type 0} (bytes_of : C → List ℕ) (m : SignedMember K 
           beside = begun.beside;
         }
 
-    -- nothing is behind
+    -- nothing comes after
     pub is_record : length m.facts.entries ≤ count → IsRecordOf bytes_of m journal
     is_record whole =
         let no_rest : begun.rest ≡ [] = sym entries_left ∙ drop_all count m.facts.entries whole in

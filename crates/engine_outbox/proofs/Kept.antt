@@ -36,7 +36,7 @@ use Rattle.engine_outbox.specs.EmittedVotes.{AllAreReturned}
 use Rattle.engine_outbox.specs.RecordReach.{ReachesTo}
 use Rattle.engine_outbox.proofs.RecordReach.{reaches_still}
 
--- the last finalized view is the highest one that was told
+-- the last finalized view is the highest one that was reported
 abbrev pub HasToldLast : {S L D K G C : Type 0} → Journaled S L D K G C → Type 0
 HasToldLast member = IfSome member.member.facts.life (λ x. member.outbox.told ≡ x.finalized)
 
@@ -52,7 +52,7 @@ module _ {S L D K G C : Type 0} (bytes_of : C → List ℕ) (old new : Journaled
   abbrev before : List (Output S D Stored K G C) → List (Output S D Stored K G C)
   before given = given ++ old.outbox.queue.items
 
-  -- what is queued behind
+  -- what is queued after
   queued : (given more : List (Output S D Stored K G C)) (repeat : Option (Vote D G)) → HasBecome more repeat old.outbox new.outbox → given ++ new.outbox.queue.items ≡ before given ++ more
   queued given more repeat become = ap (λ q. given ++ q) become.queue ∙ sym (append_assoc given old.outbox.queue.items more)
 
@@ -65,7 +65,7 @@ module _ {S L D K G C : Type 0} (bytes_of : C → List ℕ) (old new : Journaled
   journal_told given None is = ap (λ q. journal_of (given ++ q)) is.0
   journal_told given (Some p) is = journal_where given p (nat_lt old.outbox.told p.round.view) is
 
-  -- a call, and what is told as final by it
+  -- a call, and what it reports as final
   pub called : new.stored ≡ old.stored → new.reach ≡ old.reach → new.failed ≡ old.failed → HasGrown old.member.facts new.member.facts
       → (votes : List (SignedVote D G)) → new.member.votes ≡ old.member.votes ++ votes → stored_of new.member.facts ≡ stored_of old.member.facts
       → ((given : List (Output S D Stored K G C)) → IsLawfulOutbox given old.outbox → IsLawfulOutbox given new.outbox)
@@ -191,7 +191,7 @@ module _ {S L D K G C : Type 0} (bytes_of : C → List ℕ) (old new : Journaled
       (λ vote has. was_stored (before given) vote (none_is_new (λ v. stays (entry_view v.vote)) (journal_of (before given)).entries is.0.items is_left vote has))
       emitted)
 
-  -- nothing more is given out
+  -- nothing more is returned
   pub ended : new.failed ≡ true → (ReachesTo old.reach old.stored old.member.facts.entries → ReachesTo new.reach new.stored new.member.facts.entries) → ((given : List (Output S D Stored K G C)) → IsLawfulOutbox given old.outbox → IsLawfulOutbox given new.outbox) → (HasToldLast old → HasToldLast new) → Keeps
   ended failed reaches lawful last given kept = record { lawful = lawful given kept.lawful; stored = λ lives. cc; emitted = λ lives. cc; told = last kept.told; reaching = reaches kept.reaching }
 

@@ -105,7 +105,7 @@ module _ {S D J K G C : Type 0} (given : List (Output S D J K G C)) (old new : O
   told_lawful None is = stayed_lawful is
   told_lawful (Some p) is = told_where p (nat_lt old.told p.round.view) refl is
 
-  -- what is given out
+  -- what is returned
   pub given_lawful : (out : Option (Output S D J K G C)) → old.queue.items ≡ option_to_list out ++ new.queue.items → new.repeat ≡ old.repeat → new.told ≡ old.told → IsLawfulOutbox (given ++ option_to_list out) new
   given_lawful out front same same_told =
       let outs : before ≡ (given ++ option_to_list out) ++ new.queue.items = ap (λ q. given ++ q) front ∙ sym (append_assoc given (option_to_list out) new.queue.items) in

@@ -1,5 +1,4 @@
--- For the code of the outbox.
--- What was queued stays, with more behind it.
+-- For the code of the outbox. What was queued stays, with more after it.
 use Rattle.std.proofs.Common.{◌∙◌, ap, sym, ℕ, Bool, true, false, nat_lt, List, [], ◌∷◌, ◌++◌, append_assoc, append-nil, Option, Some, None}
 use Rattle.simplex_types.specs.declared.types.messages.Proposal.{Proposal}
 use Rattle.engine_outbox.specs.declared.outbox.Outbox.{Outbox}
@@ -12,7 +11,7 @@ module _ {S D J K G C : Type 0} where
   pub queues_none : (a : Outbox S D J K G C) → QueuesMore a a
   queues_none a = record { more = []; queue_is = sym (append-nil a.queue.items) }
 
-  -- what is queued behind more
+  -- what is queued after more
   pub queues_further : {a b c : Outbox S D J K G C} → QueuesMore a b → QueuesMore b c → QueuesMore a c
   queues_further {a = a} first second = record {
     more = first.more ++ second.more;

@@ -30,7 +30,7 @@ module _ {D : Type 0} where
       All-cons (λ f. lowest_of (min view (entry_view e)) rest ≤ entry_view f) e rest (omega (arith, lowest_at_most (min view (entry_view e)) rest)) (lowest_under (min view (entry_view e)) rest)
 
 module _ {K L D : Type 0} where
-  -- a record that has grown behind them
+  -- a record that has grown after them
   pub reaches_still : (reach stored : ℕ) (old new : MemberFacts K L D) → HasGrown old new → ReachesTo reach stored old.entries → ReachesTo reach stored new.entries
   reaches_still reach stored old new grown reaches =
       subst (ReachesTo reach stored) (sym grown.1)
@@ -71,13 +71,13 @@ module _ {D : Type 0} where
       by_length false few far = inl (grind (arith, nat_tests, few))
       by_length true many far = inr (near_by reach lowest current entries far (reaches.lowest ∙ ap (lowest_of (2 ^ 64 - 1)) (take_all stored entries whole)))
 
--- what a test that fails says of a life, where there is one
+-- what a test that fails says of a lifetime, where there is one
 pub while_alive : {K L D : Type 0} (life : Option (StateFacts K L D)) (test : StateFacts K L D → Bool) (Holds : StateFacts K L D → Type 0)
     → ((x : StateFacts K L D) → test x ≡ false → Holds x) → option_map_or test life false ≡ false → IfSome life Holds
 while_alive None test Holds each fails = tt
 while_alive (Some x) test Holds each fails = each x fails
 
--- where a view is not far below the one that is kept, it isn't below a lower one
+-- where a view is not far below the retained one, it isn't below a lower one
 pub nearer : (reach active kept current : ℕ) → is_far_below reach active current ≡ false → false ≡ is_far_below reach (min active kept) current
 nearer reach active kept current near =
     let within : active - reach ≤ current - active = grind (arith, nat_tests, near) in

@@ -1,5 +1,4 @@
--- For the code of the engine.
--- That a host which stops between any two outputs goes on lawfully.
+-- For the code of the engine. A host that stops between any two outputs continues lawfully.
 use Rattle.std.proofs.Common.{◌≡◌, ◌∙◌, ap, sym, subst, ℕ, Bool, List, ◌++◌, append_assoc, Option, Some}
 use Rattle.std.specs.Prelude.{Contains}
 use Rattle.std.proofs.lemmas.List.Elements.{Contains-append_left}

@@ -1,5 +1,4 @@
--- For the code of the engine.
--- That each vote which is stored is signed under one key, one output behind the other.
+-- For the code of the engine. Each stored vote is signed under one key, in one output after the other.
 use Rattle.std.proofs.Common.{◌≡◌, ◌∙◌, refl, ap, sym, subst, inl, inr, ℕ, zero, Bool, true, false, nat_lt, List, [], ◌∷◌, ◌++◌, filter, Option, Some, None, append_assoc, append-nil, arith}
 use Rattle.std.specs.Prelude.{Contains, IfSome, slice_get}
 use Rattle.std.proofs.lemmas.List.Elements.{Contains-append_cases}
@@ -57,7 +56,7 @@ module _ {K D G : Type 0} (is_signature : K → Subject D → G → Type 0) (i :
       just : {a b : K} → Some a ≡ Some b → a ≡ b
       just e = cc
 
-  -- a vote that is answered
+  -- a vote that is returned
   pub answer_signed : {S L C : Type 0} (bytes_of : C → List ℕ) (r : Reply S D K G C) (x : StateFacts K L D) → ((signer : ℕ) → x.me ≡ Some signer → (signer ≡ i) × (slice_get x.members signer ≡ Some key))
       → ((m : ℕ) (v : Subject D) → Contains (signed_in (told bytes_of r)) (Signs m v) → x.me ≡ Some m)
       → IsSignedReply is_signature r x → AreSigned is_signature i key (votes_recorded (signed_reply r))
@@ -130,7 +129,7 @@ module _ {S L D K G C : Type 0} (is_signature : K → Subject D → G → Type 0
   abbrev Recorded : ℕ → K → Journaled S L D K G C → Type 0
   Recorded i key j = AreSigned is_signature i key (votes_recorded j.member.votes)
 
-  -- whatever was queued behind, where it stores votes of the record alone
+  -- whatever was queued after, where it stores only votes of the record
   pub signed_on : (more : List (Output S D Stored K G C)) → new.outbox.queue.items ≡ old.outbox.queue.items ++ more
       → ((i : ℕ) (key : K) → SignsBy i key old.member.facts → SignsBy i key new.member.facts)
       → ((i : ℕ) (key : K) → SignsBy i key old.member.facts → Recorded i key old → Recorded i key new)

@@ -22,6 +22,6 @@ module _ {S D K G C : Type 0} (taken : Option (Subject D)) where
   votes_on (reply.Finalize (Some vote)) = All-cons (IsActionOn taken) _ [] tt (All-nil (IsActionOn taken))
   votes_on _ = All-nil (IsActionOn taken)
 
-  -- a call accepts no other certificate than the one that it hands in
+  -- a call accepts no other certificate than the one that it passes
   pub call_on : (call : Call S D K G C) (answer : Reply S D K G C) → All (IsActionOn taken) (certificates_in call) → All (IsActionOn taken) (taken_by call answer ++ votes_in answer)
   call_on call answer may = All-append (IsActionOn taken) (taken_by call answer) (votes_in answer) (taken_on call answer may) (votes_on answer)

@@ -92,7 +92,7 @@ module _ {K L D : Type 0} (same : D → D → Bool) (elect : Elect L) where
 
 -- ---- parts of lists
 
--- a part that leaves something behind is within all but the last
+-- a part that leaves something after it is within all but the last
 before_last : {X : Type 0} (part : List X) (b : X) (bs front tail : List X) → part ++ b ∷ bs ≡ front ++ tail → length tail ≤ 1 → (rest : List X) × (front ≡ part ++ rest)
 before_last [] b bs front tail is few = (front, refl)
 before_last (p ∷ part) b bs [] tail is few =
@@ -137,14 +137,14 @@ module _ {S D K G C : Type 0} (bytes_of : C → List ℕ) where
   no_items (a ∷ items) rest is = absurd (cc)
 
 module _ {D G : Type 0} where
-  -- the votes behind the first so many of a record are among all
+  -- the votes after this number of first entries of a record are among all
   pub among_last : (votes : List (SignedVote D G)) (count : ℕ) (vote : Vote D G) → Contains (votes_recorded (drop count votes)) vote → Contains (votes_recorded votes) vote
   among_last [] zero vote has = has
   among_last [] (suc count) vote has = has
   among_last (v ∷ votes) zero vote has = has
   among_last (v ∷ votes) (suc count) vote has = Contains-append_right (vote_as v.vote v.signature) (votes_recorded votes) vote (among_last votes count vote has)
 
--- ---- what is told as final writes nothing
+-- ---- what is reported as final writes nothing
 
 module _ {S D J K G C : Type 0} (given : List (Output S D J K G C)) (old new : Outbox S D J K G C) where
   abbrev pub WritesAlike : Type 0
@@ -169,7 +169,7 @@ module _ {S D J K G C : Type 0} (given : List (Output S D J K G C)) (old new : O
 -- ---- amid what the record has grown by
 
 module _ {S L D K G C : Type 0} (same : D → D → Bool) (elect : Elect L) (bytes_of : C → List ℕ) (term_length i : ℕ) (earlier : List (TraceEvent D)) where
-  -- behind other outputs that write the same
+  -- after other outputs that write the same
   pub amid_alike : (all : List (TraceEvent D)) (outs others : List (Output S D Stored K G C)) (member : SignedMember K L D G) (count : ℕ) → journal_of outs ≡ journal_of others → stored_in outs ≡ stored_in others
       → MayStopAmid same elect bytes_of term_length i earlier all outs member count → MayStopAmid same elect bytes_of term_length i earlier all others member count
   amid_alike all outs others member count same_journal same_stored amid part rest entries votes =

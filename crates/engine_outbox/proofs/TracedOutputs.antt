@@ -1,5 +1,5 @@
 -- For the code of the engine.
--- What each step of a member with its outbox leaves of what is known of all that was given out.
+-- How each step of a member with its outbox changes what is known of all that was returned.
 use Rattle.std.proofs.Common.{◌≡◌, ◌∙◌, refl, ap, sym, subst, ℕ, zero, Bool, true, false, List, [], ◌∷◌, ◌++◌, drop, filter, length, Option, Some, None, append_assoc, append-nil, arith}
 use Rattle.std.specs.Prelude.{Contains}
 use Rattle.std.proofs.lemmas.Bool.{true≢false}
@@ -49,7 +49,7 @@ module _ {D G : Type 0} where
   signed_later : (all more : List (TraceEvent D)) (votes : List (Vote D G)) → WereSigned more votes → WereSigned (all ++ more) votes
   signed_later all more votes signed vote has = Contains-append_right all more (Signs vote.signer vote.subject) (signed vote has)
 
--- a vote that is answered was signed
+-- a vote that is returned was signed
 pub reply_signed : {S D K G C : Type 0} (call : Call S D K G C) (r : Reply S D K G C) → WereSigned (taken_by call r ++ votes_in r) (votes_recorded (signed_reply r))
 reply_signed call (reply.Notarize None) = none_signed []
 reply_signed call (reply.Notarize (Some vote)) = one_signed _
@@ -70,7 +70,7 @@ module _ {S L D K G C : Type 0} (same : D → D → Bool) (elect : Elect L) (byt
       → (given ++ old.outbox.queue.items) ++ more ≡ given ++ new.outbox.queue.items
   queued given more repeat become = append_assoc given old.outbox.queue.items more ∙ ap (λ q. given ++ q) (sym become.queue)
 
-  -- a call, and what is told as final by it
+  -- a call, and what it reports as final
   pub traced_call : (more : List (TraceEvent D)) → new.failed ≡ old.failed → new.stored ≡ old.stored → Keeps bytes_of old new → ExtendsHistory same elect old.member.facts more new.member.facts
       → (olds : List (Artifact S D K G C)) → entries_of bytes_of olds ≡ old.member.facts.entries → votes_of olds ≡ old.member.votes
       → GrowsByOne old.member.facts new.member.facts → stored_of new.member.facts ≡ stored_of old.member.facts
@@ -98,7 +98,7 @@ module _ {S L D K G C : Type 0} (same : D → D → Bool) (elect : Elect L) (byt
             (done term_length i all is.done) now_signed (stop_last same elect bytes_of term_length i earlier (all ++ more) before (still lived)) (is.amid lived)));
       }
 
-  -- nothing more is given out
+  -- nothing more is returned
   pub traced_end : new.failed ≡ true → Keeps bytes_of old new → ExtendsHistory same elect old.member.facts [] new.member.facts
       → ((all : List (TraceEvent D)) → WereSigned all (votes_recorded old.member.votes) → WereSigned all (votes_recorded new.member.votes)) → ReportsRising [] old.outbox new.outbox → Traces
   traced_end failed keeps done signed tells term_length i earlier given all is = record {

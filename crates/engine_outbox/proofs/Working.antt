@@ -17,7 +17,7 @@ module _ (S J K C : Type 0) {D G : Type 0} where
   votes_no_work (vote ∷ votes) = votes_no_work votes
 
 module _ {S D J K G C : Type 0} where
-  -- work among outputs, one behind the other
+  -- work among outputs, one after the other
   pub work_in-append : (outs more : List (Output S D J K G C)) → work_in (outs ++ more) ≡ work_in outs ++ work_in more
   work_in-append [] more = refl
   work_in-append (output.Store _ ∷ outs) more = work_in-append outs more

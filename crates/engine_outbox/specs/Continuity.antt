@@ -1,4 +1,4 @@
--- A member with its outbox, from one moment of a life to a later one.
+-- A member with its outbox, from one moment of a lifetime to a later one.
 use Rattle.std.specs.Prelude.{◌≡◌, ◌⊎◌, ℕ, ◌≤◌, Bool, true, false, ◌||◌, List, [], ◌++◌, length, All, Option, is_none, IfSome}
 use Rattle.simplex_types.specs.declared.types.messages.Subject.{Subject}
 use Rattle.simplex_voter.specs.Facts.{Elect, StateFacts}
@@ -24,7 +24,7 @@ module _ {S L D K G C : Type 0} where
   abbrev pub has_failed : Journaled S L D K G C → Bool
   has_failed member = member.failed || is_none member.member.facts.life
 
-  -- no proposal is queued to be told as final
+  -- no proposal is queued to be reported as final
   abbrev pub ReportsNothing : Journaled S L D K G C → Type 0
   ReportsNothing member = finals_in member.outbox.queue.items ≡ []
 
@@ -32,17 +32,18 @@ module _ {S L D K G C : Type 0} where
   abbrev pub IsUnchanged : Journaled S L D K G C → Journaled S L D K G C → Type 0
   IsUnchanged old new = HasStayed old.outbox new.outbox × (new ≡ record old { outbox = new.outbox })
 
-  -- what a pruning leaves that finds no memory: nothing has changed, or the record is pruned, and it has failed
+  -- the result of a pruning that finds no memory: nothing has changed, or the record is pruned, and it has failed
   abbrev pub IsUnpruned : Journaled S L D K G C → Journaled S L D K G C → Type 0
   IsUnpruned old new = IsUnchanged old new ⊎ ((new.failed ≡ true) × (new.member.facts ≡ pruned_member old.member.facts))
 
 module _ {S L D K G C : Type 0} (bytes_of : C → List ℕ) where
-  -- over all that was given out and what is queued: each vote stands behind an output that stores it, and the proposals that are told
-  -- as final rise; until the engine fails, a journal that carries them out holds a beginning of the record, and each vote that is stored
-  -- leaves; the last finalized view of the member is the highest one that was told; and how far back the stored entries reach is noted
+  -- over all that was returned and what is queued: each vote comes after an output that stores it, and the proposals that are reported as
+  -- final rise; until the engine fails, a journal that carries them out holds a prefix of the record, and each stored vote leaves; the last
+  -- finalized view of the member is the highest one that was reported; and how far back the stored entries reach is noted
   pub record IsJournaled (given : List (Output S D Stored K G C)) (member : Journaled S L D K G C) : Type 0 where
     pub lawful : IsLawfulOutbox given member.outbox
-    pub stored : member.failed ≡ false → IsBeginningOf bytes_of member.member member.stored (journal_of (given ++ member.outbox.queue.items))
+    pub stored : member.failed ≡ false
+        → IsBeginningOf bytes_of member.member member.stored (journal_of (given ++ member.outbox.queue.items))
     pub emitted : member.failed ≡ false → AllAreReturned (given ++ member.outbox.queue.items)
     pub told : IfSome member.member.facts.life (λ x. member.outbox.told ≡ x.finalized)
     pub reaching : ReachesTo member.reach member.stored member.member.facts.entries
@@ -51,7 +52,7 @@ module _ {S L D K G C : Type 0} (bytes_of : C → List ℕ) where
   abbrev pub IsWhole : Journaled S L D K G C → Type 0
   IsWhole member = length member.member.facts.entries ≤ member.stored
 
-  -- until it fails, a journal that carries out what was given out and what is queued holds the record
+  -- until it fails, a journal that carries out what was returned and what is queued holds the record
   abbrev pub StoresRecord : Journaled S L D K G C → Type 0
   StoresRecord member =
       (given : List (Output S D Stored K G C)) → IsJournaled given member → member.failed ≡ false
@@ -64,21 +65,25 @@ module _ {S L D K G C : Type 0} (bytes_of : C → List ℕ) where
 module _ {S L D K G C : Type 0} (same : D → D → Bool) (elect : Elect L) (bytes_of : C → List ℕ) where
   -- besides, in a lifetime that began when the member had done `earlier`, `all` is what it has done so far, as member `i`: it has signed
   -- each vote of its record, and accepted each finalization that was reported or is queued to be; and until the engine fails, a host may
-  -- stop after each output that was given out or is queued, and amid each `Store`, also of what the record has grown by since
-  pub record IsTraced (term_length i : ℕ) (earlier : List (TraceEvent D)) (given : List (Output S D Stored K G C)) (all : List (TraceEvent D))
+  -- stop after each output that was returned or is queued, and amid each `Store`, also of the entries by which the record has grown since
+  pub record IsTraced (term_length i : ℕ) (earlier : List (TraceEvent D)) (given : List (Output S D Stored K G C))
+      (all : List (TraceEvent D))
       (member : Journaled S L D K G C) : Type 0 where
     pub kept : IsJournaled bytes_of given member
     pub done : HasHistory same elect term_length i all member.member.facts
     pub signed : WereSigned all (votes_recorded member.member.votes)
     pub finals : WereAccepted all (finals_in (given ++ member.outbox.queue.items))
-    pub stops : member.failed ≡ false → MayStopAfterEach same elect bytes_of term_length i earlier all (given ++ member.outbox.queue.items)
+    pub stops : member.failed ≡ false
+        → MayStopAfterEach same elect bytes_of term_length i earlier all (given ++ member.outbox.queue.items)
     pub amid : member.failed ≡ false
-        → MayStopAmid same elect bytes_of term_length i earlier all (given ++ member.outbox.queue.items) member.member member.stored
+        → MayStopAmid same elect bytes_of term_length i earlier all (given ++ member.outbox.queue.items)
+        member.member member.stored
 
   -- it stays traced, with this done besides
   abbrev pub StaysTraced : List (TraceEvent D) → Journaled S L D K G C → Journaled S L D K G C → Type 0
   StaysTraced more old new =
-      (term_length i : ℕ) (earlier : List (TraceEvent D)) (given : List (Output S D Stored K G C)) (all : List (TraceEvent D))
+      (term_length i : ℕ) (earlier : List (TraceEvent D)) (given : List (Output S D Stored K G C))
+      (all : List (TraceEvent D))
       → IsTraced term_length i earlier given all old
       → IsTraced term_length i earlier given (all ++ more) new
 
@@ -90,10 +95,11 @@ module _ {S L D K G C : Type 0} (same : D → D → Bool) (elect : Elect L) (byt
       → WereSigned all (votes_recorded begun.votes)
       → IsTraced term_length i all [] all member
 
-  -- it stays traced once these outputs were given out
+  -- it stays traced once these outputs were returned
   abbrev pub EmitsTraced : List (Output S D Stored K G C) → Journaled S L D K G C → Journaled S L D K G C → Type 0
   EmitsTraced out old new =
-      (term_length i : ℕ) (earlier : List (TraceEvent D)) (given : List (Output S D Stored K G C)) (all : List (TraceEvent D))
+      (term_length i : ℕ) (earlier : List (TraceEvent D)) (given : List (Output S D Stored K G C))
+      (all : List (TraceEvent D))
       → IsTraced term_length i earlier given all old
       → IsTraced term_length i earlier (given ++ out) all new
 
@@ -102,13 +108,15 @@ pub record HasRisen {K L D : Type 0} (first last : StateFacts K L D) : Type 0 wh
   pub terms : last.terms ≡ first.terms
   pub views : NeverFalls first last
 
-module _ {S L D K G C : Type 0} (same : D → D → Bool) (elect : Elect L) (bytes_of : C → List ℕ) (is_signature : K → Subject D → G → Type 0)
+module _ {S L D K G C : Type 0} (same : D → D → Bool) (elect : Elect L) (bytes_of : C → List ℕ)
+    (is_signature : K → Subject D → G → Type 0)
     (taken : Option (Subject D)) where
-  -- what was kept stays kept, what was queued stays queued, and what the member has done stays done; besides it accepts certificates
-  -- on this subject alone, and signs votes, under its key; of the finalizations that it accepts each of a view above all that were told is told; and
-  -- while it has not failed, its views do not fall
+  -- what `IsJournaled` says is preserved, what was queued stays queued, and what the member has done stays done; besides it accepts certificates
+  -- only on this subject, and signs votes, under its key; of the finalizations that it accepts each of a view above all reported ones is
+  -- reported; and while it has not failed, its views do not fall
   pub record Continues (old new : Journaled S L D K G C) : Type 0 where
-    pub kept : (given : List (Output S D Stored K G C)) → IsJournaled bytes_of given old → IsJournaled bytes_of given new
+    pub kept : (given : List (Output S D Stored K G C)) → IsJournaled bytes_of given old
+        → IsJournaled bytes_of given new
     pub more : List (TraceEvent D)
     pub on_this : All (IsActionOn taken) more
     pub done : ExtendsHistory same elect old.member.facts more new.member.facts
@@ -119,25 +127,28 @@ module _ {S L D K G C : Type 0} (same : D → D → Bool) (elect : Elect L) (byt
     pub risen : WhileAlive HasRisen old.member.facts.life new.member.facts.life
 
 module _ {S L D K G C : Type 0} (bytes_of : C → List ℕ) where
-  -- what was kept stays kept, with these outputs given out behind all that was
+  -- what `IsJournaled` says is preserved, with these outputs appended to all that were returned
   abbrev pub HasReturned : List (Output S D Stored K G C) → Journaled S L D K G C → Journaled S L D K G C → Type 0
-  HasReturned out old new = (given : List (Output S D Stored K G C)) → IsJournaled bytes_of given old → IsJournaled bytes_of (given ++ out) new
+  HasReturned out old new = (given : List (Output S D Stored K G C)) → IsJournaled bytes_of given old
+      → IsJournaled bytes_of (given ++ out) new
 
 module _ {L D K : Type 0} (same : D → D → Bool) (elect : Elect L) (taken : Option (Subject D)) where
-  -- a member accepts certificates on this subject alone, and signs votes
+  -- a member accepts certificates only on this subject, and signs votes
   pub record ExtendsHistoryOn (old new : MemberFacts K L D) : Type 0 where
     pub more : List (TraceEvent D)
     pub on_this : All (IsActionOn taken) more
     pub done : ExtendsHistory same elect old more new
 
-module _ {S L D K G C : Type 0} (same : D → D → Bool) (elect : Elect L) (bytes_of : C → List ℕ) (is_signature : K → Subject D → G → Type 0)
+module _ {S L D K G C : Type 0} (same : D → D → Bool) (elect : Elect L) (bytes_of : C → List ℕ)
+    (is_signature : K → Subject D → G → Type 0)
     (taken : Option (Subject D)) where
-  -- besides, these are given out, and it stays traced by what it has done so, and its votes signed under its key
+  -- besides, these are returned, and it stays traced by what it has done in that call, and its votes stay signed under its key
   pub record EmitsOn (out : List (Output S D Stored K G C)) (old new : Journaled S L D K G C) : Type 0 where
     pub more : List (TraceEvent D)
     pub on_this : All (IsActionOn taken) more
     pub done : ExtendsHistory same elect old.member.facts more new.member.facts
-    pub traced : (term_length i : ℕ) (earlier : List (TraceEvent D)) (given : List (Output S D Stored K G C)) (all : List (TraceEvent D))
+    pub traced : (term_length i : ℕ) (earlier : List (TraceEvent D)) (given : List (Output S D Stored K G C))
+        (all : List (TraceEvent D))
         → IsTraced same elect bytes_of term_length i earlier given all old
         → IsTraced same elect bytes_of term_length i earlier (given ++ out) (all ++ more) new
     pub signed : EmitsSigned is_signature out old new

@@ -1,4 +1,4 @@
--- That each vote which is stored leaves.
+-- Each stored vote leaves.
 use Rattle.std.specs.Prelude.{◌⊎◌, List, [], ◌∷◌, Contains}
 use Rattle.engine_votes.specs.declared.votes.Vote.{Vote}
 use Rattle.engine_outbox.specs.declared.output.Output.{Output}
@@ -7,8 +7,8 @@ use Rattle.engine_outbox.specs.Entries.{votes_of_entries}
 use Rattle.engine_outbox.specs.Outputs.{entries_in, stored_in}
 
 module _ {S D J K G C : Type 0} where
-  -- a life's first output stores the record that the life begins with, with the votes of the lives before; each other vote that is stored
-  -- leaves
+  -- a lifetime's first output stores the record that the lifetime begins with, with the votes of the lifetimes before; each other stored
+  -- vote leaves
   abbrev pub AllAreReturned : List (Output S D J K G C) → Type 0
   AllAreReturned [] = Unit {0}
   AllAreReturned (first ∷ rest) =

@@ -10,9 +10,12 @@ use Rattle.engine_votes.specs.declared.votes.Vote.{Vote}
 module _ {S D K G C : Type 0} where
   -- the vote that an entry records, with its signature
   abbrev pub vote_in : Artifact S D K G C → Option (Vote D G)
-  vote_in (artifact.Notarize v) = Some (record { subject = subject.Notarize v.proposal; signer = v.signer; signature = v.signature })
-  vote_in (artifact.Nullify v) = Some (record { subject = subject.Nullify v.round; signer = v.signer; signature = v.signature })
-  vote_in (artifact.Finalize v) = Some (record { subject = subject.Finalize v.proposal; signer = v.signer; signature = v.signature })
+  vote_in (artifact.Notarize v) =
+      Some (record { subject = subject.Notarize v.proposal; signer = v.signer; signature = v.signature })
+  vote_in (artifact.Nullify v) =
+      Some (record { subject = subject.Nullify v.round; signer = v.signer; signature = v.signature })
+  vote_in (artifact.Finalize v) =
+      Some (record { subject = subject.Finalize v.proposal; signer = v.signer; signature = v.signature })
   vote_in _ = None
 
   -- the votes that entries record, in order
@@ -33,4 +36,5 @@ module _ {S D K G C : Type 0} where
   -- entries with the same facts, and votes with equal signatures
   abbrev pub AreCopies : (C → List ℕ) → List (Artifact S D K G C) → List (Artifact S D K G C) → Type 0
   AreCopies bytes_of entries copies =
-      (map (artifact_facts bytes_of) copies ≡ map (artifact_facts bytes_of) entries) × (map signature_in copies ≡ map signature_in entries)
+      (map (artifact_facts bytes_of) copies ≡ map (artifact_facts bytes_of) entries)
+      × (map signature_in copies ≡ map signature_in entries)

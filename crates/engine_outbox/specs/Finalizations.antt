@@ -1,4 +1,4 @@
--- Which proposals are told as final, by what outputs tell and by what a member has done.
+-- The proposals that are reported as final, by the outputs and by what a member has done.
 use Rattle.std.specs.Prelude.{◌≡◌, ◌<◌, ℕ, max, nat_lt, List, [], ◌∷◌, ◌++◌, Contains, if◌then◌else◌}
 use Rattle.simplex_types.specs.declared.types.messages.Proposal.{Proposal}
 use Rattle.simplex_types.specs.declared.types.messages.Subject.TheVariants.{Finalize}
@@ -7,7 +7,7 @@ use Rattle.engine_outbox.specs.declared.outbox.Outbox.{Outbox}
 use Rattle.engine_outbox.specs.declared.output.Output.{Output}
 use Rattle.engine_outbox.specs.declared.output.Output.TheVariants.{Finalized}
 
--- the proposals that outputs tell as final, in order
+-- the proposals that outputs report as final, in order
 abbrev pub finals_in : {S D J K G C : Type 0} → List (Output S D J K G C) → List (Proposal D)
 finals_in [] = []
 finals_in (Finalized proposal ∷ rest) = proposal ∷ finals_in rest
@@ -29,7 +29,7 @@ module _ {D : Type 0} where
   RiseByView (p ∷ q ∷ rest) = (p.round.view < q.round.view) × RiseByView (q ∷ rest)
   RiseByView _ = Unit {0}
 
-  -- the last, where there is one, is of this view
+  -- the last one, if there is one, is of this view
   abbrev pub EndsAt : ℕ → List (Proposal D) → Type 0
   EndsAt view [] = Unit {0}
   EndsAt view (p ∷ []) = p.round.view ≡ view
@@ -38,20 +38,21 @@ module _ {D : Type 0} where
   -- those that are of a view above this one and above all before
   abbrev pub rising_above : ℕ → List (Proposal D) → List (Proposal D)
   rising_above view [] = []
-  rising_above view (p ∷ rest) = if nat_lt view p.round.view then p ∷ rising_above p.round.view rest else rising_above view rest
+  rising_above view (p ∷ rest) =
+      if nat_lt view p.round.view then p ∷ rising_above p.round.view rest else rising_above view rest
 
-  -- the raised_to of this view and theirs
+  -- the highest of this view and theirs
   abbrev pub raised_to : ℕ → List (Proposal D) → ℕ
   raised_to view [] = view
   raised_to view (p ∷ rest) = raised_to (max view p.round.view) rest
 
 module _ {S D J K G C : Type 0} where
-  -- of these proposals each that is of a view above all that were told is queued to be told as final, and nothing else is
+  -- each of these proposals whose view is above all that were reported is queued to be reported as final, and nothing else is
   pub record ReportsRising (finals : List (Proposal D)) (old new : Outbox S D J K G C) : Type 0 where
     pub queued : finals_in new.queue.items ≡ finals_in old.queue.items ++ rising_above old.told finals
     pub told : new.told ≡ raised_to old.told finals
 
-  -- these were given out, and no other proposal is queued to be told as final
+  -- these were returned, and no other proposal is queued to be reported as final
   pub record ReportsNoMore (out : List (Output S D J K G C)) (old new : Outbox S D J K G C) : Type 0 where
     pub queued : finals_in old.queue.items ≡ finals_in (out ++ new.queue.items)
     pub told : new.told ≡ old.told

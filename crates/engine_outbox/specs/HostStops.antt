@@ -23,9 +23,12 @@ use Rattle.engine_outbox.specs.Outputs.{stored_in}
 module _ {D G : Type 0} where
   -- the vote that these facts are, with its signature
   abbrev pub vote_as : ArtifactFacts D → G → List (Vote D G)
-  vote_as (NotarizeVote p signer) signature = record { subject = subject.Notarize p; signer = signer; signature = signature } ∷ []
-  vote_as (NullifyVote round signer) signature = record { subject = subject.Nullify round; signer = signer; signature = signature } ∷ []
-  vote_as (FinalizeVote p signer) signature = record { subject = subject.Finalize p; signer = signer; signature = signature } ∷ []
+  vote_as (NotarizeVote p signer) signature =
+      record { subject = subject.Notarize p; signer = signer; signature = signature } ∷ []
+  vote_as (NullifyVote round signer) signature =
+      record { subject = subject.Nullify round; signer = signer; signature = signature } ∷ []
+  vote_as (FinalizeVote p signer) signature =
+      record { subject = subject.Finalize p; signer = signer; signature = signature } ∷ []
   vote_as _ signature = []
 
   -- the votes of a record
@@ -37,7 +40,7 @@ abbrev pub WereSigned : {D G : Type 0} → List (TraceEvent D) → List (Vote D 
 WereSigned {D} {G} all votes = (vote : Vote D G) → Contains votes vote → Contains all (Signs vote.signer vote.subject)
 
 module _ {S D J K G C : Type 0} where
-  -- of these outputs the first ones were carried out, and of the `Store` behind them the first entries
+  -- of these outputs the first ones were carried out, and of the `Store` after them the first entries
   pub record IsTorn (outs carried : List (Output S D J K G C)) : Type 0 where
     pub front : List (Output S D J K G C)
     pub back : List (Output S D J K G C)
@@ -69,9 +72,10 @@ module _ {S L D K G C : Type 0} (same : D → D → Bool) (elect : Elect L) (byt
   -- it may after each of these outputs, and amid each `Store`; before the first output of a lifetime nothing of it was written
   abbrev pub MayStopAfterEach : List (TraceEvent D) → List (Output S D Stored K G C) → Type 0
   MayStopAfterEach all [] = ⊥
-  MayStopAfterEach all (first ∷ rest) = (carried : List (Output S D Stored K G C)) → MayBeCarriedOut rest carried → MayStopAfter all (first ∷ carried)
+  MayStopAfterEach all (first ∷ rest) =
+      (carried : List (Output S D Stored K G C)) → MayBeCarriedOut rest carried → MayStopAfter all (first ∷ carried)
 
-  -- it may after these outputs and the first entries by which the record has grown since it had so many, however many of them
+  -- it may after these outputs and the first entries by which the record has grown since it had this number, however many of them
   abbrev pub MayStopAmid : List (TraceEvent D) → List (Output S D Stored K G C) → SignedMember K L D G → ℕ → Type 0
   MayStopAmid all outs member count =
       (part : Vec (Artifact S D K G C) Global) (rest : List (Artifact S D K G C))
@@ -82,10 +86,12 @@ module _ {S L D K G C : Type 0} (same : D → D → Bool) (elect : Elect L) (byt
   -- a host that stops after these outputs: besides, each vote that it carried out was signed by then
   pub record IsLawfulStop (all : List (TraceEvent D)) (outs : List (Output S D Stored K G C)) : Type 0 where
     pub may : MayStopAfter all outs
-    pub votes : (vote : Vote D G) → Contains outs (output.Vote vote) → Contains (earlier ++ may.since) (Signs vote.signer vote.subject)
+    pub votes : (vote : Vote D G) → Contains outs (output.Vote vote)
+        → Contains (earlier ++ may.since) (Signs vote.signer vote.subject)
 
   -- each stop is lawful, once the first of these outputs was carried out
   abbrev pub EachStopIsLawful : List (TraceEvent D) → List (Output S D Stored K G C) → Type 0
   EachStopIsLawful all outs =
-      (first : Output S D Stored K G C) (rest carried : List (Output S D Stored K G C)) → outs ≡ first ∷ rest → MayBeCarriedOut rest carried
+      (first : Output S D Stored K G C) (rest carried : List (Output S D Stored K G C)) → outs ≡ first ∷ rest
+      → MayBeCarriedOut rest carried
       → IsLawfulStop all (first ∷ carried)

@@ -1,4 +1,4 @@
--- What a journal holds that carried outputs out, and that it is a member's record.
+-- The contents of a journal that carried outputs out, and that it is a member's record.
 use Rattle.std.specs.Prelude.{◌≡◌, ℕ, List, [], ◌∷◌, ◌++◌, length, Option, Some, None, Vec}
 use Rattle.std.specs.declared.alloc.Global.{Global}
 use Rattle.simplex_types.specs.Certificates.{ArtifactFacts}
@@ -11,7 +11,7 @@ use Rattle.simplex_member.specs.declared.member.journal.Stored.{Stored}
 use Rattle.engine_outbox.specs.declared.output.Output.{Output}
 use Rattle.engine_outbox.specs.declared.output.Output.TheVariants.{Store, Replace}
 
--- what a journal holds: its entries, oldest first, and what is stored beside them, once something was
+-- the contents of a journal: its entries, oldest first, and what is stored beside them, once something was
 pub record Journal (S D J K G C : Type 0) : Type 0 where
   pub entries : List (Artifact S D K G C)
   pub beside : Option J
@@ -27,12 +27,12 @@ module _ {S D J K G C : Type 0} where
   written journal (Replace entries beside) = record { entries = entries.items; beside = Some beside }
   written journal _ = journal
 
-  -- these are, in order
+  -- the same for each of these, in order
   abbrev pub written_all : Journal S D J K G C → List (Output S D J K G C) → Journal S D J K G C
   written_all journal [] = journal
   written_all journal (out ∷ rest) = written_all (written journal out) rest
 
-  -- all since the beginning
+  -- the same for all since the beginning
   abbrev pub journal_of : List (Output S D J K G C) → Journal S D J K G C
   journal_of outs = written_all empty_journal outs
 
@@ -50,8 +50,9 @@ module _ {S L D K G C : Type 0} (bytes_of : C → List ℕ) where
     pub entries : entries_of bytes_of copies.items ≡ member.facts.entries
     pub votes : votes_of copies.items ≡ member.votes
 
-  -- a journal holds the first so many entries of a member's record
-  pub record IsBeginningOf (member : SignedMember K L D G) (count : ℕ) (journal : Journal S D Stored K G C) : Type 0 where
+  -- a journal holds this number of first entries of a member's record
+  pub record IsBeginningOf (member : SignedMember K L D G) (count : ℕ)
+      (journal : Journal S D Stored K G C) : Type 0 where
     pub rest : List (ArtifactFacts D)
     pub votes_left : List (SignedVote D G)
     pub entries : member.facts.entries ≡ entries_of bytes_of journal.entries ++ rest

@@ -1,4 +1,4 @@
--- What is given out: each vote behind what stores it; and the work among it.
+-- The returned outputs: each vote comes after what stores it; and the work among them.
 use Rattle.std.specs.Prelude.{List, [], ◌∷◌, ◌++◌, map, Contains, Vec}
 use Rattle.std.specs.declared.alloc.Global.{Global}
 use Rattle.simplex_types.specs.declared.types.messages.Artifact.{Artifact}
@@ -25,12 +25,12 @@ module _ {S D J K G C : Type 0} where
   IsBehind stored (Vote vote) = Contains (votes_of_entries stored) vote
   IsBehind stored _ = Unit {0}
 
-  -- each vote stands behind an output that stores it, where this was stored before
+  -- each vote comes after an output that stores it, if this was stored before
   abbrev pub AreBehind : List (Artifact S D K G C) → List (Output S D J K G C) → Type 0
   AreBehind stored [] = Unit {0}
   AreBehind stored (out ∷ rest) = IsBehind stored out × AreBehind (stored ++ entries_in out) rest
 
-  -- entries to be stored, and behind them each vote among them
+  -- entries to be stored, and after them each vote among them
   abbrev pub storing : Vec (Artifact S D K G C) Global → List (Output S D J K G C)
   storing entries = Store entries ∷ map Vote (votes_of_entries entries.items)
 

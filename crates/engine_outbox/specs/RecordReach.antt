@@ -1,4 +1,4 @@
--- How far back a record reaches, and when more views of it go by a pruning than stay.
+-- How far back a record reaches, and when a pruning would drop more of its views than it retains.
 use Rattle.std.specs.Prelude.{◌≡◌, ◌⊎◌, ℕ, ◌+◌, ◌-◌, ◌^◌, ◌≤◌, min, Bool, nat_lt, List, [], ◌∷◌, length, take, All, IfSome}
 use Rattle.simplex_types.specs.Certificates.{ArtifactFacts}
 use Rattle.simplex_voter.specs.Facts.{StateFacts}
@@ -13,7 +13,7 @@ module _ {D : Type 0} where
   lowest_of view [] = view
   lowest_of view (e ∷ rest) = lowest_of (min view (entry_view e)) rest
 
-  -- a record has so many entries at least, and this is the lowest view of these
+  -- a record has at least this number of entries, and this is the lowest view of these
   pub record ReachesTo (reach count : ℕ) (entries : List (ArtifactFacts D)) : Type 0 where
     pub counted : count ≤ length entries
     pub lowest : reach ≡ lowest_of (2 ^ 64 - 1) (take count entries)
@@ -27,10 +27,11 @@ abbrev pub is_far_below : (reach lowest current : ℕ) → Bool
 is_far_below reach lowest current = nat_lt (current - lowest) (lowest - reach)
 
 module _ {K L D : Type 0} where
-  -- the lowest view whose entries a pruning leaves: one that the state keeps, or the record by its own last finalized view
+  -- the lowest view whose entries a pruning retains: one that the state retains, or the record by its own last finalized view
   abbrev pub lowest_retained_after : MemberFacts K L D → StateFacts K L D → ℕ
   lowest_retained_after m x = min (min_active x) (finalized_in m.entries - m.retention)
 
-  -- while the member lives, its record has at most so many entries, or by a pruning no more views go than stay
+  -- while the member has not failed, its record has at most this number of entries, or a pruning would drop no more views than it retains
   abbrev pub IsShort : ℕ → MemberFacts K L D → Type 0
-  IsShort long m = IfSome m.life (λ x. (length m.entries ≤ long) ⊎ AreNear (lowest_retained_after m x) x.current m.entries)
+  IsShort long m = IfSome m.life
+      (λ x. (length m.entries ≤ long) ⊎ AreNear (lowest_retained_after m x) x.current m.entries)

@@ -25,19 +25,23 @@ module _ {K L D G : Type 0} (same : D → D → Bool) (elect : Elect L) (is_sign
   -- a member continues where a lifetime stopped after these outputs, which began when the member had done `earlier`: it has done all that
   -- was done by then, and signed each vote that was carried out since, and each of its record, under the key of those that the outputs
   -- store; so its next lifetime may begin with all that
-  pub record ContinuesFrom {S C : Type 0} (term_length i : ℕ) (earlier : List (TraceEvent D)) (outs : List (Output S D Stored K G C))
+  pub record ContinuesFrom {S C : Type 0} (term_length i : ℕ) (earlier : List (TraceEvent D))
+      (outs : List (Output S D Stored K G C))
       (member : SignedMember K L D G) : Type 0 where
     pub since : List (TraceEvent D)
     pub done : HasHistory same elect term_length i (earlier ++ since) member.facts
     pub recorded : WereSigned (earlier ++ since) (votes_recorded member.votes)
-    pub votes : (vote : Vote D G) → Contains outs (output.Vote vote) → Contains (earlier ++ since) (Signs vote.signer vote.subject)
-    pub signed : (key : K) → AreSigned is_signature i key (votes_of_entries (stored_in outs)) → AreSigned is_signature i key (votes_recorded member.votes)
+    pub votes : (vote : Vote D G) → Contains outs (output.Vote vote)
+        → Contains (earlier ++ since) (Signs vote.signer vote.subject)
+    pub signed : (key : K) → AreSigned is_signature i key (votes_of_entries (stored_in outs))
+        → AreSigned is_signature i key (votes_recorded member.votes)
 
   -- each member continues so that `LawfulMember::resume` resumes from what was written where a host stopped
   abbrev pub EachResumeContinues : {S C : Type 0} → (C → List ℕ) → (S → Option ℕ) → (L → Terms) → Type 0
   EachResumeContinues {S} {C} bytes_of me terms =
       (term_length i : ℕ) (earlier all : List (TraceEvent D)) (outs : List (Output S D Stored K G C))
-      (stored : Stored) (entries : List (Artifact S D K G C)) (start : Start S L D K G C) (member : SignedMember K L D G)
+      (stored : Stored) (entries : List (Artifact S D K G C)) (start : Start S L D K G C)
+      (member : SignedMember K L D G)
       → IsLawfulStop same elect bytes_of term_length i earlier all outs
       → journal_of outs ≡ record { entries = entries; beside = Some stored }
       → HasContinued same elect me terms stored (entries_of bytes_of entries) start member.facts

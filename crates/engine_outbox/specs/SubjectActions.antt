@@ -12,7 +12,7 @@ IsActionOn taken (Signs _ _) = Unit {0}
 IsActionOn (Some subject) (Accepts certificate) = certificate ≡ subject
 IsActionOn None (Accepts certificate) = ⊥
 
--- the proposal that a certificate finalizes which is handed in, where the answer says that it is accepted
+-- the proposal that a passed certificate finalizes, if the reply says that it is accepted
 abbrev pub final_by : {S D K G C : Type 0} → Option (Proposal D) → Reply S D K G C → Option (Proposal D)
 final_by finalized (Added _ _) = finalized
 final_by finalized (AddedNullification _) = finalized

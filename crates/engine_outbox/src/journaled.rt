@@ -1,8 +1,11 @@
-//! A lawful member whose record is stored before what follows from it leaves.
+//! A lawful member whose record is stored before any vote that it records is sent.
 //!
-//! It owes that a journal which carries its outputs out holds the member's record, that each vote stands behind its entry, and that
-//! just what the member accepts as final is told, at rising views.
-#![tactic(auto, using(crate::proofs::Going::stays))]
+//! It guarantees:
+//!
+//! - a journal that carries its outputs out holds the member's record;
+//! - each vote comes after its entry;
+//! - exactly what the member accepts as final is reported, at rising views.
+#![tactic(auto, using(crate::proofs::Continuity::stays))]
 
 ghost use Rattle.std.specs.Prelude.{◌≡◌, ◌++◌, ◌∷◌, [], true, false, All, Contains, Some, None, IfOk, IfSome, OnOk, OnErr, IsNone, IsTrue, ◌↔◌, option_to_list};
 ghost use Rattle.std.specs.Option.{option_copied};
@@ -30,20 +33,20 @@ use simplex_types::types::{
 use simplex_voter::voter::State;
 use std::alloc::{AllocError, Global};
 
-/// A member, and what is to be carried out of its life.
+/// A member, and the outputs of its lifetime that the host must still carry out.
 ///
-/// `IsJournaled` says what was given out so far, in order: `begin` begins the list, each call keeps it by its clause `continues`, `next`
-/// adds what it answers, and `keeps_the_laws` says what holds of the whole. `Continues` says besides what the member has done by a
-/// call: votes, and the acceptance of a certificate where one is handed in, which is told as final where it is a finalization.
+/// `IsJournaled` says which outputs were returned so far, in order. `begin` begins that list, each call preserves it by its clause `continues`,
+/// and `next` appends what it returns. `keeps_the_laws` states what is true of the whole list. `Continues` also says what the member has done
+/// in a call: votes, and the acceptance of a passed certificate, which is reported as final if it is a finalization.
 #[derive(Drop)]
 pub struct Journaled<S: CertificateScheme, L: Elector<S>, D: Digest> {
     member: LawfulMember<S, L, D>,
     outbox: Outbox<S, D, Stored>,
     /// How many entries of the record are queued to be stored, or were.
     stored: usize,
-    /// The lowest view of these; 2^64 - 1 where there are none.
+    /// The lowest view of these; 2^64 - 1 if there are none.
     reach: View,
-    /// What was done can no longer be told, and nothing more is given out.
+    /// Some of what was done can no longer be reported, and nothing more is returned.
     failed: bool,
 }
 
@@ -69,15 +72,15 @@ impl<S: Scheme<D>, L: Elector<S>, D: Digest> Journaled<S, L, D> {
     ghost use Rattle.engine_outbox.specs.Signatures.{AreSigned, IsSignedBy, StaysSigned, BeginsSigned, EmitsSigned};
     ghost use Rattle.engine_outbox.specs.Refusals.{is_refused, says_nothing, IsLeftByCall};
 
-    /// A life begins: the whole record is to be stored in place of all that is stored, before anything else. What is final already is
-    /// never told.
+    /// Begins a lifetime: the whole record is to be stored in place of all that is stored, before anything else. What is final already is
+    /// never reported.
     ///
-    /// - `kept`: nothing was given out.
+    /// - `kept`: nothing was returned.
     /// - `whole`: all of the record is queued.
-    /// - `told`: no proposal is queued to be told as final.
+    /// - `told`: no proposal is queued to be reported as final.
     /// - `begins`: nothing else is queued.
-    /// - `traced`: it is traced by what the member has done before, where each vote of its record was signed by then (`IsTraced`).
-    /// - `signed`: the votes that are stored are signed under the member's key, where those of its record are (`IsSignedBy`).
+    /// - `traced`: what the member has done before traces it, if each vote of its record was signed by then (`IsTraced`).
+    /// - `signed`: the stored votes are signed under the member's key, if those of its record are (`IsSignedBy`).
     pub fn begin(
         alloc: Global,
         member: LawfulMember<S, L, D>,
@@ -103,37 +106,41 @@ impl<S: Scheme<D>, L: Elector<S>, D: Digest> Journaled<S, L, D> {
         })
     }
 
-    /// Makes a call of the member; certificates are handed in by `submit`. What it records is queued by `store`.
+    /// Makes a call of the member; pass certificates by `submit`. `store` queues what the call records.
     ///
-    /// - `continues`: the member accepts no certificate but the one that the call hands in, where that is no finalization.
-    /// - `quiet`: a call that hands none in accepts none.
+    /// - `continues`: the member accepts no certificate but the one that the call passes, if that is no finalization.
+    /// - `quiet`: a call that passes none accepts none.
     /// - `answered`: as of `LawfulMember::call`.
-    /// - `refused`: a call that is refused, and not for want of memory, changes nothing.
-    /// - `dropped`: what a call leaves that was of no use.
-    /// - `signed`: the votes that are stored stay signed under the member's key.
+    /// - `refused`: a call that is refused, and not because of memory, changes nothing.
+    /// - `dropped`: what an ignored call changes.
+    /// - `signed`: the stored votes stay signed under the member's key.
     pub fn call(&mut self, call: Call<S, D>) -> Reply<S, D>
-        ensures continues { (taken : _) → All (IsActionOn taken) (certificates_in call) → finals_by (certificates_in call) ≡ []
+        ensures continues { (taken : _) → All (IsActionOn taken) (certificates_in call)
+            → finals_by (certificates_in call) ≡ []
             → Continues D.eq L.elect S.certificate_bytes S.IsSignature taken self.old self.new }
         ensures signed { StaysSigned S.IsSignature self.old self.new }
-        ensures quiet { certificates_in call ≡ [] → Continues D.eq L.elect S.certificate_bytes S.IsSignature None self.old self.new }
+        ensures quiet { certificates_in call ≡ []
+            → Continues D.eq L.elect S.certificate_bytes S.IsSignature None self.old self.new }
         ensures answered { IsCall D.eq L.elect self.old.member.facts (asked S.certificate_bytes call)
             (told S.certificate_bytes result) self.new.member.facts }
-        ensures refused { IsTrue (is_refused (told S.certificate_bytes result)) → self.new.member.facts ≡ self.old.member.facts }
+        ensures refused { IsTrue (is_refused (told S.certificate_bytes result))
+            → self.new.member.facts ≡ self.old.member.facts }
         ensures dropped { IsTrue (says_nothing (told S.certificate_bytes result))
             → IsLeftByCall (asked S.certificate_bytes call) self.old.member.facts self.new.member.facts }
         ensures outbox { self.new.outbox ≡ self.old.outbox }
     {
+        // proof only: the contract of `record` says that the member's votes are those of its entries
         let _record = self.member.record();
         self.member.call(call)
     }
 
-    /// Hands a certificate in. Without memory nothing has changed.
+    /// Passes a certificate to the member. Without memory nothing has changed.
     ///
-    /// - `continues`: the member accepts no certificate but this one; a finalization that it accepts is told as final, where its view is
-    ///   above all that were told.
+    /// - `continues`: the member accepts no certificate but this one; a finalization that it accepts is reported as final, if its view is
+    ///   above all reported views.
     /// - `answered`, `refused`: as of `call`.
     /// - `no_work`: no work is queued.
-    /// - `signed`: the votes that are stored stay signed under the member's key.
+    /// - `signed`: the stored votes stay signed under the member's key.
     pub fn submit(
         &mut self,
         certificate: Certificate<S, D>,
@@ -143,7 +150,8 @@ impl<S: Scheme<D>, L: Elector<S>, D: Digest> Journaled<S, L, D> {
             (Some (certificate_subject (certificate_facts S.certificate_bytes certificate))) self.old self.new }
         ensures signed { StaysSigned S.IsSignature self.old self.new }
         ensures answered { IfOk result (λ reply. IsCall D.eq L.elect self.old.member.facts
-            (certificate_call (certificate_facts S.certificate_bytes certificate) now) (told S.certificate_bytes reply) self.new.member.facts) }
+            (certificate_call (certificate_facts S.certificate_bytes certificate) now) (told S.certificate_bytes reply)
+            self.new.member.facts) }
         ensures refused { IfOk result (λ reply. IsTrue (is_refused (told S.certificate_bytes reply))
             → self.new.member.facts ≡ self.old.member.facts) }
         ensures unchanged { OnErr result (IsUnchanged self.old self.new) }
@@ -155,17 +163,20 @@ impl<S: Scheme<D>, L: Elector<S>, D: Digest> Journaled<S, L, D> {
         }
     }
 
-    /// Hands a certificate in, and tells the proposal as final that it finalizes, where it is accepted.
+    /// Passes a certificate to the member, and reports the proposal that it finalizes as final, if it is accepted.
     fn take(&mut self, certificate: Certificate<S, D>, now: u64) -> Reply<S, D>
         requires { HasRoom self.old.outbox }
         ensures continues { Continues D.eq L.elect S.certificate_bytes S.IsSignature
             (Some (certificate_subject (certificate_facts S.certificate_bytes certificate))) self.old self.new }
         ensures signed { StaysSigned S.IsSignature self.old self.new }
         ensures answered { IsCall D.eq L.elect self.old.member.facts
-            (certificate_call (certificate_facts S.certificate_bytes certificate) now) (told S.certificate_bytes result) self.new.member.facts }
-        ensures refused { IsTrue (is_refused (told S.certificate_bytes result)) → self.new.member.facts ≡ self.old.member.facts }
+            (certificate_call (certificate_facts S.certificate_bytes certificate) now) (told S.certificate_bytes result)
+            self.new.member.facts }
+        ensures refused { IsTrue (is_refused (told S.certificate_bytes result))
+            → self.new.member.facts ≡ self.old.member.facts }
         ensures no_work { QueuesNoWork self.old.outbox self.new.outbox }
     {
+        // proof only: the contract of `record` says that the member's votes are those of its entries
         let _record = self.member.record();
         let finalized = finalized_by(&certificate);
         let reply = self.member.call(call_with_certificate(certificate, now));
@@ -173,11 +184,11 @@ impl<S: Scheme<D>, L: Elector<S>, D: Digest> Journaled<S, L, D> {
         reply
     }
 
-    /// Queues what the record has grown by, and behind it each vote in it. Without memory nothing has changed.
+    /// Queues the new entries of the record, and after them each vote in them. Without memory nothing has changed.
     ///
     /// - `whole`, `holds`: all of the record is queued, or was; so a journal that carries it out holds the record.
     /// - `no_work`: as of `submit`.
-    /// - `signed`: the votes that are stored stay signed under the member's key.
+    /// - `signed`: the stored votes stay signed under the member's key.
     pub fn store(&mut self) -> Result<(), AllocError>
         ensures continues { Continues D.eq L.elect S.certificate_bytes S.IsSignature None self.old self.new }
         ensures signed { StaysSigned S.IsSignature self.old self.new }
@@ -198,15 +209,15 @@ impl<S: Scheme<D>, L: Elector<S>, D: Digest> Journaled<S, L, D> {
         Ok(())
     }
 
-    /// Prunes the record, behind the state's own prune, and queues what is left in place of all that is stored; before that, what the
-    /// record has grown by is queued, since by a record that is replaced no vote leaves.
+    /// Prunes the record, after the state's own prune, and queues what is left in place of all that is stored. Before that it queues the
+    /// new entries of the record, since no vote is sent by a record that is replaced.
     ///
     /// - `whole`: all of the record is queued.
     /// - `waiting`: what the member waits for is the same.
-    /// - `pruned`: the record is pruned, as by `Member::prune_record`, and nothing else has changed of the member.
+    /// - `pruned`: the record is pruned, as by `Member::prune_record`, and nothing else of the member has changed.
     /// - `unpruned`: without memory nothing has changed, or it is so pruned and has failed: what is stored is no longer the record.
     /// - `no_work`: as of `submit`.
-    /// - `signed`: the votes that are stored stay signed under the member's key.
+    /// - `signed`: the stored votes stay signed under the member's key.
     pub fn prune_record(&mut self) -> Result<(), AllocError>
         ensures continues { Continues D.eq L.elect S.certificate_bytes S.IsSignature None self.old self.new }
         ensures signed { StaysSigned S.IsSignature self.old self.new }
@@ -245,38 +256,40 @@ impl<S: Scheme<D>, L: Elector<S>, D: Digest> Journaled<S, L, D> {
         }
     }
 
-    /// Queues other work, behind all that is queued. Without memory nothing has changed.
+    /// Queues other work, after all that is queued. Without memory nothing has changed.
     ///
-    /// - `signed`: the votes that are stored stay signed under the member's key.
+    /// - `signed`: the stored votes stay signed under the member's key.
     pub fn push(&mut self, work: Work<S, D>) -> Result<(), AllocError>
         ensures continues { Continues D.eq L.elect S.certificate_bytes S.IsSignature None self.old self.new }
         ensures signed { StaysSigned S.IsSignature self.old self.new }
         ensures member { self.new.member ≡ self.old.member }
-        ensures queued { OnOk result (self.new.outbox.queue.items ≡ self.old.outbox.queue.items ++ output.Work work ∷ []) }
+        ensures queued { OnOk result
+            (self.new.outbox.queue.items ≡ self.old.outbox.queue.items ++ output.Work work ∷ []) }
         ensures unchanged { OnErr result (IsUnchanged self.old self.new) }
     {
         self.outbox.push(work)
     }
 
-    /// Queues the newest vote to nullify that is stored once more, where it is one of the view. Answers whether it is.
+    /// Queues the newest stored vote to nullify once more, if it is one of the view. Returns whether it is.
     ///
-    /// - `signed`: the votes that are stored stay signed under the member's key.
+    /// - `signed`: the stored votes stay signed under the member's key.
     pub fn repeat(&mut self, view: View) -> Result<bool, AllocError>
         ensures continues { Continues D.eq L.elect S.certificate_bytes S.IsSignature None self.old self.new }
         ensures signed { StaysSigned S.IsSignature self.old self.new }
         ensures member { self.new.member ≡ self.old.member }
-        ensures repeated { IfOk result (λ sent. IsRepeated view self.old.outbox.repeat sent self.old.outbox self.new.outbox) }
+        ensures repeated { IfOk result
+            (λ sent. IsRepeated view self.old.outbox.repeat sent self.old.outbox self.new.outbox) }
         ensures unchanged { OnErr result (IsUnchanged self.old self.new) }
     {
         self.outbox.repeat(view)
     }
 
-    /// What is to be carried out next.
+    /// Returns the next output to carry out.
     ///
-    /// - `kept`: what is answered is given out.
-    /// - `told`: no other proposal is queued to be told as final.
-    /// - `front`: it was queued in front.
-    /// - `traced`, `signed`: it stays traced, and the votes that are stored stay signed under the member's key.
+    /// - `kept`: the returned output is appended to the list of outputs.
+    /// - `told`: no other proposal is queued to be reported as final.
+    /// - `front`: the output was the first in the queue.
+    /// - `traced`, `signed`: the list stays traced, and the stored votes stay signed under the member's key.
     pub fn next(&mut self) -> Option<Output<S, D, Stored>>
         ensures kept { (given : _) → IsJournaled S.certificate_bytes given self.old
             → IsJournaled S.certificate_bytes (given ++ option_to_list result) self.new }
@@ -285,22 +298,23 @@ impl<S: Scheme<D>, L: Elector<S>, D: Digest> Journaled<S, L, D> {
         ensures told { ReportsNoMore (option_to_list result) self.old.outbox self.new.outbox }
         ensures front { self.old.outbox.queue.items ≡ option_to_list result ++ self.new.outbox.queue.items }
         ensures none { IsNone result → self.new.outbox.queue.items ≡ [] }
-        ensures same { (self.new.member ≡ self.old.member) × (self.new.stored ≡ self.old.stored) × (self.new.reach ≡ self.old.reach)
+        ensures same { (self.new.member ≡ self.old.member) × (self.new.stored ≡ self.old.stored)
+            × (self.new.reach ≡ self.old.reach)
             × (self.new.failed ≡ self.old.failed) }
     {
         self.outbox.next()
     }
 
-    /// Whether nothing is to be carried out.
+    /// Returns whether nothing is queued.
     pub fn is_idle(&self) -> bool
         ensures { IsTrue result ↔ (self.now.outbox.queue.items ≡ []) }
     {
         self.outbox.is_empty()
     }
 
-    /// Nothing more is given out.
+    /// Fails: nothing more is returned.
     ///
-    /// - `signed`: the votes that are stored stay signed under the member's key.
+    /// - `signed`: the stored votes stay signed under the member's key.
     pub fn fail(&mut self)
         ensures continues { Continues D.eq L.elect S.certificate_bytes S.IsSignature None self.old self.new }
         ensures signed { StaysSigned S.IsSignature self.old self.new }
@@ -309,14 +323,14 @@ impl<S: Scheme<D>, L: Elector<S>, D: Digest> Journaled<S, L, D> {
         self.failed = true;
     }
 
-    /// Whether it failed, or the member did.
+    /// Returns whether it failed, or the member did.
     pub fn has_failed(&self) -> bool
         ensures { result ≡ has_failed self.now }
     {
         self.failed || self.member.state().is_none()
     }
 
-    /// The member's state, while it has not failed: it has a floor, and has not failed either.
+    /// Returns the member's state, while it has not failed: the state has a floor, and has not failed either.
     pub fn state(&self) -> Option<&State<S, L, D>>
         ensures life { option_copied result ≡ self.now.member.facts.life }
         ensures started { IfSome result (λ state. (state.now.failed ≡ false) × (is_started state.now ≡ true)) }
@@ -332,7 +346,7 @@ impl<S: Scheme<D>, L: Elector<S>, D: Digest> Journaled<S, L, D> {
         self.member.awaits_verdict(view)
     }
 
-    /// The record, oldest entry first.
+    /// Returns the record, oldest entry first.
     pub fn record(&self) -> &[Artifact<S, D>]
         ensures entries { entries_of S.certificate_bytes result.now ≡ self.now.member.facts.entries }
         ensures votes { votes_of result.now ≡ self.now.member.votes }
@@ -340,61 +354,69 @@ impl<S: Scheme<D>, L: Elector<S>, D: Digest> Journaled<S, L, D> {
         self.member.record()
     }
 
-    /// What a journal stores beside the record.
+    /// Returns what a journal stores beside the record.
     pub fn stored(&self) -> Stored
         ensures { result ≡ stored_of self.now.member.facts }
     {
         self.member.stored()
     }
 
-    /// The laws of all that it gave out, and of all that its member has done. It does nothing: its contract is the laws.
+    /// Does nothing: its contract is the laws of all outputs that it returned, and of all that its member has done.
     ///
-    /// - `behind`: each vote stands behind an output that stores it, with its very signature.
-    /// - `stored`: until it fails, where all of the record is queued or was, a journal that carries out what was given out and
-    ///   what is queued holds the record, and beside it what a journal stores: so a member that is resumed from it goes on from
-    ///   the record.
-    /// - `emitted`: until it fails, each vote that is stored was given out or is queued, but those of the record that the life began
-    ///   with, which the first output stores.
-    /// - `stops`: until it fails, a host may stop after each output that was given out or is queued, and amid each `Store`, of which only
+    /// - `behind`: each vote comes after an output that stores it, with exactly its signature.
+    /// - `stored`: until it fails, if all of the record is queued or was, a journal that carries out all returned and queued outputs holds
+    ///   the record, and what a journal stores beside it. So a member that is resumed from it continues from the record.
+    /// - `emitted`: until it fails, each stored vote was returned or is queued. The exceptions are votes of the record that the lifetime
+    ///   began with; the first output stores them.
+    /// - `stops`: until it fails, a host may stop after each output that was returned or is queued, and amid each `Store`, of which only
     ///   the first entries were written. The journal is then the record of a member that this one was at some moment of this lifetime, and
     ///   that member had signed each vote among these outputs.
     /// - `finals`: of each proposal that it reported as final, its member accepted the finalization.
-    /// - `signed`: each vote that it gave out is its member's, with a signature on the vote's own subject under the member's key.
-    /// - `rising`: the views of the proposals rise that it told as final.
-    /// - `last`: the last of them, of those that it told and those that are queued, is of the member's last finalized view.
-    /// - `lawful`: what its member has done keeps the voting rules, over all its lives.
+    /// - `signed`: each vote that it returned is its member's, with a signature on the vote's own subject under the member's key.
+    /// - `rising`: the views of the proposals that it reported as final rise.
+    /// - `last`: the last of them, reported or queued, is of the member's last finalized view.
+    /// - `lawful`: what its member has done keeps the voting rules, over all its lifetimes.
     /// - `ran`: a network of `agreement` may have it as member `i`.
     /// - `once`: its record holds each entry once, and of each view at most seven.
     pub fn keeps_the_laws(&self)
         ensures behind { (given : _) → IsJournaled S.certificate_bytes given self.now → AreBehind [] given }
-        ensures stored { (given : _) → IsJournaled S.certificate_bytes given self.now → self.now.failed ≡ false → IsWhole S.certificate_bytes self.now
+        ensures stored { (given : _) → IsJournaled S.certificate_bytes given self.now → self.now.failed ≡ false
+            → IsWhole S.certificate_bytes self.now
             → IsRecordOf S.certificate_bytes self.now.member (journal_of (given ++ self.now.outbox.queue.items)) }
         ensures emitted { (given : _) → IsJournaled S.certificate_bytes given self.now → self.now.failed ≡ false
             → AllAreReturned (given ++ self.now.outbox.queue.items) }
-        ensures stops { (term_length i : _) (earlier given all : _) → IsTraced D.eq L.elect S.certificate_bytes term_length i earlier given all self.now
+        ensures stops { (term_length i : _) (earlier given all : _)
+            → IsTraced D.eq L.elect S.certificate_bytes term_length i earlier given all self.now
             → self.now.failed ≡ false
-            → EachStopIsLawful D.eq L.elect S.certificate_bytes term_length i earlier all (given ++ self.now.outbox.queue.items) }
-        ensures finals { (term_length i : _) (earlier given all : _) → IsTraced D.eq L.elect S.certificate_bytes term_length i earlier given all self.now
+            → EachStopIsLawful D.eq L.elect S.certificate_bytes term_length i earlier all
+            (given ++ self.now.outbox.queue.items) }
+        ensures finals { (term_length i : _) (earlier given all : _)
+            → IsTraced D.eq L.elect S.certificate_bytes term_length i earlier given all self.now
             → WereAccepted all (finals_in given) }
-        ensures signed { (i key given vote : _) → IsSignedBy S.IsSignature i key given self.now → AreBehind [] given → Contains given (output.Vote vote)
+        ensures signed { (i key given vote : _) → IsSignedBy S.IsSignature i key given self.now → AreBehind [] given
+            → Contains given (output.Vote vote)
             → (vote.signer ≡ i) × S.IsSignature key vote.subject vote.signature }
         ensures rising { (given : _) → IsJournaled S.certificate_bytes given self.now → RiseByView (finals_in given) }
-        ensures last { (given : _) → IsJournaled S.certificate_bytes given self.now → IfSome self.now.member.facts.life (λ x.
+        ensures last { (given : _) → IsJournaled S.certificate_bytes given self.now
+            → IfSome self.now.member.facts.life (λ x.
             EndsAt x.finalized (finals_in (given ++ self.now.outbox.queue.items))) }
-        ensures lawful { OfEachHistory D.eq L.elect self.now.member.facts (λ term_length i all. IsLawful term_length all) }
+        ensures lawful { OfEachHistory D.eq L.elect self.now.member.facts
+            (λ term_length i all. IsLawful term_length all) }
         ensures ran { OfEachHistory D.eq L.elect self.now.member.facts (MayBeHistoryOf S.PublicKey D.eq L.elect) }
-        ensures once { OfEachHistory D.eq L.elect self.now.member.facts (λ term_length i all. HoldsEachEntryOnce self.now.member.facts) }
+        ensures once { OfEachHistory D.eq L.elect self.now.member.facts
+            (λ term_length i all. HoldsEachEntryOnce self.now.member.facts) }
     {
         self.outbox.keeps_the_law();
         self.member.keeps_the_laws();
+        // proof only: the contract of `record` says that the member's votes are those of its entries
         let _record = self.member.record();
     }
 }
 
-/// A host may stop between any two outputs, and resume from its journal. It does nothing: its contract is the law.
+/// Does nothing: its contract is the law that a host may stop between any two outputs, and resume from its journal.
 ///
-/// The host carried outputs out in order and stopped after one of them, as `Journaled::keeps_the_laws`, clause `stops`, allows. A
-/// member is then resumed from the journal that these outputs have written.
+/// The host carried outputs out in order and stopped after one of them, as `Journaled::keeps_the_laws`, clause `stops`, allows. A member is
+/// then resumed from the journal that these outputs have written.
 ///
 /// - That member is the same member of the network, and has done what it had done by then.
 /// - It has signed each vote that the host carried out, and each vote of its record.
@@ -403,7 +425,7 @@ pub fn stops_are_resumed<S: Scheme<D>, L: Elector<S>, D: Digest>()
     ensures { EachResumeContinues D.eq L.elect S.IsSignature S.certificate_bytes S.me L.terms }
 {}
 
-/// The last finalized view of a member that has not failed.
+/// Returns the last finalized view of a member that has not failed.
 fn last_finalized<S: Scheme<D>, L: Elector<S>, D: Digest>(member: &LawfulMember<S, L, D>) -> View
     ensures { IfSome member.now.facts.life (λ x. result ≡ x.finalized) }
 {
@@ -413,11 +435,12 @@ fn last_finalized<S: Scheme<D>, L: Elector<S>, D: Digest>(member: &LawfulMember<
     }
 }
 
-/// The proposal that a certificate finalizes.
+/// Returns the proposal that a certificate finalizes.
 fn finalized_by<S: CertificateScheme, D: Digest>(
     certificate: &Certificate<S, D>,
 ) -> Option<Proposal<D>>
-    ensures { finals_by (Accepts (certificate_subject (certificate_facts S.certificate_bytes certificate.now)) ∷ []) ≡ option_to_list result }
+    ensures { finals_by (Accepts (certificate_subject (certificate_facts S.certificate_bytes certificate.now)) ∷ []) ≡
+        option_to_list result }
 {
     match certificate {
         Certificate::Finalization(finalization) => Some(finalization.proposal),
@@ -425,7 +448,7 @@ fn finalized_by<S: CertificateScheme, D: Digest>(
     }
 }
 
-/// The proposal that is final by the answer.
+/// Returns the proposal that is final by the reply.
 fn final_by<S: CertificateScheme, D: Digest>(
     finalized: Option<Proposal<D>>,
     reply: &Reply<S, D>,
@@ -438,13 +461,15 @@ fn final_by<S: CertificateScheme, D: Digest>(
     }
 }
 
-/// The call that hands a certificate in.
+/// Returns the call that passes a certificate.
 fn call_with_certificate<S: CertificateScheme, D: Digest>(
     certificate: Certificate<S, D>,
     now: u64,
 ) -> Call<S, D>
-    ensures asked { asked S.certificate_bytes result ≡ certificate_call (certificate_facts S.certificate_bytes certificate) now }
-    ensures hands { certificates_in result ≡ Accepts (certificate_subject (certificate_facts S.certificate_bytes certificate)) ∷ [] }
+    ensures asked { asked S.certificate_bytes result ≡ certificate_call
+        (certificate_facts S.certificate_bytes certificate) now }
+    ensures hands { certificates_in result ≡ Accepts
+        (certificate_subject (certificate_facts S.certificate_bytes certificate)) ∷ [] }
 {
     match certificate {
         Certificate::Notarization(notarization) => Call::AddNotarization(notarization),

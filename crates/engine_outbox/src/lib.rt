@@ -1,4 +1,4 @@
-//! What a member is to carry out, in order, each vote behind what stores it.
+//! The outputs that a member's host must carry out, in order; each vote comes after what stores it.
 #![tactic(auto)]
 
 pub mod journaled;

@@ -1,9 +1,9 @@
-//! The outbox: what is to be carried out, in order. No vote leaves before it is stored.
+//! The outbox: the outputs that the host must carry out, in order. No vote leaves before it is stored.
 //!
-//! It owes that over the list of all that it gave out and has queued, each vote stands behind a `Store` or a `Replace` that
-//! holds its entry, with the very signature. Votes are read from the entries that are to be stored, and not from what the core
-//! answered: what a record has grown by is handed to `store`, and each vote in it leaves right behind it. It owes too that the
-//! views of the proposals rise that it tells as final.
+//! It guarantees that in the list of all returned and queued outputs, each vote comes after a `Store` or a `Replace` that holds its entry,
+//! with exactly its signature. It reads votes from the entries to be stored, not from what the core returned: `store` receives the new
+//! entries of a record, and each vote in them is queued right after them. It also guarantees that the views of the proposals that it
+//! reports as final rise.
 
 ghost use Rattle.std.specs.Prelude.{◌≡◌, ◌++◌, ◌∷◌, [], ◌↔◌, true, nat_lt, None, Some, IsTrue, IsNone, IfOk, OnOk, OnErr, option_to_list};
 ghost use Rattle.std.specs.Option.{option_map_or};
@@ -19,14 +19,14 @@ use std::alloc::{AllocError, Global};
 use std::collections::VecDeque;
 use votes::{copies, copy_of, newest_nullify, votes_of};
 
-/// What is to be carried out, oldest first. `J` is what a journal stores beside its entries.
+/// The outputs to carry out, oldest first. `J` is what a journal stores beside its entries.
 #[derive(Drop)]
 pub struct Outbox<S: CertificateScheme, D, J> {
     alloc: Global,
     queue: VecDeque<Output<S, D, J>>,
-    /// The newest vote to nullify among the entries that are stored.
+    /// The newest vote to nullify among the stored entries.
     repeat: Option<Vote<D, S::Signature>>,
-    /// The highest view whose proposal was told as final, or the one up to which none is.
+    /// The highest view whose proposal was reported as final, or the one up to which none is.
     told: View,
 }
 
@@ -35,9 +35,9 @@ impl<S: CertificateScheme, D: Digest, J: Drop> Outbox<S, D, J> {
     ghost use Rattle.engine_outbox.specs.Finalizations.{finals_in, RiseByView};
     ghost use Rattle.engine_outbox.specs.Outboxes.{IsLawfulOutbox, HasBecome, HasStayed, IsStored, IsReplaced, IsRepeated, HasRoom, IsPassedIf, IsTold, QueuesMore};
 
-    /// Nothing is to be carried out, and no proposal of this view or below is ever told as final.
+    /// Returns an empty outbox. It never reports a proposal of this view or below as final.
     ///
-    /// - `begins`: nothing was given out.
+    /// - `begins`: nothing was returned.
     pub fn new(alloc: Global, told: View) -> Outbox<S, D, J>
         ensures empty { (result.queue.items ≡ []) × (result.repeat ≡ None) × (result.told ≡ told) }
         ensures begins { IsLawfulOutbox [] result }
@@ -50,8 +50,8 @@ impl<S: CertificateScheme, D: Digest, J: Drop> Outbox<S, D, J> {
         }
     }
 
-    /// Queues what a record has grown by: its entries are to be stored behind all others, and then each vote among them leaves.
-    /// Without memory nothing has changed.
+    /// Queues the new entries of a record, to be stored after all others, and then each vote among them. Without memory nothing has
+    /// changed.
     pub fn store(&mut self, fresh: &[Artifact<S, D>]) -> Result<(), AllocError>
         ensures queued { OnOk result (IsStored S.certificate_bytes fresh.now self.old self.new) }
         ensures kept { OnErr result (HasStayed self.old self.new) }
@@ -61,8 +61,8 @@ impl<S: CertificateScheme, D: Digest, J: Drop> Outbox<S, D, J> {
         self.queue_entries(fresh)
     }
 
-    /// Queues a whole record, which is to be stored in place of all entries, in one step with what is stored beside it: at the
-    /// start of a life, and once the record was pruned. Its votes do not leave once more. Without memory nothing has changed.
+    /// Queues a whole record, to be stored in place of all entries, in one step with what is stored beside it: at the start of a lifetime,
+    /// and once the record was pruned. Its votes are not sent again. Without memory nothing has changed.
     pub fn replace(&mut self, all: &[Artifact<S, D>], beside: J) -> Result<(), AllocError>
         ensures queued { OnOk result (IsReplaced S.certificate_bytes all.now beside self.old self.new) }
         ensures kept { OnErr result (HasStayed self.old self.new) }
@@ -72,8 +72,8 @@ impl<S: CertificateScheme, D: Digest, J: Drop> Outbox<S, D, J> {
         self.queue_record(all, beside)
     }
 
-    /// Queues the newest vote to nullify that is stored once more, where it is one of the view. Answers whether it is.
-    /// Without memory nothing has changed.
+    /// Queues the newest stored vote to nullify once more, if it is one of the view. Returns whether it is. Without memory nothing has
+    /// changed.
     pub fn repeat(&mut self, view: View) -> Result<bool, AllocError>
         ensures queued { IfOk result (λ sent. IsRepeated view self.old.repeat sent self.old self.new) }
         ensures kept { OnErr result (HasStayed self.old self.new) }
@@ -103,7 +103,7 @@ impl<S: CertificateScheme, D: Digest, J: Drop> Outbox<S, D, J> {
         self.queue.reserve(1)
     }
 
-    /// Tells a proposal as final, where there is one, and none of its view or above was told.
+    /// Reports a proposal as final, if there is one, and none of its view or above was reported.
     pub fn tell(&mut self, finalized: Option<Proposal<D>>)
         requires { HasRoom self.old }
         ensures told { IsTold finalized self.old self.new }
@@ -113,34 +113,35 @@ impl<S: CertificateScheme, D: Digest, J: Drop> Outbox<S, D, J> {
         self.queue_final(finalized)
     }
 
-    /// What is to be carried out next.
+    /// Returns the next output to carry out.
     ///
-    /// - `continues`: it was given out behind all that was before.
+    /// - `continues`: the output is appended to all that was returned before.
     pub fn next(&mut self) -> Option<Output<S, D, J>>
         ensures front { self.old.queue.items ≡ option_to_list result ++ self.new.queue.items }
         ensures none { IsNone result → self.new.queue.items ≡ [] }
         ensures repeat { self.new.repeat ≡ self.old.repeat }
         ensures told { self.new.told ≡ self.old.told }
-        ensures continues { (given : _) → IsLawfulOutbox given self.old → IsLawfulOutbox (given ++ option_to_list result) self.new }
+        ensures continues { (given : _) → IsLawfulOutbox given self.old
+            → IsLawfulOutbox (given ++ option_to_list result) self.new }
     {
         self.queue.pop_front()
     }
 
-    /// Whether nothing is to be carried out.
+    /// Returns whether nothing is queued.
     pub fn is_empty(&self) -> bool
         ensures { IsTrue result ↔ (self.now.queue.items ≡ []) }
     {
         self.queue.is_empty()
     }
 
-    /// The law of all that it gave out so far: each vote stands behind an output that stores it, and the views of the proposals
-    /// rise that are told as final. It does nothing: its contract is the law.
+    /// Does nothing: its contract is the law of all outputs that it returned. Each vote comes after an output that stores it, and the views
+    /// of the proposals that are reported as final rise.
     pub fn keeps_the_law(&self)
         ensures behind { (given : _) → IsLawfulOutbox given self.now → AreBehind [] given }
         ensures rising { (given : _) → IsLawfulOutbox given self.now → RiseByView (finals_in given) }
     {}
 
-    /// Queues entries, and behind them the votes among them.
+    /// Queues entries, and after them the votes among them.
     fn queue_entries(&mut self, fresh: &[Artifact<S, D>]) -> Result<(), AllocError>
         ensures queued { OnOk result (IsStored S.certificate_bytes fresh.now self.old self.new) }
         ensures kept { OnErr result (HasStayed self.old self.new) }
@@ -168,7 +169,7 @@ impl<S: CertificateScheme, D: Digest, J: Drop> Outbox<S, D, J> {
         }
     }
 
-    /// Queues the vote that may be repeated, where it is one of the view.
+    /// Queues the vote that may be repeated, if it is one of the view.
     fn queue_repeat(&mut self, view: View) -> Result<bool, AllocError>
         ensures queued { IfOk result (λ sent. IsRepeated view self.old.repeat sent self.old self.new) }
         ensures kept { OnErr result (HasStayed self.old self.new) }
@@ -193,7 +194,7 @@ impl<S: CertificateScheme, D: Digest, J: Drop> Outbox<S, D, J> {
         Ok(())
     }
 
-    /// Queues a proposal that is final, where there is one.
+    /// Queues a proposal that is final, if there is one.
     fn queue_final(&mut self, finalized: Option<Proposal<D>>)
         requires { HasRoom self.old }
         ensures { IsTold finalized self.old self.new }
@@ -203,7 +204,7 @@ impl<S: CertificateScheme, D: Digest, J: Drop> Outbox<S, D, J> {
         }
     }
 
-    /// Queues a proposal that is final, where none of its view or above was told.
+    /// Queues a proposal that is final, if none of its view or above was reported.
     fn queue_above(&mut self, proposal: &Proposal<D>)
         requires { HasRoom self.old }
         ensures { IsPassedIf (nat_lt self.old.told proposal.now.round.view) proposal.now self.old self.new }
@@ -214,13 +215,14 @@ impl<S: CertificateScheme, D: Digest, J: Drop> Outbox<S, D, J> {
         }
     }
 
-    /// Queues a batch, and notes the newest vote to nullify in it, where there is one.
+    /// Queues a batch, and notes the newest vote to nullify in it, if there is one.
     fn queue_batch(
         &mut self,
         mut batch: VecDeque<Output<S, D, J>>,
         newest: Option<Vote<D, S::Signature>>,
     ) -> Result<(), AllocError>
-        ensures queued { OnOk result (HasBecome batch.items (option_map_or Some newest self.old.repeat) self.old self.new) }
+        ensures queued { OnOk result
+            (HasBecome batch.items (option_map_or Some newest self.old.repeat) self.old self.new) }
         ensures kept { OnErr result (HasStayed self.old self.new) }
     {
         match self.queue.append(&mut batch) {
@@ -232,7 +234,7 @@ impl<S: CertificateScheme, D: Digest, J: Drop> Outbox<S, D, J> {
         }
     }
 
-    /// Notes a vote to nullify, where there is one.
+    /// Notes a vote to nullify, if there is one.
     fn note(&mut self, newest: Option<Vote<D, S::Signature>>)
         ensures queue { self.new.queue ≡ self.old.queue }
         ensures told { self.new.told ≡ self.old.told }
@@ -244,7 +246,7 @@ impl<S: CertificateScheme, D: Digest, J: Drop> Outbox<S, D, J> {
     }
 }
 
-/// The entries as they are to be stored, and behind them the votes among them.
+/// Returns the entries as they are to be stored, and after them the votes among them.
 fn batch_of<S: CertificateScheme, D: Digest, J: Drop>(
     alloc: Global,
     entries: Vec<Artifact<S, D>>,
@@ -260,7 +262,7 @@ fn batch_of<S: CertificateScheme, D: Digest, J: Drop>(
     }
 }
 
-/// The entries as they are to be stored in place of all.
+/// Returns the entries as they are to be stored in place of all.
 fn whole_batch<S: CertificateScheme, D: Digest, J: Drop>(
     alloc: Global,
     entries: Vec<Artifact<S, D>>,

@@ -35,7 +35,7 @@ pub enum Work<S: CertificateScheme, D> {
     /// Ask a peer for a certificate.
     Fetch(Ask),
     /// Two votes of one member that contradict each other. It is returned once of a member, kind and view, as long as the view's votes are
-    /// held.
+    /// stored.
     Equivocated(Vote<D, S::Signature>, Vote<D, S::Signature>),
     /// The leader of the view, by its key, signed two proposals, which certificates show.
     ProposedTwice(View, S::PublicKey),

@@ -7,7 +7,7 @@ use Rattle.engine_planner.specs.Consequences.{IsResolverNotified, IsTakenIn}
 use Rattle.engine_planner.specs.PlanStates.{HasPlanned, touching, watching}
 
 module _ {S D K G C : Type 0} where
-  -- the resolver is told, and then the view is touched
+  -- the resolver receives it, and then the view is touched
   pub taken_in : (bytes : D → List ℕ) (bytes_of : C → List ℕ) (now : ℕ) (taken : Certificate S D K G C) (old heard new : Plan S D K G C)
       → heard ≡ record old { repair = heard.repair } → IsResolverNotified bytes bytes_of now taken old heard.repair
       → HasPlanned (touching (certificate_view taken)) (watching heard) new → IsTakenIn bytes bytes_of now taken old new

@@ -92,13 +92,13 @@ module _ {S D K G C : Type 0} where
     pub still_fetches : new.repair ≡ old.repair → AreAmong (fetches_of new) (planned_causes old)
     still_fetches is = among_further (among_all (ap of_repair is)) (in_fetches old)
 
-    -- steps with more behind them
+    -- steps with more after them
     pub more_steps : (more : List (Step S D K G C)) {all : List (Cause S D K G C)} → new.steps.items ≡ old.steps.items ++ more → AreAmong (planned_causes old) all → AreAmong (of_steps more) all
         → AreAmong (steps_of new) all
     more_steps more is before these =
         among_further (among_all (ap of_steps is ∙ of_steps-append old.steps.items more)) (among_each (among_further (in_steps old) before) these)
 
-  -- steps that come of nothing are planned
+  -- steps without a cause are planned
   pub planned_more : {more : List (Step S D K G C)} {old new : Plan S D K G C} → HasPlanned more old new → AreAmong (planned_causes new) (planned_causes old ++ of_steps more)
   planned_more {more = more} {old = old} {new = new} is =
       let before = among_more (planned_causes old) (of_steps more) in
@@ -130,7 +130,7 @@ module _ {S D K G C : Type 0} where
   of_blocks-append [] more = refl
   of_blocks-append (b ∷ builds) more = ap (λ rest. of_block b.context ++ rest) (of_blocks-append builds more)
 
-  -- one is told to stop that was asked for
+  -- one must stop that was asked for
   stop_of : (view : ℕ) (builds : List (Building D K)) → list_any (is_asked_at view) builds ≡ true → AreAmong {A = Cause S D K G C} (WorkItem (work.StopBuilding view) ∷ []) (of_blocks builds)
   stop_of view [] none = absurd (false≢true none)
   stop_of view (b ∷ builds) is = elim (or_cases (is_asked_at view b) (list_any (is_asked_at view) builds) is) [
@@ -171,7 +171,7 @@ module _ {S D K G C : Type 0} where
 
   -- ---- fetches
 
-  -- a fetch that is open and not wanted is lacking
+  -- a fetch that is open and not wanted is missing
   pub lacks : (wanted : List ℕ) (kind : FetchKind) (view : ℕ) (xs : List Fetch) → is_fetch_open kind view xs ≡ true → wants wanted kind view ≡ false
       → AreAmong {A = Cause S D K G C} (MissingCertificate kind view ∷ []) (of_fetches wanted xs)
   lacks wanted kind view [] is unwanted = absurd (false≢true is)
@@ -196,7 +196,7 @@ module _ {S D K G C : Type 0} where
       here same_kinds at = among_all (ap (λ k. MissingCertificate k view ∷ []) (sym same_kinds) ∙ ap (λ v. MissingCertificate x.kind v ∷ []) (sym at)
           ∙ ap (λ t. cond t [] (MissingCertificate x.kind x.view ∷ [])) (sym (ap (λ k. wants wanted k x.view) same_kinds ∙ ap (wants wanted kind) at ∙ unwanted)))
 
-  -- the fetches come of these
+  -- these cause the fetches
   pub fetches_by : (wanted : List ℕ) (xs : List Fetch) (all : List (Cause S D K G C))
       → ((kind : FetchKind) (view : ℕ) → is_fetch_open kind view xs ≡ true → wants wanted kind view ≡ false → AreAmong (MissingCertificate kind view ∷ []) all)
       → AreAmong (of_fetches wanted xs) all

@@ -1,4 +1,5 @@
--- What is planned for an answer: it is for just that answer, keeps what was planned, and tells the application what the answer asks of it.
+-- What is planned for a reply: it is for exactly that reply, preserves what was planned, and passes the application what the reply asks of
+-- it.
 use Rattle.std.proofs.Common.{◌≡◌, ◌∙◌, refl, ap, sym, subst, ℕ, Bool, true, false, ◌&&◌, ◌==◌, nat_le, List, [], ◌∷◌, ◌++◌, append-nil, map, Option, Some, None, Result, Ok, Err, is_some, not, cond}
 use Rattle.std.specs.Prelude.{IfErr, nat_lt}
 use Rattle.std.specs.List.{list_any}
@@ -34,7 +35,7 @@ pub followed : {S D K G C : Type 0} (bytes : D → List ℕ) (bytes_of : C → L
     {reply this : Reply S D K G C} → reply ≡ this → IsFollowed bytes bytes_of now asked this old new → IsFollowed bytes bytes_of now asked reply old new
 followed bytes bytes_of now asked old new is holds = subst (λ it. IsFollowed bytes bytes_of now asked it old new) (sym is) holds
 
--- and a verdict that the resolver could not be told of is not
+-- and a verdict that the resolver could not receive is not
 pub unjudged : {S D K G C X : Type 0} (old new : Plan S D K G C) (result : Result X Fault) {answer : Reply S D K G C} {is_success : Bool}
     {notarization : Option (Notarization S D K G C)} → answer ≡ reply.Certified is_success notarization
     → IfErr result (λ fault. IsUnjudged fault notarization old.repair new.repair) → IfErr result (λ fault. IsUnfollowed fault answer old new)

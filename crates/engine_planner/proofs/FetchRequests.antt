@@ -54,7 +54,7 @@ turned_over kind view other = ap (λ b. b && view == other) (turned kind fetch.N
     alike v w = grind (arith, nat_tests)
 
 module _ (kind : FetchKind) (view : ℕ) where
-  -- what is open is so still among those that are kept
+  -- what is open still is among the retained ones
   pub open_kept : (keep : Fetch → Bool) → ((f : Fetch) → is_of kind view f ≡ true → keep f ≡ true) → (xs : List Fetch) → is_fetch_open kind view xs ≡ true
       → is_fetch_open kind view (filter keep xs) ≡ true
   open_kept keep each [] is = is

@@ -336,7 +336,7 @@ module _ {S D K G C : Type 0} where
       (among_further (notarizations old.repair.resolver.open_fetches now wanted old.repair.fetches.wanted.items)
       (among_each (among_further (in_fetches old) before) (among_further (among_last offers lacks) (among_last (planned_causes old) (offers ++ lacks))))))
 
-  -- the resolver was told
+  -- the resolver received it
   told_fetches : {moment : ℕ} {call : Call} {old new : Repair} → IsRepaired moment call old new → AreAmong {A = Cause S D K G C} (of_repair new) (of_repair old)
   told_fetches {moment = moment} {call = call} {old = old} {new = new} is =
       let es = effects old.resolver.state call in

@@ -1,4 +1,4 @@
--- Plans in which a block is of no use any more.
+-- Plans in which a block is no longer needed.
 use Rattle.std.proofs.Common.{◌≡◌, ap, sym, ◌∙◌, ℕ, Bool, [], ◌∷◌, ◌++◌, length, length-append, arith, Result, Ok, Err, OnOk}
 use Rattle.std.specs.List.{list_any}
 use Rattle.engine_planner.specs.declared.plan.Plan.{Plan}
@@ -16,7 +16,7 @@ on_ok_both (Ok x) first second more = more first second
 on_ok_both (Err e) first second more = tt
 
 module _ {S D K G C : Type 0} where
-  -- the blocks are ended, and then that is told
+  -- the blocks are ended, and then that is reported
   pub stopped : (view : ℕ) (is_reported : Bool) (old mid new : Plan S D K G C) → is_reported ≡ list_any (is_asked_at view) old.builds.buildings.items → IsEnded view old mid → HasPlanned (stopping view is_reported) mid new → IsStopped view old new
   stopped view is_reported old mid new told ended planned = record {
     steps = planned.steps ∙ ap (λ (p : Plan S D K G C). p.steps.items ++ stopping view is_reported) ended.same ∙ ap (λ b. old.steps.items ++ stopping view b) told;

@@ -1,4 +1,4 @@
--- Work that is planned stays planned, and blocks that wait go on to.
+-- Planned work stays planned, and waiting blocks continue to wait.
 use Rattle.std.proofs.Common.{◌≡◌, ◌∙◌, refl, ap, sym, subst, ℕ, ◌⊎◌, inl, inr, Bool, true, false, not, ◌||◌, ◌&&◌, ◌==◌, List, [], ◌∷◌, ◌++◌, append-nil, filter}
 use Rattle.std.specs.List.{list_any}
 use Rattle.std.specs.Prelude.{Result, Ok, Err, OnOk, OnErr, IfErr}
@@ -84,7 +84,7 @@ module _ {A : Type 0} where
   }
 
 module _ {K D : Type 0} where
-  -- the proposals that came early, where all is the same, or goes on
+  -- the early proposals, where everything is the same, or continues
   early_same : (was is : Beside K D) → is ≡ was → AreAmong (filter (is_early is.reached.current) was.early) is.early
   early_same was is same = among_further (among_kept (is_early is.reached.current) was.early) (among_all (ap (λ (b : Beside K D). b.early) (sym same)))
 
@@ -102,7 +102,7 @@ module _ {S D K G C : Type 0} where
   planned-append (step.Repeat _ ∷ steps) more = planned-append steps more
   planned-append (step.Push it ∷ steps) more = ap (λ works. it ∷ works) (planned-append steps more)
 
-  -- steps that stand behind others
+  -- steps that come after others
   planned_now : (old new more : List (Step S D K G C)) → new ≡ old ++ more → work_planned new ≡ work_planned old ++ work_planned more
   planned_now old new more is = ap work_planned is ∙ planned-append old more
 
@@ -118,7 +118,7 @@ module _ {S D K G C : Type 0} where
         | inr waits ↦ waiting waits
       ]
 
-  -- a plan that is the same, or goes on through another
+  -- a plan that is the same, or continues through another
   pub keeps_as : {works planned : List (Work S D K G C)} {was is : Beside K D} → planned ≡ works → is ≡ was → IsPlanned [] (λ view. false) works was planned is
   keeps_as {planned = planned} {was = was} {is = is} same beside = record {
     early = early_same was is beside;
@@ -279,7 +279,7 @@ module _ {S D K G C : Type 0} where
   plans_beside old beside new is steps same =
       plans_behind old new [] (ap (λ (plan : Plan S D K G C). plan.steps.items) is ∙ steps ∙ sym (append-nil old.steps.items)) (ap beside_of is ∙ same)
 
-  -- of a plan that has kept one more proposal, maybe
+  -- of a plan that has stored one more proposal, maybe
   pub plans_kept : (old new : Plan S D K G C) → new ≡ record old { early = new.early } → AreAmong old.early.proposals.items new.early.proposals.items → KeepsPlanned old new
   plans_kept old new is among = record {
     found = among_all (ap (λ (plan : Plan S D K G C). work_planned plan.steps.items) (sym is));
@@ -324,7 +324,7 @@ module _ {S D K G C : Type 0} where
   pub plans_begun : (old new : Plan S D K G C) → new ≡ record old { is_timeout_due = true; is_prune_due = true } → KeepsPlanned old new
   plans_begun old new is = plans_beside old (record old { is_timeout_due = true; is_prune_due = true }) new is refl refl
 
-  -- what is planned behind a change of something else
+  -- what is planned after a change of something else
   pub plans_then : (a b c : Plan S D K G C) (asked : Task D) (told : ReplyFacts K D) → KeepsPlanned a b → PlansAnswer asked told b c → PlansAnswer asked told a c
   plans_then a b c asked told first second = record {
     early = early_further (beside_of a) (beside_of b) (beside_of c) first.early second.early second.reached;

@@ -16,7 +16,7 @@ use Rattle.engine_planner.proofs.PlanStates.{some_planned}
 use Rattle.engine_planner.proofs.PlannedWork.{keeps_as, keeps_further, plans_behind, plans_same, repaired_beside}
 
 module _ {A : Type 0} where
-  -- what stands in front of a queue is taken from it, and where nothing is taken it was empty
+  -- what is at the front of a queue is taken from it, and where nothing is taken it was empty
   nothing_left : (taken : Option A) (queued left : List A) → IsNone taken → queued ≡ option_to_list taken ++ left → left ≡ drop 1 queued → queued ≡ []
   nothing_left (Some x) queued left none is others = cc
   nothing_left None [] left none is others = refl
@@ -47,7 +47,7 @@ asking_same now old new ask asking = by_place (due_at now old.wanted.items) aski
 module _ {S D K G C : Type 0} where
   -- what is due was planned: a plan from which a step is taken
   module _ (now : ℕ) where
-    -- it kept what was planned
+    -- it preserved what was planned
     asked_keeps : (old new : Plan S D K G C) → IsFetchAsked now old new → KeepsPlanned old new
     asked_keeps old new is =
         let same = asking_same now old.repair.fetches new.repair.fetches is.ask is.asked in

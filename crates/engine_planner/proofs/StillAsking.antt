@@ -112,7 +112,7 @@ shows_none S G C (call.TriggerTimeout v reason at) leader kind view = refl
 shows_none S G C (call.NextTimeout at) leader kind view = refl
 shows_none S G C call.Prune leader kind view = refl
 
--- a task hands in no certificate
+-- a task passes no certificate
 no_task_hands_in : {D : Type 0} (bytes : D → List ℕ) (now : ℕ) (asked : Task D) → views_received bytes (call_of asked now) ≡ []
 no_task_hands_in bytes now (task.SetProposal v p) = refl
 no_task_hands_in bytes now task.Propose = refl
@@ -146,7 +146,7 @@ module _ {S D K G C : Type 0} where
     still = λ kind view is un. still kind view (or_nothing (asks old kind view) is) (not_or (over kind view) false un).0;
   }
 
-  -- beside matters of which none is a certificate that is lacking
+  -- beside matters of which none is a missing certificate
   pub asks_beside : {old new : Plan S D K G C} {over : FetchKind → ℕ → Bool} {calls : List Call} (given : List (Cause S D K G C)) → ((kind : FetchKind) (view : ℕ) → list_any (is_missing_certificate kind view) given ≡ false)
       → KeepsFetching [] over calls old new → KeepsFetching given over calls old new
   asks_beside {old = old} given none keeps = record {
@@ -370,7 +370,7 @@ module _ {S D K G C : Type 0} where
       lacks : List (Cause S D K G C)
       lacks = map (λ (it : CertificateFetch). MissingCertificate fetch.Notarization it.view) wanted
 
-  -- the resolver was told, and then steps are planned
+  -- the resolver received it, and then steps are planned
   told_asks : {moment : ℕ} {it : Call} {more : List (Step S D K G C)} {old new : Plan S D K G C} → IsRepaired moment it old.repair new.repair
       → HasPlanned more (watching (record old { repair = new.repair })) new → KeepsFetching [] never (it ∷ []) old new
   told_asks {moment = moment} {it = it} {more = more} {old = old} {new = new} is planned = record {
@@ -438,7 +438,7 @@ module _ {S D K G C : Type 0} where
     followed_asks asked reply.Restarted old new is = asks_where_same never is
     followed_asks asked reply.Unit old new is = asks_where_same never is
 
-    -- a certificate was told
+    -- a certificate was received
     without_asks : (told : Certificate S D K G C) (kind : FetchKind) (view : ℕ) (xs : List Fetch) → is_notarized kind view (update bytes (certificate_facts bytes_of told)) ≡ false
         → is_fetch_open kind view xs ≡ true → is_fetch_open kind view (without told xs) ≡ true
     without_asks (certificate.Nullification n) kind view xs un is = is
@@ -471,7 +471,7 @@ module _ {S D K G C : Type 0} where
         moment : ℕ
         moment = later bytes bytes_of now old
 
-    -- what the resolver is told is of the certificate
+    -- what the resolver receives is of the certificate
     heard_as : (handed : Certificate S D K G C) → views_received bytes (certificate_call (certificate_facts bytes_of handed) now)
         ≡ cond (certificate_view handed == 0) [] (update bytes (certificate_facts bytes_of handed) ∷ [])
     heard_as (certificate.Notarization n) = refl
@@ -513,7 +513,7 @@ module _ {S D K G C : Type 0} where
 -- ---- fetches
 
 module _ {S D K G C : Type 0} where
-  -- a certificate that is lacking is asked for, or, for want of memory, nothing has changed
+  -- a missing certificate is asked for, or, because memory ran out, nothing has changed
   pub resolves_asks : {X E : Type 0} (r : Result X E) (k : FetchKind) (v first moment : ℕ) (old new : Plan S D K G C) → new ≡ record old { repair = new.repair }
       → OnOk r (HasFetches (opened k v first moment old.repair.fetches.wanted.items) old.repair new.repair) → OnErr r (HasFetches old.repair.fetches.wanted.items old.repair new.repair)
       → OnOk r (KeepsFetching (MissingCertificate k v ∷ []) never [] old new)
@@ -528,7 +528,7 @@ module _ {S D K G C : Type 0} where
     ];
   }
 
-  -- what is lacking is asked for still
+  -- missing certificates are still asked for
   pub lets_go_asks : {X E : Type 0} {L : Type 0} (r : Result X E) (x : StateFacts K L D) (old new : Plan S D K G C) → new ≡ record old { repair = new.repair }
       → OnOk r (HasPassed x.finalized (filter (is_missing old.repair.resolver.open_fetches x) old.repair.fetches.wanted.items) old.repair new.repair)
       → OnOk r (KeepsFetching [] (λ kind view. holds new.repair.resolver.open_fetches x kind view || nat_le view x.finalized) [] old new)

@@ -18,7 +18,7 @@ use Rattle.engine_planner.specs.PlannedWork.{awaits, beside_of, is_early, consta
 use Rattle.engine_planner.proofs.Blocks.{views_told}
 use Rattle.engine_planner.proofs.PlannedWork.{among_all, any_left, any_right, keeps_further, planned-append, planned_behind, plans_beside, plans_same, repaired_beside}
 
--- what some come to, one behind the other, is queued up to one more of them
+-- what some result in, one after the other, is queued up to one more of them
 pub more_queued : {A B : Type 0} (all : List A → List B) (one : A → List B) (xs : List A) (i : ℕ) (x : A) (queued left whole : List B)
     → i < length xs → x ≡ get_or xs i x → all (x ∷ drop (i + 1) xs) ≡ one x ++ all (drop (i + 1) xs) → queued ++ all (drop i xs) ≡ whole → left ≡ queued ++ one x
     → left ++ all (drop (i + 1) xs) ≡ whole

@@ -1,4 +1,4 @@
--- Blocks that are to be built.
+-- The blocks to build.
 use Rattle.std.specs.Prelude.{ℕ, nat_le, nat_lt, Bool, true, not, ◌&&◌, ◌||◌, ◌==◌, List, [], ◌∷◌, ◌++◌, map, filter}
 use Rattle.std.specs.List.{list_any, list_all}
 use Rattle.simplex_types.specs.Proposal.{same_round}
@@ -13,7 +13,8 @@ module _ {K D : Type 0} where
   -- the application was asked for the block, in this round and on this parent
   abbrev pub is_asked_in : (D → D → Bool) → Context D K → Building D K → Bool
   is_asked_in same context building =
-      building.is_reported && same_round building.context.round context.round && same_parent same building.context.parent context.parent
+      building.is_reported && same_round building.context.round context.round
+      && same_parent same building.context.parent context.parent
 
   -- the application was asked for the block, in this view
   abbrev pub is_asked_at : ℕ → Building D K → Bool
@@ -23,7 +24,7 @@ module _ {K D : Type 0} where
   abbrev pub is_ahead : ℕ → Building D K → Bool
   is_ahead view building = nat_lt view building.context.round.view || is_asked_at view building
 
-  -- so is each
+  -- the same for each
   abbrev pub builds_from : ℕ → List (Building D K) → Bool
   builds_from view builds = list_all (is_ahead view) builds
 
@@ -38,13 +39,14 @@ module _ {K D : Type 0} where
   -- no two are of one view
   abbrev pub one_a_view : List (Building D K) → Bool
   one_a_view [] = true
-  one_a_view (building ∷ rest) = not (list_any (λ view. view == building.context.round.view) (views_built rest)) && one_a_view rest
+  one_a_view (building ∷ rest) =
+      not (list_any (λ view. view == building.context.round.view) (views_built rest)) && one_a_view rest
 
   -- the blocks of other views
   abbrev pub all_but_at : ℕ → List (Building D K) → List (Building D K)
   all_but_at view builds = filter (λ (building : Building D K). not (building.context.round.view == view)) builds
 
-  -- a block takes the place of one of its view
+  -- a block replaces one of its view
   abbrev pub in_place : Building D K → List (Building D K) → List (Building D K)
   in_place building builds = all_but_at building.context.round.view builds ++ building ∷ []
 
@@ -56,6 +58,7 @@ module _ {K D : Type 0} where
   abbrev pub has_waited : ℕ → Building D K → Bool
   has_waited view building = not building.is_reported && nat_le building.context.round.view view
 
-  -- it was by now
+  -- it is marked as asked for by now
   abbrev pub told_by : ℕ → Building D K → Building D K
-  told_by view building = record building { is_reported = building.is_reported || nat_le building.context.round.view view }
+  told_by view building = record
+      building { is_reported = building.is_reported || nat_le building.context.round.view view }

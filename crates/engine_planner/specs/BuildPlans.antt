@@ -1,4 +1,4 @@
--- What is planned for blocks that are built.
+-- What is planned for blocks to build.
 use Rattle.std.specs.Prelude.{◌≡◌, ℕ, Bool, List, [], ◌∷◌, ◌++◌, if◌then◌else◌}
 use Rattle.std.specs.List.{list_any}
 use Rattle.simplex_types.specs.declared.types.messages.Context.{Context}
@@ -10,7 +10,7 @@ use Rattle.engine_planner.specs.Blocks.{is_asked_at, all_but_at}
 use Rattle.engine_outbox.specs.declared.output.Work.TheVariants.{Build, StopBuilding}
 
 module _ {S D K G C : Type 0} where
-  -- the application is told that the view's block is of no use any more, where it was asked for it
+  -- the application must stop building in the view, if it was asked to build
   abbrev pub stopping : ℕ → Bool → List (Step S D K G C)
   stopping view is_reported = if is_reported then Push (StopBuilding view) ∷ [] else []
 
@@ -18,8 +18,9 @@ module _ {S D K G C : Type 0} where
   abbrev pub asking_for : Context D K → Bool → List (Step S D K G C)
   asking_for context is_reported = if is_reported then Push (Build context) ∷ [] else []
 
-  -- these steps stand behind those that were queued, these blocks are to be built, and nothing else has changed
-  pub record HasBuilds (more : List (Step S D K G C)) (builds : List (Building D K)) (old new : Plan S D K G C) : Type 0 where
+  -- these steps are appended to those that were queued, these blocks are to be built, and nothing else has changed
+  pub record HasBuilds (more : List (Step S D K G C)) (builds : List (Building D K))
+      (old new : Plan S D K G C) : Type 0 where
     pub steps : new.steps.items ≡ old.steps.items ++ more
     pub blocks : new.builds.buildings.items ≡ builds
     pub same : new ≡ record old { steps = new.steps; builds = new.builds }
@@ -29,7 +30,7 @@ module _ {S D K G C : Type 0} where
     pub blocks : new.builds.buildings.items ≡ all_but_at view old.builds.buildings.items
     pub same : new ≡ record old { builds = new.builds }
 
-  -- so is it, and the application is told, where it was asked
+  -- the same, and the application must stop, if it was asked to build
   abbrev pub IsStopped : ℕ → Plan S D K G C → Plan S D K G C → Type 0
   IsStopped view old new =
       let builds = old.builds.buildings.items in

@@ -1,4 +1,4 @@
--- What work, calls and fetches come of: what a plan has at hand, and what an answer of the member gives.
+-- The causes of work, calls and fetches: what a plan has at hand, and what a reply of the member brings.
 use Rattle.std.specs.Prelude.{ℕ, nat_le, List, [], ◌∷◌, ◌++◌, map, Some, if◌then◌else◌}
 use Rattle.simplex_types.specs.declared.types.messages.Context.{Context}
 use Rattle.simplex_types.specs.declared.types.messages.Proposal.{Proposal}
@@ -25,33 +25,33 @@ use Rattle.engine_planner.specs.declared.plan.Step.TheVariants as step
 use Rattle.engine_planner.specs.declared.task.Task.{Task}
 use Rattle.engine_planner.specs.declared.task.Task.TheVariants as task
 
--- what something comes of
+-- a cause
 pub data Cause (S D K G C : Type 0) : Type 0 where
   -- work that the host is to do
   WorkItem : Work S D K G C → Cause S D K G C
-  -- a certificate of this view is lacking
+  -- a certificate of this view is missing
   MissingCertificate : FetchKind → ℕ → Cause S D K G C
   -- a proposal that this member made
   Arrival : ℕ → Proposal D → Cause S D K G C
   -- a certificate on this
   Quorum : Subject D → Cause S D K G C
-  -- what the host has to tell the member
+  -- what the host must pass to the member
   Message : Task D → Cause S D K G C
   -- the moment of the current view's timeout has come
   Expiry : Cause S D K G C
 
 module _ {S D K G C : Type 0} where
-  -- work comes of itself; but what is asked of a peer of an open fetch
+  -- work is its own cause, except what is asked of a peer for an outstanding fetch
   abbrev pub of_work : Work S D K G C → List (Cause S D K G C)
   of_work (AskPeer _) = []
   of_work work = WorkItem work ∷ []
 
-  -- each of these
+  -- the same for each of these
   abbrev pub of_works : List (Work S D K G C) → List (Cause S D K G C)
   of_works [] = []
   of_works (work ∷ rest) = of_work work ++ of_works rest
 
-  -- a block is asked for in the context, or is of no use any more
+  -- a block is asked for in the context, or is no longer needed
   abbrev pub of_block : Context D K → List (Cause S D K G C)
   of_block context = WorkItem (Build context) ∷ WorkItem (StopBuilding context.round.view) ∷ []
 
@@ -59,7 +59,7 @@ module _ {S D K G C : Type 0} where
   of_blocks [] = []
   of_blocks (building ∷ rest) = of_block building.context ++ of_blocks rest
 
-  -- a call comes of what is told, where it is not of the engine's own accord
+  -- a call is caused by the passed input, unless the engine makes it without one
   abbrev pub of_task : Task D → List (Cause S D K G C)
   of_task (task.SetProposal view proposal) = Message (task.SetProposal view proposal) ∷ []
   of_task (task.Proposed view payload) = Message (task.Proposed view payload) ∷ []
@@ -70,7 +70,7 @@ module _ {S D K G C : Type 0} where
   of_task (task.Nullify view reason) = Expiry ∷ []
   of_task _ = []
 
-  -- what a step comes of
+  -- what causes a step
   abbrev pub of_step : Step S D K G C → List (Cause S D K G C)
   of_step (step.Ask asked) = of_task asked
   of_step (step.Offer from proposal) = Arrival from proposal ∷ []
@@ -82,9 +82,10 @@ module _ {S D K G C : Type 0} where
   of_steps [] = []
   of_steps (step ∷ rest) = of_step step ++ of_steps rest
 
-  -- a fetch comes of what the resolver has open, or of a certificate that is lacking
+  -- a fetch is caused by what the resolver has open, or by a missing certificate
   abbrev pub of_fetch : List ℕ → Fetch → List (Cause S D K G C)
-  of_fetch wanted fetch = if wants wanted fetch.kind fetch.view then [] else MissingCertificate fetch.kind fetch.view ∷ []
+  of_fetch wanted fetch = if wants wanted fetch.kind fetch.view then []
+      else MissingCertificate fetch.kind fetch.view ∷ []
 
   abbrev pub of_fetches : List ℕ → List Fetch → List (Cause S D K G C)
   of_fetches wanted [] = []
@@ -93,29 +94,31 @@ module _ {S D K G C : Type 0} where
   abbrev pub of_repair : Repair → List (Cause S D K G C)
   of_repair repair = of_fetches repair.resolver.open_fetches repair.fetches.wanted.items
 
-  -- proposals that came early
+  -- early proposals
   abbrev pub of_early : List (Early D) → List (Cause S D K G C)
   of_early early = map (λ (it : Early D). Arrival it.from it.proposal) early
 
   -- what a plan has at hand
   abbrev pub planned_causes : Plan S D K G C → List (Cause S D K G C)
   planned_causes plan =
-      of_steps plan.steps.items ++ (of_blocks plan.builds.buildings.items ++ (of_early plan.early.proposals.items ++ of_repair plan.repair))
+      of_steps plan.steps.items
+      ++ (of_blocks plan.builds.buildings.items ++ (of_early plan.early.proposals.items ++ of_repair plan.repair))
 
-  -- a leader signed two proposals of the view of the certificate that is handed in
+  -- a leader signed two proposals of the view of the passed certificate
   abbrev pub shown_by : CallFacts D → K → List (Cause S D K G C)
   shown_by (AddNotarization c) leader = WorkItem (ProposedTwice c.proposal.round.view leader) ∷ []
   shown_by (AddNullification c _) leader = WorkItem (ProposedTwice c.round.view leader) ∷ []
   shown_by (AddFinalization c _) leader = WorkItem (ProposedTwice c.proposal.round.view leader) ∷ []
   shown_by _ leader = []
 
-  -- what the answer to a call gives, at a moment
+  -- what the reply to a call brings, at a moment
   abbrev pub reply_causes : ℕ → Reply S D K G C → CallFacts D → List (Cause S D K G C)
   reply_causes now (reply.Work (verify.Ready context proposal)) asked = WorkItem (Verify context proposal) ∷ []
   reply_causes now (reply.Work (verify.Resolve _ view kind _)) asked = MissingCertificate (fetch_kind kind) view ∷ []
   reply_causes now (reply.Request (Some request)) asked = of_block (request_context request)
   reply_causes now (reply.Candidates proposals wanted) asked =
-      map (λ proposal. WorkItem (Certify proposal)) proposals.items ++ map (λ (it : CertificateFetch). MissingCertificate Notarization it.view) wanted.items
+      map (λ proposal. WorkItem (Certify proposal)) proposals.items
+      ++ map (λ (it : CertificateFetch). MissingCertificate Notarization it.view) wanted.items
   reply_causes now (reply.Certificate (Some certificate)) asked = WorkItem (Broadcast certificate) ∷ []
   reply_causes now (reply.Added _ (Some leader)) asked = shown_by asked leader
   reply_causes now (reply.Timeout moment reason) asked = if nat_le moment now then Expiry ∷ [] else []

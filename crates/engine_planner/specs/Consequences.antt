@@ -1,4 +1,4 @@
--- What is planned for an answer of the member.
+-- What is planned for a reply of the member.
 use Rattle.std.specs.Prelude.{◌≡◌, ℕ, ◌+◌, ◌-◌, ◌^◌, min, Bool, true, false, not, ◌&&◌, ◌==◌, nat_le, nat_lt, List, [], ◌∷◌, ◌++◌, Option, Some, None, is_some, if◌then◌else◌}
 use Rattle.simplex_types.specs.Certificates.{certificate_facts, notarization_facts}
 use Rattle.simplex_types.specs.MessageViews.{certificate_view}
@@ -43,16 +43,16 @@ pub data Consequence (D : Type 0) : Type 0 where
   Nothing : Consequence D
   -- something of the view has changed
   Touched : ℕ → Consequence D
-  -- so it has, since the block was built
+  -- the same, since the block was built
   Built : ℕ → Consequence D
-  -- the block is of no use any more, and the application is told, or it is not
+  -- the block is no longer needed, and the application must stop, or need not
   Stopped : ℕ → Consequence D
   Ended : ℕ → Consequence D
-  -- the member is asked more
+  -- the member is asked for more
   Asked : Task D → Consequence D
 
 module _ {D : Type 0} where
-  -- a call was not allowed: a block that it was about is of no use any more
+  -- a call was not allowed: a block that it was about is no longer needed
   abbrev pub after_refusal : Task D → Consequence D
   after_refusal (task.Abandon view) = Stopped view
   after_refusal (task.Supersede view) = Stopped view
@@ -60,7 +60,7 @@ module _ {D : Type 0} where
   after_refusal (task.Proposed view _) = Ended view
   after_refusal _ = Nothing
 
-  -- whether what was handed in was taken
+  -- whether what was passed in was taken
   abbrev pub after_flag : Task D → Bool → Consequence D
   after_flag (task.Proposed view _) is_taken = Built view
   after_flag (task.SetProposal view _) is_taken = if is_taken then Touched view else Nothing
@@ -70,46 +70,51 @@ module _ {D : Type 0} where
   after_flag (task.Supersede view) is_taken = if is_taken then Stopped view else Nothing
   after_flag _ is_taken = Nothing
 
-  -- whether a block is given up; else it may be replaced by another
+  -- whether a block is abandoned; else another may replace it
   abbrev pub after_watch : Task D → Bool → Consequence D
   after_watch (task.Abandon view) is_abandoned = Asked (if is_abandoned then task.Release view else task.Supersede view)
   after_watch _ is_abandoned = Nothing
 
--- by a member alone no block is built on a parent that is not certified before it enters the view
+-- a lone member builds no block on a parent that is not certified before it enters the view
 abbrev pub waits : {K D : Type 0} → Bool → ℕ → Context D K → Bool
 waits is_alone current context = is_alone && nat_lt current context.round.view
 
 module _ {S D K G C : Type 0} where
-  -- what follows from an answer that says no more than yes, no, or that the call is refused
+  -- what follows from a reply that says only yes, no, or that the call is refused
   abbrev pub IsConsequence : Consequence D → Plan S D K G C → Plan S D K G C → Type 0
   IsConsequence Nothing old new = new ≡ old
   IsConsequence (Touched view) old new = HasPlanned (touching view) (watching old) new
-  IsConsequence (Built view) old new = HasBuilds (touching view) (all_but_at view old.builds.buildings.items) (watching old) new
+  IsConsequence (Built view) old new =
+      HasBuilds (touching view) (all_but_at view old.builds.buildings.items) (watching old) new
   IsConsequence (Stopped view) old new = IsStopped view old new
   IsConsequence (Ended view) old new = IsEnded view old new
   IsConsequence (Asked call) old new = HasPlanned (Ask call ∷ []) old new
 
-  -- a certificate is lacking for a proposal, and is asked for unless it is already
+  -- a certificate is missing for a proposal, and is asked for unless it is already
   abbrev pub lacking : FetchKind → ℕ → ℕ → List Fetch → List (Step S D K G C)
   lacking kind view proposal wanted = if is_fetch_open kind view wanted then [] else Resolve kind view proposal ∷ []
 
-  -- a proposal is verified, or a certificate is lacking for one
+  -- a proposal is to be verified, or a certificate is missing for one
   abbrev pub IsVerifyFollowed : Verify D K → Plan S D K G C → Plan S D K G C → Type 0
-  IsVerifyFollowed (verify.Ready context proposal) old new = HasPlanned (Push (work.Verify context proposal) ∷ []) old new
-  IsVerifyFollowed (verify.Resolve proposal view kind _) old new = HasPlanned (lacking (fetch_kind kind) view proposal old.repair.fetches.wanted.items) old new
+  IsVerifyFollowed (verify.Ready context proposal) old new =
+      HasPlanned (Push (work.Verify context proposal) ∷ []) old new
+  IsVerifyFollowed (verify.Resolve proposal view kind _) old new =
+      HasPlanned (lacking (fetch_kind kind) view proposal old.repair.fetches.wanted.items) old new
   IsVerifyFollowed verify.Wait old new = new ≡ old
 
   -- a block is to be built, in place of one of its view: now, or once its view is entered
   abbrev pub IsBuilt : Bool → Context D K → Plan S D K G C → Plan S D K G C → Type 0
   IsBuilt is_reported context old new =
-      HasBuilds (asking_for context is_reported) (in_place (record { context = context; is_reported = is_reported }) old.builds.buildings.items) old new
+      HasBuilds (asking_for context is_reported)
+      (in_place (record { context = context; is_reported = is_reported }) old.builds.buildings.items) old new
 
   abbrev pub IsRequestFollowed : Option (ProposalRequest D K) → Plan S D K G C → Plan S D K G C → Type 0
-  IsRequestFollowed (Some (Prepare context)) old new = IsBuilt (not (waits old.is_alone old.views.current context)) context old new
+  IsRequestFollowed (Some (Prepare context)) old new =
+      IsBuilt (not (waits old.is_alone old.views.current context)) context old new
   IsRequestFollowed (Some (Propose context)) old new = IsBuilt true context old new
   IsRequestFollowed None old new = new ≡ old
 
-  -- a certificate is sent to all others, where there is one
+  -- a certificate is sent to all others, if there is one
   abbrev pub IsBroadcastFollowed : Option (Certificate S D K G C) → Plan S D K G C → Plan S D K G C → Type 0
   IsBroadcastFollowed (Some certificate) old new = HasPlanned (Push (work.Broadcast certificate) ∷ []) old new
   IsBroadcastFollowed None old new = new ≡ old
@@ -118,97 +123,109 @@ module _ {S D K G C : Type 0} where
   abbrev pub repeating : ℕ → List (Step S D K G C)
   repeating view = Repeat view ∷ Ask task.BestCertificate ∷ Ask task.Timeout ∷ []
 
-  -- a vote to nullify was cast, or the one before is sent once more; where none is allowed, that is asked again after the retry interval
+  -- a vote to nullify was cast, or the previous one is sent once more; if none is allowed, the member is asked again after the retry
+  -- interval
   abbrev pub IsNullifyFollowed : ℕ → Option (Bool × Nullify S K G C) → Plan S D K G C → Plan S D K G C → Type 0
   IsNullifyFollowed now (Some (true, vote)) old new = HasPlanned (repeating vote.round.view) old new
   IsNullifyFollowed now (Some (false, _)) old new = HasPlanned (Ask task.Timeout ∷ []) old new
   IsNullifyFollowed now None old new = new ≡ record old { timeout = min (now + old.options.retry) (2 ^ 64 - 1) }
 
-  -- the current view is given up, where its moment has come
+  -- the current view times out, if its moment has come
   abbrev pub IsTimeoutFollowed : ℕ → ℕ → TimeoutReason → Plan S D K G C → Plan S D K G C → Type 0
   IsTimeoutFollowed now moment reason old new =
-      HasPlanned (if nat_le moment now then Ask (task.Nullify old.views.current reason) ∷ [] else []) (record old { timeout = moment }) new
+      HasPlanned (if nat_le moment now then Ask (task.Nullify old.views.current reason) ∷ [] else [])
+      (record old { timeout = moment }) new
 
-  -- a leader is shown to have signed two proposals of the view, where one did
+  -- a leader is reported to have signed two proposals of the view, if one did
   abbrev pub showing : ℕ → Option K → List (Step S D K G C)
   showing view None = []
   showing view (Some leader) = Push (work.ProposedTwice view leader) ∷ []
 
-  -- proposals are certified, one behind the other
+  -- proposals are passed on for certification, one after the other
   abbrev pub certifying : List (Proposal D) → List (Step S D K G C)
   certifying [] = []
-  certifying (proposal ∷ rest) = Push (work.Certify proposal) ∷ Ask (task.SetHandle proposal.round.view) ∷ certifying rest
+  certifying (proposal ∷ rest) =
+      Push (work.Certify proposal) ∷ Ask (task.SetHandle proposal.round.view) ∷ certifying rest
 
-  -- so they are, and the notarizations are asked for that others wait for
-  pub record AreCertified (now : ℕ) (proposals : List (Proposal D)) (wanted : List CertificateFetch) (old new : Plan S D K G C) : Type 0 where
+  -- the same, and the notarizations that others wait for are asked for
+  pub record AreCertified (now : ℕ) (proposals : List (Proposal D)) (wanted : List CertificateFetch)
+      (old new : Plan S D K G C) : Type 0 where
     pub steps : new.steps.items ≡ old.steps.items ++ certifying proposals
     pub fetched : HasFetches (fetching now wanted old.repair.fetches.wanted.items) old.repair new.repair
     pub same : new ≡ record old { steps = new.steps; repair = new.repair }
 
-  -- a notarization that came is asked for no longer
+  -- a notarization that arrived is no longer asked for
   abbrev pub without : Certificate S D K G C → List Fetch → List Fetch
   without (certificate.Notarization n) fetches = closed fetch.Notarization n.proposal.round.view fetches
   without _ fetches = fetches
 
 module _ {S D K G C : Type 0} (bytes : D → List ℕ) (bytes_of : C → List ℕ) (now : ℕ) where
-  -- the moment from which on what is lacking is asked for: until then it may be on its way
+  -- the moment from which on a missing certificate is asked for: until then it may be on its way
   abbrev pub later : Plan S D K G C → ℕ
   later plan = min (now + plan.options.on_its_way) (2 ^ 64 - 1)
 
-  -- the resolver is told of a verdict, and something of the view has changed
-  pub record IsVerdictReported (is_success : Bool) (notarization : Notarization S D K G C) (old new : Plan S D K G C) : Type 0 where
-    pub repaired : IsRepaired (later old) (verdict bytes (notarization_facts bytes_of notarization) is_success) old.repair new.repair
-    pub planned : HasPlanned (touching notarization.proposal.round.view) (watching (record old { repair = new.repair })) new
+  -- the resolver receives a verdict, and something of the view has changed
+  pub record IsVerdictReported (is_success : Bool) (notarization : Notarization S D K G C)
+      (old new : Plan S D K G C) : Type 0 where
+    pub repaired : IsRepaired (later old) (verdict bytes (notarization_facts bytes_of notarization) is_success)
+        old.repair new.repair
+    pub planned : HasPlanned (touching notarization.proposal.round.view)
+        (watching (record old { repair = new.repair })) new
 
-  -- where it is not on genesis
+  -- the same if it is not on genesis
   abbrev pub IsVerdictReportedAbove : Bool → Bool → Notarization S D K G C → Plan S D K G C → Plan S D K G C → Type 0
   IsVerdictReportedAbove true is_success notarization old new = new ≡ old
   IsVerdictReportedAbove false is_success notarization old new = IsVerdictReported is_success notarization old new
 
-  -- a verdict was given, where the view is notarized
+  -- a verdict was passed, if the view is notarized
   abbrev pub IsVerdictFollowed : Bool → Option (Notarization S D K G C) → Plan S D K G C → Plan S D K G C → Type 0
   IsVerdictFollowed is_success None old new = new ≡ old
-  IsVerdictFollowed is_success (Some notarization) old new = IsVerdictReportedAbove (notarization.proposal.round.view == 0) is_success notarization old new
+  IsVerdictFollowed is_success (Some notarization) old new =
+      IsVerdictReportedAbove (notarization.proposal.round.view == 0) is_success notarization old new
 
-  -- what follows from a certificate for the resolver
+  -- the resolver's effects for a certificate
   abbrev pub effects_due : Certificate S D K G C → Plan S D K G C → List Effect
   effects_due told old = effects old.repair.resolver.state (update bytes (certificate_facts bytes_of told))
 
-  -- it is told of one
+  -- it receives one
   pub record IsResolverNotified (told : Certificate S D K G C) (old : Plan S D K G C) (repair : Repair) : Type 0 where
-    pub made : IsMade (update bytes (certificate_facts bytes_of told)) old.repair.resolver (effects_due told old) repair.resolver
-    pub fetched : repair.fetches.wanted.items ≡ without told (after_effects (later old) (effects_due told old) old.repair.fetches.wanted.items)
+    pub made : IsMade (update bytes (certificate_facts bytes_of told)) old.repair.resolver
+        (effects_due told old) repair.resolver
+    pub fetched : repair.fetches.wanted.items ≡ without told
+        (after_effects (later old) (effects_due told old) old.repair.fetches.wanted.items)
     pub peers : repair.fetches.peers ≡ old.repair.fetches.peers
     pub retry : repair.fetches.retry ≡ old.repair.fetches.retry
 
-  -- a new certificate: the resolver is told, and something of the view has changed
+  -- a new certificate: the resolver receives it, and something of the view has changed
   pub record IsTakenIn (accepted : Certificate S D K G C) (old new : Plan S D K G C) : Type 0 where
     pub heard : IsResolverNotified accepted old new.repair
     pub planned : HasPlanned (touching (certificate_view accepted)) (watching (record old { repair = new.repair })) new
 
-  -- where it is not of genesis
+  -- the same if it is not of genesis
   abbrev pub IsTakenInAbove : Bool → Certificate S D K G C → Plan S D K G C → Plan S D K G C → Type 0
   IsTakenInAbove true accepted old new = new ≡ old
   IsTakenInAbove false accepted old new = IsTakenIn accepted old new
 
-  -- where it is new
+  -- the same if it is new
   abbrev pub IsNewFollowed : Bool → Certificate S D K G C → Plan S D K G C → Plan S D K G C → Type 0
   IsNewFollowed true taken old new = IsTakenInAbove (certificate_view taken == 0) taken old new
   IsNewFollowed false taken old new = new ≡ old
 
-  -- a notarization or a finalization was handed in: first it is shown that a leader signed two proposals, where one did
-  pub record IsAddedFollowed (added : Certificate S D K G C) (is_new : Bool) (equivocator : Option K) (old new : Plan S D K G C) : Type 0 where
+  -- a notarization or a finalization was passed in: first it is reported that a leader signed two proposals, if one did
+  pub record IsAddedFollowed (added : Certificate S D K G C) (is_new : Bool) (equivocator : Option K)
+      (old new : Plan S D K G C) : Type 0 where
     pub shown : Plan S D K G C
     pub is_shown : HasPlanned (showing (certificate_view added) equivocator) old shown
     pub followed : IsNewFollowed is_new added shown new
 
-  -- what is planned for the answer to a certificate
+  -- what is planned for the reply to a certificate
   abbrev pub IsCertificateFollowed : Certificate S D K G C → Reply S D K G C → Plan S D K G C → Plan S D K G C → Type 0
-  IsCertificateFollowed handed (reply.Added is_new equivocator) old new = IsAddedFollowed handed is_new equivocator old new
+  IsCertificateFollowed handed (reply.Added is_new equivocator) old new =
+      IsAddedFollowed handed is_new equivocator old new
   IsCertificateFollowed handed (reply.AddedNullification is_new) old new = IsNewFollowed is_new handed old new
   IsCertificateFollowed handed _ old new = new ≡ old
 
-  -- what is planned for the answer to a task
+  -- what is planned for the reply to a task
   abbrev pub IsFollowed : Task D → Reply S D K G C → Plan S D K G C → Plan S D K G C → Type 0
   IsFollowed asked (reply.Flag is_taken) old new = IsConsequence (after_flag asked is_taken) old new
   IsFollowed asked (reply.Triggered is_latched) old new = IsConsequence (after_flag asked is_latched) old new
@@ -225,13 +242,13 @@ module _ {S D K G C : Type 0} (bytes : D → List ℕ) (bytes_of : C → List �
   IsFollowed asked _ old new = new ≡ old
 
 module _ {S D K G C : Type 0} where
-  -- the resolver could not be told of a verdict: for want of memory, or since it refuses the notarization
+  -- the resolver could not receive a verdict: because memory ran out, or it refuses the notarization
   abbrev pub IsUnjudged : Fault → Option (Notarization S D K G C) → Repair → Repair → Type 0
   IsUnjudged OutOfMemory _ old new = Unit {0}
   IsUnjudged fault (Some notarization) old new = IsUnrepaired (highest_named notarization.proposal) fault old new
   IsUnjudged fault None old new = ⊥
 
-  -- an answer could not be followed: for want of memory, or since the resolver could not be told of a verdict
+  -- a reply could not be followed: because memory ran out, or the resolver could not receive a verdict
   abbrev pub IsUnfollowed : Fault → Reply S D K G C → Plan S D K G C → Plan S D K G C → Type 0
   IsUnfollowed OutOfMemory _ old new = Unit {0}
   IsUnfollowed fault (reply.Certified _ notarization) old new = IsUnjudged fault notarization old.repair new.repair

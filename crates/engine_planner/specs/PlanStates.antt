@@ -8,8 +8,8 @@ use Rattle.engine_planner.specs.declared.task.Task.TheVariants.{Notarize, Finali
 use Rattle.engine_fetches.specs.declared.fetches.Fetch.{Fetch}
 use Rattle.engine_fetches.specs.Fetches.{due_at, IsEarliest}
 
--- nothing is to be done at the moment: no step is queued; the member was asked for its timeout, and for the views that it may drop,
--- since the moment came, and of each block that is to be built, since something changed; and no fetch is due
+-- nothing is due at the moment: no step is queued; the member was asked for its timeout, and for the views that it may drop, since the
+-- moment came, and about each block to build, since something changed; and no fetch is due
 pub record IsIdle {S D K G C : Type 0} (now : ℕ) (plan : Plan S D K G C) : Type 0 where
   pub steps : plan.steps.items ≡ []
   pub watched : plan.is_watch_due ≡ false
@@ -18,7 +18,7 @@ pub record IsIdle {S D K G C : Type 0} (now : ℕ) (plan : Plan S D K G C) : Typ
   pub fetched : due_at now plan.repair.fetches.wanted.items ≡ None
 
 module _ {S D K G C : Type 0} where
-  -- these steps stand behind those that were queued, and nothing else has changed
+  -- these steps are appended to those that were queued, and nothing else has changed
   pub record HasPlanned (more : List (Step S D K G C)) (old new : Plan S D K G C) : Type 0 where
     pub steps : new.steps.items ≡ old.steps.items ++ more
     pub same : new ≡ record old { steps = new.steps }
@@ -31,18 +31,21 @@ module _ {S D K G C : Type 0} where
   abbrev pub asking_for_votes : ℕ → List (Step S D K G C)
   asking_for_votes view = Ask (Notarize view) ∷ Ask (Finalize view) ∷ []
 
-  -- for the certificates of the view that were not handed out yet
+  -- to ask for the certificates of the view that were not returned yet
   abbrev pub asking_for_certificates : ℕ → List (Step S D K G C)
-  asking_for_certificates view = Ask (BroadcastNotarization view) ∷ Ask (BroadcastNullification view) ∷ Ask (BroadcastFinalization view) ∷ []
+  asking_for_certificates view =
+      Ask (BroadcastNotarization view) ∷ Ask (BroadcastNullification view) ∷ Ask (BroadcastFinalization view) ∷ []
 
   -- for both
   abbrev pub touching : ℕ → List (Step S D K G C)
   touching view = asking_for_votes view ++ asking_for_certificates view
 
--- a proposal of the view may be kept beside so many: the view is one of the eight after the current one, and fewer than eight are kept
+-- a proposal of the view may be stored beside this number of others: the view is one of the eight after the current one, and fewer than
+-- eight are stored
 abbrev pub may_keep : ℕ → ℕ → ℕ → Bool
 may_keep current view kept = nat_lt current view && nat_le view (current + 8) && nat_lt kept 8
 
 -- the moment of the next asking for a fetch or of the timeout, whichever is earlier
 abbrev pub IsWake : List Fetch → ℕ → ℕ → Type 0
-IsWake wanted timeout moment = (asking : Option ℕ) × IsEarliest wanted asking × (moment ≡ option_map_or (λ at. min at timeout) asking timeout)
+IsWake wanted timeout moment =
+    (asking : Option ℕ) × IsEarliest wanted asking × (moment ≡ option_map_or (λ at. min at timeout) asking timeout)

@@ -1,4 +1,4 @@
--- Work that is planned, and what an answer of the member asks for.
+-- Planned work, and what a reply of the member asks for.
 use Rattle.std.specs.Prelude.{◌≡◌, ℕ, Bool, true, false, ◌&&◌, ◌||◌, ◌==◌, List, [], ◌∷◌, ◌++◌, map, filter, nat_lt, Some, is_some}
 use Rattle.std.specs.List.{list_any}
 use Rattle.simplex_voter.specs.ProposalRequests.{request_context}
@@ -18,18 +18,18 @@ use Rattle.engine_planner.specs.declared.task.Task.{Task}
 use Rattle.engine_planner.specs.Blocks.{views_built, waits_for}
 use Rattle.engine_planner.specs.Consequences.{Consequence, Nothing, Built, Stopped, Ended, after_flag, after_watch, after_refusal}
 
--- whether there is no other member, the options, whom fetches are asked of, and after how long again, in milliseconds
+-- whether there is no other member, the options, the peers to ask, and the interval between askings, in milliseconds
 pub record Constants : Type 0 where
   pub is_alone : Bool
   pub options : Options
   pub peers : Peers
   pub retry : ℕ
 
--- each test that some of these pass, some of those do
+-- each test that some of these pass, some of those pass
 pub record AreAmong {A : Type 0} (these those : List A) : Type 0 where
   pub found : (test : A → Bool) → list_any test these ≡ true → list_any test those ≡ true
 
--- nothing is built any more in the view that an answer is about
+-- nothing is built any more in the view that a reply is about
 abbrev pub ended_in : {D : Type 0} → Consequence D → ℕ → Bool
 ended_in (Built view) other = view == other
 ended_in (Stopped view) other = view == other
@@ -37,7 +37,7 @@ ended_in (Ended view) other = view == other
 ended_in _ other = false
 
 module _ {K D : Type 0} where
-  -- what follows from an answer that says no more than yes, no, why, or that the call is not allowed
+  -- what follows from a reply that says only yes, no, why, or that the call is not allowed
   abbrev pub consequence_of : Task D → ReplyFacts K D → Consequence D
   consequence_of asked (Answered is_taken) = after_flag asked is_taken
   consequence_of asked (Triggered is_taken) = after_flag asked is_taken
@@ -50,7 +50,7 @@ module _ {K D : Type 0} where
   abbrev pub ends : Task D → ReplyFacts K D → ℕ → Bool
   ends asked told = ended_in (consequence_of asked told)
 
-  -- the view of the block that an answer requests
+  -- the view of the block that a reply requests
   abbrev pub views_requested : ReplyFacts K D → List ℕ
   views_requested (Requested (Some request)) = (request_context request).round.view ∷ []
   views_requested _ = []
@@ -67,18 +67,23 @@ module _ {S D K G C : Type 0} where
   work_planned (Push work ∷ rest) = work ∷ work_planned rest
   work_planned (_ ∷ rest) = work_planned rest
 
-  -- what an answer of the member asks of the application on proposals
+  -- what a reply of the member asks of the application about proposals
   abbrev pub work_of : ReplyFacts K D → List (Work S D K G C)
   work_of (Standing (Ready context proposal)) = Verify context proposal ∷ []
   work_of (Candidates proposals _) = map Certify proposals
   work_of _ = []
 
-  -- what of a plan stays for a life
+  -- the constants of a plan for a lifetime
   abbrev pub constants_of : Plan S D K G C → Constants
-  constants_of plan = record { is_alone = plan.is_alone; options = plan.options; peers = plan.repair.fetches.peers; retry = plan.repair.fetches.retry }
+  constants_of plan = record {
+    is_alone = plan.is_alone;
+    options = plan.options;
+    peers = plan.repair.fetches.peers;
+    retry = plan.repair.fetches.retry;
+  }
 
--- what a plan keeps beside its steps: the views that it has come to, the blocks that are to be built, the proposals that came early,
--- what stays for a life, and how many inputs were of no use
+-- what a plan stores beside its steps: its views, the blocks to build, the early proposals, the constants of a lifetime, and how many
+-- inputs were ignored
 pub record Beside (K D : Type 0) : Type 0 where
   pub reached : Views
   pub blocks : List (Building D K)
@@ -96,11 +101,11 @@ beside_of plan = record {
   ignored = plan.ignored;
 }
 
--- a proposal came before its view, where this one is the current one
+-- a proposal is early, if this view is the current one
 abbrev pub is_early : {D : Type 0} → ℕ → Early D → Bool
 is_early current early = nat_lt current early.view
 
--- the application of a member alone was not asked for this view's block yet
+-- the application of a lone member was not asked for this view's block yet
 abbrev pub awaits : {K D : Type 0} → Beside K D → ℕ → Bool
 awaits beside view = beside.constants.is_alone && list_any (waits_for view) beside.blocks
 
@@ -109,10 +114,11 @@ module _ {S D K G C : Type 0} where
   abbrev pub has_block : List (Work S D K G C) → Beside K D → ℕ → Bool
   has_block work beside view = list_any (is_build_of view) work || awaits beside view
 
-  -- this work is planned; of each view that was requested, or whose block waited, a block is planned or waits still, unless it is ended;
-  -- no block is to be built besides; each proposal that came before its view, and did still, is kept; the views and the constants are
-  -- the same, and no input was counted as of no use
-  pub record IsPlanned (requested : List ℕ) (ended : ℕ → Bool) (work : List (Work S D K G C)) (was : Beside K D) (planned : List (Work S D K G C))
+  -- this work is planned; of each view that was requested, or whose block waited, a block is planned or still waits, unless it is ended; no
+  -- other block is to be built; each proposal that was early, and still is, stays stored; the views and the constants are the same, and no
+  -- input was counted as ignored
+  pub record IsPlanned (requested : List ℕ) (ended : ℕ → Bool) (work : List (Work S D K G C)) (was : Beside K D)
+      (planned : List (Work S D K G C))
       (is : Beside K D) : Type 0 where
     pub found : AreAmong work planned
     pub building : (view : ℕ) → (list_any (λ v. v == view) requested || awaits was view) ≡ true → ended view ≡ false
@@ -123,21 +129,23 @@ module _ {S D K G C : Type 0} where
     pub constants : is.constants ≡ was.constants
     pub ignored : is.ignored ≡ was.ignored
 
-  -- work that was planned stays planned, and blocks that wait go on to, where none is ended
+  -- planned work stays planned, and waiting blocks continue to wait, if none is ended
   abbrev pub KeepsPlanned : Plan S D K G C → Plan S D K G C → Type 0
   KeepsPlanned old new =
-      IsPlanned [] (λ view. false) (work_planned old.steps.items) (beside_of old) (work_planned new.steps.items) (beside_of new)
+      IsPlanned [] (λ view. false) (work_planned old.steps.items) (beside_of old)
+      (work_planned new.steps.items) (beside_of new)
 
-  -- so it is where other views were come to before
+  -- the same after the views changed
   abbrev pub KeepsPlannedThen : Plan S D K G C → Plan S D K G C → Type 0
   KeepsPlannedThen old new = KeepsPlanned (record old { views = new.views }) new
 
-  -- what the answer to a task asks for is planned too
+  -- what the reply to a task asks for is planned too
   abbrev pub PlansAnswer : Task D → ReplyFacts K D → Plan S D K G C → Plan S D K G C → Type 0
   PlansAnswer asked told old new =
-      IsPlanned (views_requested told) (ends asked told) (work_planned old.steps.items ++ work_of told) (beside_of old) (work_planned new.steps.items)
+      IsPlanned (views_requested told) (ends asked told) (work_planned old.steps.items ++ work_of told) (beside_of old)
+      (work_planned new.steps.items)
       (beside_of new)
 
-  -- and where other views were come to before
+  -- the same after the views changed
   abbrev pub PlansAnswerThen : Task D → ReplyFacts K D → Plan S D K G C → Plan S D K G C → Type 0
   PlansAnswerThen asked told old new = PlansAnswer asked told (record old { views = new.views }) new

@@ -1,4 +1,4 @@
--- What is planned where no step is queued, and which step is taken.
+-- What is planned if no step is queued, and which step is taken.
 use Rattle.std.specs.Prelude.{◌≡◌, ℕ, nat_lt, Bool, true, false, List, [], ◌∷◌, ◌++◌, map, drop, Option, Some, None, option_to_list, if◌then◌else◌}
 use Rattle.engine_fetches.specs.declared.fetches.Ask.{Ask}
 use Rattle.engine_fetches.specs.Requests.{IsAsking}
@@ -11,16 +11,17 @@ use Rattle.engine_planner.specs.declared.task.Task.{Task}
 use Rattle.engine_planner.specs.declared.task.Task.TheVariants.{Abandon, Release, Timeout, Prune}
 use Rattle.engine_planner.specs.PlanStates.{HasPlanned}
 
--- a block of a view below the current one is given up; of another it is asked whether it has to be
+-- a block of a view below the current one is abandoned; for another the member is asked whether it must be
 abbrev pub watching_one : {K D : Type 0} → ℕ → Building D K → Task D
-watching_one current building = let view = building.context.round.view in if nat_lt view current then Release view else Abandon view
+watching_one current building =
+    let view = building.context.round.view in if nat_lt view current then Release view else Abandon view
 
 module _ {S D K G C : Type 0} where
-  -- so it is with each that is to be built
+  -- the same for each block to build
   abbrev pub watching_all : ℕ → List (Building D K) → List (Step S D K G C)
   watching_all current builds = map (λ (building : Building D K). step.Ask (watching_one current building)) builds
 
-  -- where something has changed since that was done last
+  -- the same if something has changed since the last time
   abbrev pub watching_where : Bool → ℕ → List (Building D K) → List (Step S D K G C)
   watching_where is_due current builds = if is_due then watching_all current builds else []
 
@@ -36,26 +37,27 @@ module _ {S D K G C : Type 0} where
     pub resolver : new.repair.resolver ≡ old.repair.resolver
     pub planned : HasPlanned (fetching_one ask) (record old { repair = new.repair }) new
 
-  -- which views may be dropped is asked for before any fetch, once a moment
+  -- the member is asked which views may be dropped before any fetch, once a moment
   abbrev pub IsPruneAsked : Bool → ℕ → Plan S D K G C → Plan S D K G C → Type 0
   IsPruneAsked true now old new = HasPlanned (step.Ask Prune ∷ []) (record old { is_prune_due = false }) new
   IsPruneAsked false now old new = IsFetchAsked now old new
 
-  -- the timeout is asked for before that, once a moment
+  -- the member is asked for the timeout before that, once a moment
   abbrev pub IsTimeoutAsked : Bool → ℕ → Plan S D K G C → Plan S D K G C → Type 0
   IsTimeoutAsked true now old new = HasPlanned (step.Ask Timeout ∷ []) (record old { is_timeout_due = false }) new
   IsTimeoutAsked false now old new = IsPruneAsked old.is_prune_due now old new
 
-  -- the blocks are asked about before all
+  -- the member is asked about the blocks before anything else
   abbrev pub AreWatched : List (Step S D K G C) → ℕ → Plan S D K G C → Plan S D K G C → Type 0
   AreWatched [] now old new = IsTimeoutAsked old.is_timeout_due now old new
   AreWatched steps now old new = HasPlanned steps old new
 
   -- what is due is planned
   abbrev pub IsFilled : ℕ → Plan S D K G C → Plan S D K G C → Type 0
-  IsFilled now old new = AreWatched (watching_where old.is_watch_due old.views.current old.builds.buildings.items) now (record old { is_watch_due = false }) new
+  IsFilled now old new = AreWatched (watching_where old.is_watch_due old.views.current old.builds.buildings.items) now
+      (record old { is_watch_due = false }) new
 
-  -- where no step is queued
+  -- the same if no step is queued
   abbrev pub IsReady : List (Step S D K G C) → ℕ → Plan S D K G C → Plan S D K G C → Type 0
   IsReady [] now old ready = IsFilled now old ready
   IsReady _ now old ready = ready ≡ old

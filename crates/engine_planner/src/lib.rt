@@ -1,4 +1,4 @@
-//! What an engine does next: calls of its member, what follows from each answer, and the work that comes of it.
+//! The planner of an engine: calls of the member, what follows from each reply, and the work that results.
 #![tactic(auto)]
 
 pub mod plan;

@@ -1,13 +1,14 @@
-//! What an engine does next, and what it keeps for that: steps, open fetches, blocks that are built, early proposals.
+//! The engine's plan, and the state that it needs: queued steps, outstanding fetches, blocks to build, early proposals.
 //!
-//! Each call says just what it plans. An error is want of memory, or what the resolver answers; after one a plan is of no use any more.
+//! Each call plans exactly what its contract states. An error is out of memory, or an error of the resolver; after an error a plan must not
+//! be used.
 
 mod builds;
 mod certificates;
 mod due;
 mod early;
 mod replies;
-mod views;
+mod view_changes;
 mod work;
 
 ghost use Rattle.std.specs.Prelude.{◌≡◌, ◌+◌, ◌-◌, ◌^◌, ℕ, min, max, true, [], ◌∷◌, ◌++◌, filter, OnOk, IfErr, IsOk, IsTrue, ◌↔◌, ◌≤◌, false};
@@ -32,20 +33,20 @@ use simplex_voter::voter::State;
 use std::alloc::{AllocError, Global};
 use std::collections::VecDeque;
 
-/// Intervals, in milliseconds, and how long a record grows.
+/// Intervals, in milliseconds, and the length of a long record.
 #[derive(Clone, Copy)]
 pub struct Options {
-    /// After how long a fetch is asked again, of the next peer: a millisecond at least, since one that is due at once again would be
-    /// asked for without end.
+    /// The interval after which a fetch is asked again, of the next peer. It is at least a millisecond: a fetch that is due again at once
+    /// would be asked for without end.
     pub retry: u64,
-    /// How long a certificate that is lacking may be on its way before it is asked for.
+    /// How long a missing certificate may be on its way before the engine asks for it.
     pub on_its_way: u64,
-    /// The record is made short once it has more entries than this, and by a pruning more views of it would go than stay.
+    /// The engine prunes the record once it has more entries than this, if that drops more of its views than it retains.
     pub long_record: usize,
 }
 
 impl Options {
-    /// These, with a fetch asked again after a millisecond at least.
+    /// Returns these options, with `retry` raised to at least a millisecond.
     pub fn with_a_retry(self) -> Options
         ensures { result ≡ record self { retry = max self.retry 1 } }
     {
@@ -60,26 +61,26 @@ impl Options {
 /// One step of the engine.
 #[derive(Drop)]
 pub enum Step<S: CertificateScheme, D> {
-    /// A call of the member, and what follows from its answer.
+    /// A call of the member, whose reply is then followed.
     Ask(Task<D>),
-    /// A proposal of a member that came early.
+    /// An early proposal, with the member that sent it.
     Offer(Participant, Proposal<D>),
-    /// A certificate of a view is lacking for a proposal of a later one, whose leader is asked first.
+    /// A proposal needs a certificate of an earlier view; the proposal's leader is asked first.
     Resolve(FetchKind, View, View),
-    /// The newest vote to nullify is sent once more, where it is one of the view.
+    /// The newest vote to nullify is sent once more, if it is one of the view.
     Repeat(View),
     /// Work to be carried out.
     Push(Work<S, D>),
 }
 
-/// The views that the engine has come to.
+/// The member's views, as the plan last saw them.
 #[derive(Clone, Copy)]
 pub struct Views {
     pub current: View,
     pub last_finalized: View,
 }
 
-/// What is to be done and looked after.
+/// The steps to take, and the state from which they are planned.
 #[derive(Drop)]
 pub struct Plan<S: CertificateScheme, D> {
     alloc: Global,
@@ -96,12 +97,12 @@ pub struct Plan<S: CertificateScheme, D> {
     is_prune_due: bool,
     /// The moment of the next timeout.
     timeout: u64,
-    /// How many inputs were of no use.
+    /// How many inputs were ignored.
     ignored: u64,
 }
 
 impl<S: CertificateScheme, D: Digest> Plan<S, D> {
-    /// A plan of a life that begins at these views: nothing is planned, built or kept early, and all is due.
+    /// Returns the plan of a lifetime that begins at these views: nothing is planned, built or stored early, and everything is due.
     pub fn new(
         alloc: Global,
         options: Options,
@@ -112,8 +113,10 @@ impl<S: CertificateScheme, D: Digest> Plan<S, D> {
         ensures options { (result.options ≡ options) × (result.is_alone ≡ is_alone) }
         ensures views { result.views ≡ views }
         ensures repair { result.repair ≡ repair }
-        ensures nothing { (result.steps.items ≡ []) × (result.builds.buildings.items ≡ []) × (result.early.proposals.items ≡ []) × (result.ignored ≡ 0) }
-        ensures due { (result.is_watch_due ≡ true) × (result.is_timeout_due ≡ true) × (result.is_prune_due ≡ true) × (result.timeout ≡ 0) }
+        ensures nothing { (result.steps.items ≡ []) × (result.builds.buildings.items ≡ [])
+            × (result.early.proposals.items ≡ []) × (result.ignored ≡ 0) }
+        ensures due { (result.is_watch_due ≡ true) × (result.is_timeout_due ≡ true) × (result.is_prune_due ≡ true)
+            × (result.timeout ≡ 0) }
     {
         Plan {
             alloc,
@@ -132,35 +135,35 @@ impl<S: CertificateScheme, D: Digest> Plan<S, D> {
         }
     }
 
-    /// The resolver, with its open fetches.
+    /// Returns the resolver, with its outstanding fetches.
     pub fn resolver(&self) -> &LawfulResolver
         ensures { result.now ≡ self.now.repair.resolver }
     {
         self.repair.resolver()
     }
 
-    /// The fetches that are open.
+    /// Returns the outstanding fetches.
     pub fn fetches(&self) -> &Fetches
         ensures { result.now ≡ self.now.repair.fetches }
     {
         self.repair.fetches()
     }
 
-    /// How many entries a record may have that is not made short, however many views it has.
+    /// Returns how many entries a record may have without being pruned, however many views it has.
     pub fn long_record(&self) -> usize
         ensures { result ≡ self.now.options.long_record }
     {
         self.options.long_record
     }
 
-    /// How many inputs were of no use.
+    /// Returns how many inputs were ignored.
     pub fn ignored(&self) -> u64
         ensures { result ≡ self.now.ignored }
     {
         self.ignored
     }
 
-    /// The moment at which something is due, where nothing comes before.
+    /// Returns the moment at which something is due, if no input comes before.
     pub fn wake(&self) -> u64
         ensures { IsWake self.now.repair.fetches.wanted.items self.now.timeout result }
     {
@@ -170,14 +173,14 @@ impl<S: CertificateScheme, D: Digest> Plan<S, D> {
         }
     }
 
-    /// An input was of no use. The number stops at 2^64 - 1.
+    /// Counts an ignored input. The count stops at 2^64 - 1.
     pub fn ignore(&mut self)
         ensures { self.new ≡ record self.old { ignored = min (self.old.ignored + 1) (2 ^ 64 - 1) } }
     {
         self.ignored = self.ignored.saturating_add(1);
     }
 
-    /// A moment has come: the timeout is asked for again, and which views may be dropped.
+    /// Marks the timeout and the pruning as due.
     pub fn begin(&mut self)
         ensures { self.new ≡ record self.old { is_timeout_due = true; is_prune_due = true } }
     {
@@ -185,11 +188,11 @@ impl<S: CertificateScheme, D: Digest> Plan<S, D> {
         self.is_prune_due = true;
     }
 
-    /// The fetches of what the state does not lack are closed, and no other.
+    /// Closes the fetches of certificates that the state is not missing, and no other fetch.
     ///
-    /// - `answers`, `refused`: when there is an error, which one, and that nothing has changed then.
-    /// - `lacking`: so just what it lacks is asked for.
-    /// - `idle`: where nothing was to be done, nothing is.
+    /// - `answers`, `refused`: when it returns an error, which one, and that nothing has changed then.
+    /// - `lacking`: so exactly the missing certificates are asked for.
+    /// - `idle`: a plan that was idle stays idle.
     ///
     /// # Errors
     ///
@@ -198,16 +201,19 @@ impl<S: CertificateScheme, D: Digest> Plan<S, D> {
         ensures same { self.new ≡ record self.old { repair = self.new.repair } }
         ensures kept { let repair = self.old.repair in
             OnOk result (HasPassed state.now.finalized
-            (filter (is_missing repair.resolver.open_fetches state.now) repair.fetches.wanted.items) repair self.new.repair) }
-        ensures answers { IsOk result ↔ ((self.old.repair.is_behind ≡ false) × (self.old.repair.passed ≤ state.now.finalized)) }
+            (filter (is_missing repair.resolver.open_fetches state.now) repair.fetches.wanted.items) repair
+            self.new.repair) }
+        ensures answers { IsOk result
+            ↔ ((self.old.repair.is_behind ≡ false) × (self.old.repair.passed ≤ state.now.finalized)) }
         ensures refused { IfErr result (λ fault. (fault ≡ Failed) × (self.new ≡ self.old)) }
-        ensures lacking { OnOk result (FetchesTheMissing self.new.repair.resolver.open_fetches state.now self.new.repair.fetches.wanted.items) }
+        ensures lacking { OnOk result
+            (FetchesTheMissing self.new.repair.resolver.open_fetches state.now self.new.repair.fetches.wanted.items) }
         ensures idle { (now : ℕ) → IsIdle now self.old → IsIdle now self.new }
     {
         self.repair.drop_served(state)
     }
 
-    /// Whether nothing is to be done at the moment.
+    /// Returns whether nothing is due at the moment.
     pub fn is_idle(&self, now: u64) -> bool
         ensures { IsTrue result ↔ IsIdle now self.now }
     {
@@ -218,7 +224,7 @@ impl<S: CertificateScheme, D: Digest> Plan<S, D> {
             && !self.fetches().is_due(now)
     }
 
-    /// Whether each block that is to be built is of a view above, or of the view and was asked for.
+    /// Returns whether each block to build is of a later view, or is of this view and was asked for.
     pub fn builds_from(&self, view: View) -> bool
         ensures { result ≡ builds_from view self.now.builds.buildings.items }
     {
@@ -246,7 +252,7 @@ impl<S: CertificateScheme, D: Digest> Plan<S, D> {
         self.plan(Step::Push(work))
     }
 
-    /// Something of the view has changed: its votes and certificates are asked for, and blocks that are to be built are watched.
+    /// Plans what a change in the view calls for: its votes and certificates are asked for, and the blocks to build are watched.
     pub fn touch(&mut self, view: View) -> Result<(), AllocError>
         ensures { OnOk result (HasPlanned (touching view) (watching self.old) self.new) }
     {
@@ -263,7 +269,7 @@ impl<S: CertificateScheme, D: Digest> Plan<S, D> {
         self.ask(Task::Finalize(view))
     }
 
-    /// Plans to ask for the certificates of the view that are to be handed out.
+    /// Plans to ask for the certificates of the view that are to be broadcast.
     fn ask_for_certificates(&mut self, view: View) -> Result<(), AllocError>
         ensures { OnOk result (HasPlanned (asking_for_certificates view) self.old self.new) }
     {

@@ -1,4 +1,4 @@
-//! What is asked of the member.
+//! The calls of the member that an engine plans.
 
 ghost use Rattle.std.specs.Prelude.{◌≡◌, []};
 ghost use Rattle.simplex_member.specs.Calls.{asked};
@@ -9,7 +9,7 @@ use simplex_member::member::Call;
 use simplex_types::reasons::TimeoutReason;
 use simplex_types::types::{CertificateScheme, Digest, Proposal, View};
 
-/// A call of the member that hands no certificate in.
+/// A call of the member that passes no certificate.
 #[derive(Clone, Copy)]
 pub enum Task<D> {
     SetProposal(View, Proposal<D>),
@@ -37,7 +37,7 @@ pub enum Task<D> {
 }
 
 impl<D: Digest> Task<D> {
-    /// The call, at a moment in milliseconds.
+    /// Returns the call, at a moment in milliseconds.
     pub fn call<S: CertificateScheme>(self, now: u64) -> Call<S, D>
         ensures asked { asked S.certificate_bytes result ≡ call_of self now }
         ensures plain { certificates_in result ≡ [] }

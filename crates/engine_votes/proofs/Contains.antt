@@ -1,4 +1,4 @@
--- What one of two lists contains, both do, one behind the other.
+-- What one of two lists contains, both contain, one after the other.
 use Rattle.std.proofs.Common.{List, ◌∷◌, ◌++◌, ◌+◌, ◌∙◌, length, length-append, arith}
 use Rattle.std.specs.Prelude.{Contains}
 use Rattle.std.proofs.Math.Seq.{get_or-append_seam}

@@ -12,7 +12,7 @@ use Rattle.engine_votes.specs.declared.batcher.poll.Ballot.{Ballot}
 use Rattle.engine_votes.specs.Polls.{ballot_of, slots_at}
 use Rattle.engine_votes.specs.StoredVotes.{Kind, Notarizes, Nullifies, Finalizes, held, HoldsFrom, HoldsNoOther, IsForgotten}
 
--- what is left is of views that are not below, and was held
+-- what is left is of views that are not below, and was stored
 left_from : {D G : Type 0} (polls : map.FinMap nat_cmp (Vec (Option (Ballot D G)) Global)) (lowest view member : ℕ) (ballot : Ballot D G)
     → ballot_of (slots_at (at_or_above polls lowest) view) member ≡ Some ballot → (lowest ≤ view) × (ballot_of (slots_at polls view) member ≡ Some ballot)
 left_from {D} {G} polls lowest view member ballot is = by_test (leb lowest view) refl

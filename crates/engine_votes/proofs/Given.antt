@@ -1,4 +1,4 @@
--- What is held was given.
+-- What is stored was passed in.
 use Rattle.std.proofs.Common.{◌≡◌, ◌≢◌, ◌⊎◌, ℕ, Bool, true, false, cond, eqb, List, [], ◌∷◌, ◌++◌, Option, Some, None, Result, Ok, Err, refl, ap, sym, ◌∙◌, subst, inl, inr, leb}
 use Rattle.std.specs.Prelude.{Contains, IfOk, OnErr}
 use Rattle.std.specs.FinMap as map
@@ -48,7 +48,7 @@ module _ {D G : Type 0} where
   abbrev pub vote_by : ℕ → Ballot D G → Vote D G
   vote_by member ballot = record { subject = ballot.subject; signer = member; signature = ballot.signature }
 
-  -- it was held before, contradicted or not, or is this one
+  -- it was stored before, contradicted or not, or is this one
   abbrev pub IsOldOr : List (Option (Ballot D G)) → Vote D G → ℕ → Ballot D G → Type 0
   IsOldOr old vote member ballot =
       ((was : Ballot D G) × (ballot_of old member ≡ Some was) × (vote_by member was ≡ vote_by member ballot)) ⊎ (vote_by member ballot ≡ vote)
@@ -144,7 +144,7 @@ module _ {S D K G C : Type 0} (given : List (Vote D G)) (old new : Batcher S D K
   forgotten_given lowest gone Finalizes view member ballot is = are Finalizes view member ballot (left_by old.finalize lowest view member ballot (ap (λ polls. ballot_of (slots_at polls view) member) (sym gone.2) ∙ is) (leb lowest view) refl)
 
 module _ {S D K G C : Type 0} (old new : Batcher S D K G C) where
-  -- the same are held of the kind and view of a vote, and of all others
+  -- the same are stored of the kind and view of a vote, and of all others
   pub all_the_same : (on : Subject D) → KeepsOthers on old new
       → ((member : ℕ) → ballot_of (held new (kind_of on) (subject_view on)) member ≡ ballot_of (held old (kind_of on) (subject_view on)) member) → HoldsAllTheSame old new
   all_the_same on others here =
@@ -152,7 +152,7 @@ module _ {S D K G C : Type 0} (old new : Batcher S D K G C) where
       (λ kind view apart member. ap (λ slots. ballot_of slots member) (others kind view apart))
 
 module _ {S D K G C : Type 0} where
-  -- nothing is held
+  -- nothing is stored
   pub none_given : (batcher : Batcher S D K G C) → HoldsNothing batcher → AreGiven [] batcher
   none_given batcher nothing kind view member ballot is = absurd (none_is (ap (λ slots. ballot_of slots member) (sym (nothing kind view)) ∙ is))
     where

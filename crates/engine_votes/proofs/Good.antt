@@ -42,7 +42,7 @@ module _ {D : Type 0} (same : D → D → Bool) (law : (d e : D) → same d e �
     signed_behind [] ys front back = back
     signed_behind (x ∷ xs) ys front back = (front.0, signed_behind xs ys front.1 back)
 
-    -- the vote of a member that is held is good
+    -- the stored vote of a member is valid
     abbrev IsGoodOf : ℕ → Option (Ballot D G) → Type 0
     IsGoodOf member held = (ballot : Ballot D G) → held ≡ Some ballot → (key : K) × (slice_get keys member ≡ Some key) × is_signature key ballot.subject ballot.signature
 
@@ -60,7 +60,7 @@ module _ {D : Type 0} (same : D → D → Bool) (law : (d e : D) → same d e �
     signed_on zero slots good = tt
     signed_on (suc member) slots good = signed_behind (signatures_on same on member slots) (signature_on same on member (ballot_of slots member)) (signed_on member slots good) (one_signed member (ballot_of slots member) (good member))
 
-    -- just a quorum of the votes that are held, each of which is good
+    -- exactly a quorum of the stored votes, each of which is valid
     pub quorum_signed : (slots : List (Option (Ballot D G))) → ((m : ℕ) → IsGoodOf m (ballot_of slots m)) → length (signatures_on same on (length keys) slots) ≡ quorum_of (length keys) → IsSignedByQuorum is_signature keys on (signatures_on same on (length keys) slots)
     quorum_signed slots good quorum = record { quorum = quorum; rising = rising_on same on (length keys) slots; signed = signed_on (length keys) slots good }
 

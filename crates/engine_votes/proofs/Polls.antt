@@ -1,4 +1,4 @@
--- Votes that are held, one member after another.
+-- Stored votes, one member after another.
 use Rattle.std.proofs.Common.{◌≡◌, ℕ, zero, suc, ◌+◌, ◌≤◌, Bool, true, false, cond, List, [], ◌∷◌, ◌++◌, Option, Some, None, length, refl, ap, ◌∙◌, get_or, arith, add-one, length-append, append-nil}
 use Rattle.simplex_types.specs.declared.types.messages.Subject.{Subject}
 use Rattle.engine_votes.specs.declared.batcher.poll.Ballot.{Ballot}
@@ -6,7 +6,7 @@ use Rattle.engine_votes.specs.Polls.{ballot_of, is_on, signature_on, signatures_
 use Rattle.simplex_types.specs.Quorums.{AreRising}
 use Rattle.engine_votes.specs.Subjects.{same_subject}
 
--- an empty slot behind the others holds nothing
+-- an empty slot after the others stores nothing
 pub held_more : {X : Type 0} (slots : List (Option X)) (member : ℕ) → get_or (slots ++ None ∷ []) member None ≡ get_or slots member None
 held_more [] zero = refl
 held_more [] (suc member) = refl

@@ -1,4 +1,4 @@
--- Polls of views: what is held after one is opened or changed.
+-- Polls of views: what is stored after one is opened or changed.
 use Rattle.std.proofs.Common.{◌≡◌, ◌≢◌, ℕ, Bool, true, false, cond, eqb, List, [], Option, Some, None, Ok, is_some, Vec, refl, ap, sym, ◌∙◌}
 use Rattle.std.specs.Ordering.{nat_cmp}
 use Rattle.std.specs.Cmp.{nat_cmp_total}
@@ -60,7 +60,7 @@ module _ {D G : Type 0} (polls : map.FinMap nat_cmp (Vec (Option (Ballot D G)) G
   pub opened : slots.items ≡ [] → (back : Option (Vec (Option (Ballot D G)) Global)) → back ≡ cond (map.contains_key polls view) (Some slots) None → (new : map.FinMap nat_cmp (Vec (Option (Ballot D G)) Global)) → new ≡ after_insert polls view slots (Ok back) → (map.contains_key new view ≡ true) × ((other : ℕ) → slots_at new other ≡ slots_at polls other)
   opened fresh back is new after = opened_by (map.contains_key polls view) refl fresh back is new after
 
--- what stands there is not none
+-- what is there is not none
 pub stands : {V : Type 0} (m : map.FinMap nat_cmp V) (view : ℕ) → map.contains_key m view ≡ true → None ≡ map.get m view → ⊥
 stands m view has none = false≢true (ap is_some none ∙ has)
 

@@ -1,4 +1,4 @@
--- What a vote leaves of those that are held.
+-- What a vote leaves of the stored ones.
 use Rattle.std.proofs.Common.{◌≡◌, ◌≢◌, ℕ, ◌<◌, Bool, true, false, cond, eqb, zero, suc, List, [], ◌∷◌, Option, Some, None, Result, Ok, Err, length, refl, sym, ◌∙◌, ap, subst, get_or, set}
 use Rattle.std.specs.Prelude.{IfOk, OnErr}
 use Rattle.std.proofs.lemmas.Bool.{eq-eqb, eqb-true, false≢true}
@@ -60,7 +60,7 @@ module _ {D G : Type 0} where
     put_back = back_by (eqb m i) refl
 
 module _ {S D K G C : Type 0} (same : D → D → Bool) (IsMadeOf : Subject D → List (ℕ × G) → C → Type 0) (members : ℕ) where
-  -- what was held before is what counts
+  -- what was stored before is what counts
   pub counted_since : (old mid : List (Option (Ballot D G))) → HoldsTheSame old mid → (vote : Vote D G) (new : List (Option (Ballot D G))) (r : Counted S D K G C) → IsCountedIn same IsMadeOf members mid vote new r → IsCountedIn same IsMadeOf members old vote new r
   counted_since old mid kept vote new Refused h = h
   counted_since old mid kept vote new Known h = ((h.0.0, sym (kept vote.signer) ∙ h.0.1, h.0.2), λ m. h.1 m ∙ kept m)

@@ -1,4 +1,4 @@
--- Votes that are held once one is counted are of the views and members that they were of, or this one's.
+-- Votes that are stored once one is counted are of the views and members that they were of, or this one's.
 use Rattle.std.proofs.Common.{◌≡◌, ℕ, ◌≤◌, ◌<◌, Bool, true, List, Some, Result, Ok, Err, ap, sym, ◌∙◌, subst, inl, inr}
 use Rattle.std.specs.Prelude.{IfOk, OnErr}
 use Rattle.simplex_types.specs.declared.types.messages.Subject.{Subject}

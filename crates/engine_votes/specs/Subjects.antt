@@ -1,4 +1,4 @@
--- What votes are on.
+-- The subjects of votes.
 use Rattle.std.specs.Prelude.{Bool, false}
 use Rattle.simplex_types.specs.declared.types.messages.Subject.{Subject}
 use Rattle.simplex_types.specs.declared.types.numbers.Round.{Round}
@@ -12,7 +12,7 @@ same_subject same (subject.Nullify r) (subject.Nullify s) = same_round r s
 same_subject same (subject.Finalize p) (subject.Finalize q) = same_proposal same p q
 same_subject same _ _ = false
 
--- the epoch and the view that a vote is of
+-- the epoch and the view of a vote
 abbrev pub subject_round : {D : Type 0} → Subject D → Round
 subject_round (subject.Notarize p) = p.round
 subject_round (subject.Nullify round) = round

@@ -1,4 +1,4 @@
--- What a vote comes to, and what it leaves of the votes that are held.
+-- The result of counting a vote, and how it changes the stored votes.
 use Rattle.std.specs.Prelude.{◌≡◌, ◌≢◌, ◌⊎◌, ℕ, ◌==◌, Bool, true, false, List, length, Option, Some, None, if◌then◌else◌}
 use Rattle.std.specs.Option.{option_map}
 use Rattle.simplex_types.specs.declared.types.messages.Certificate.{Certificate}
@@ -13,27 +13,30 @@ use Rattle.engine_votes.specs.Polls.{ballot_of, signatures_on, HoldsTheSame}
 use Rattle.simplex_types.specs.Quorums.{quorum_of}
 
 module _ {D G : Type 0} where
-  -- a vote, as it is held at its signer's place until another contradicts it
+  -- a vote, as it is stored at its signer's place until another contradicts it
   abbrev pub cast_by : Vote D G → Ballot D G
   cast_by vote = record { subject = vote.subject; signature = vote.signature; is_contradicted = false }
 
-  -- it is held, and a contradicting vote was returned
+  -- it is stored, and a contradicting vote was returned
   abbrev pub contradicted : Ballot D G → Ballot D G
   contradicted ballot = record ballot { is_contradicted = true }
 
-  -- a vote is held, and no contradicting one was returned
+  -- a vote is stored, and no contradicting one was returned
   abbrev pub IsHeld : List (Option (Ballot D G)) → Vote D G → Type 0
   IsHeld slots vote = ballot_of slots vote.signer ≡ Some (cast_by vote)
 
-  -- the member's vote is contradicted, where one is held; nothing else has changed
+  -- the member's vote is contradicted, if one is stored; nothing else has changed
   abbrev pub IsMarked : List (Option (Ballot D G)) → ℕ → List (Option (Ballot D G)) → Type 0
   IsMarked old member new =
-      (other : ℕ) → ballot_of new other ≡ (if other == member then option_map contradicted (ballot_of old other) else ballot_of old other)
+      (other : ℕ) → ballot_of new other ≡
+      (if other == member then option_map contradicted (ballot_of old other) else ballot_of old other)
 
-  -- none was held of its signer, and now it is; nothing else has changed
-  pub record IsAdded (old : List (Option (Ballot D G))) (vote : Vote D G) (new : List (Option (Ballot D G))) : Type 0 where
+  -- none of its signer was stored, and now it is; nothing else has changed
+  pub record IsAdded (old : List (Option (Ballot D G))) (vote : Vote D G)
+      (new : List (Option (Ballot D G))) : Type 0 where
     pub first : ballot_of old vote.signer ≡ None
-    pub held : (member : ℕ) → ballot_of new member ≡ (if member == vote.signer then Some (cast_by vote) else ballot_of old member)
+    pub held : (member : ℕ) → ballot_of new member ≡
+        (if member == vote.signer then Some (cast_by vote) else ballot_of old member)
 
 module _ {S D K G C : Type 0} where
   -- the certificate of the subject's kind, on the subject
@@ -48,26 +51,33 @@ module _ {S D K G C : Type 0} where
   is_pair (Equivocated first second) = true
   is_pair _ = false
 
-  -- a further vote of a member whose first one is this ballot: for the same, or behind a pair that was returned; or for something else
+  -- a further vote of a member whose first one is this ballot: for the same, or after a pair that was returned; or for something else
   abbrev pub ShowsBoth : Ballot D G → Vote D G → Counted S D K G C → Type 0
   ShowsBoth ballot vote Known = (ballot.is_contradicted ≡ true) ⊎ (ballot.subject ≡ vote.subject)
-  ShowsBoth ballot vote (Equivocated first second) = (cast_by first ≡ ballot) × (first.signer ≡ vote.signer) × (ballot.subject ≢ vote.subject) × (second ≡ vote)
+  ShowsBoth ballot vote (Equivocated first second) =
+      (cast_by first ≡ ballot) × (first.signer ≡ vote.signer) × (ballot.subject ≢ vote.subject) × (second ≡ vote)
   ShowsBoth ballot vote _ = ⊥
 
-module _ {S D K G C : Type 0} (same : D → D → Bool) (IsMadeOf : Subject D → List (ℕ × G) → C → Type 0) (members : ℕ) where
-  -- what a member's vote in an admitted view comes to, by what was held of its kind and view, and what is held then:
+module _ {S D K G C : Type 0} (same : D → D → Bool) (IsMadeOf : Subject D → List (ℕ × G) → C → Type 0)
+    (members : ℕ) where
+  -- the result of a member's vote in an admitted view, by the stored votes of its kind and view, and what is stored then:
   -- - its signer voted for the same before, or a pair of its votes was returned, and nothing changes;
-  -- - or it voted for something else, and none was: that vote, and this one, and that is noted;
-  -- - or it is added. Where the votes for the same are just a quorum then, the certificate is made of them.
-  abbrev pub IsCountedIn : List (Option (Ballot D G)) → Vote D G → List (Option (Ballot D G)) → Counted S D K G C → Type 0
+  -- - or it voted for something else, and no pair was returned: that vote, and this one, and the pair is noted;
+  -- - or it is added. If the votes for the same are then exactly a quorum, the certificate is made of them.
+  abbrev pub IsCountedIn : List (Option (Ballot D G)) → Vote D G → List (Option (Ballot D G))
+      → Counted S D K G C → Type 0
   IsCountedIn old vote new Refused = ⊥
   IsCountedIn old vote new Known =
-      ((ballot : Ballot D G) × (ballot_of old vote.signer ≡ Some ballot) × ((ballot.is_contradicted ≡ true) ⊎ (ballot.subject ≡ vote.subject)))
+      ((ballot : Ballot D G) × (ballot_of old vote.signer ≡ Some ballot)
+      × ((ballot.is_contradicted ≡ true) ⊎ (ballot.subject ≡ vote.subject)))
       × HoldsTheSame old new
   IsCountedIn old vote new (Equivocated first second) =
-      (IsHeld old first × (first.signer ≡ vote.signer) × (first.subject ≢ vote.subject) × (second ≡ vote)) × IsMarked old vote.signer new
-  IsCountedIn old vote new Taken = IsAdded old vote new × (length (signatures_on same vote.subject members new) ≢ quorum_of members)
+      (IsHeld old first × (first.signer ≡ vote.signer) × (first.subject ≢ vote.subject) × (second ≡ vote))
+      × IsMarked old vote.signer new
+  IsCountedIn old vote new Taken =
+      IsAdded old vote new × (length (signatures_on same vote.subject members new) ≢ quorum_of members)
   IsCountedIn old vote new (Certified made) =
       IsAdded old vote new
       × (length (signatures_on same vote.subject members new) ≡ quorum_of members)
-      × ((c : C) × (made ≡ certificate_of vote.subject c) × IsMadeOf vote.subject (signatures_on same vote.subject members new) c)
+      × ((c : C) × (made ≡ certificate_of vote.subject c)
+      × IsMadeOf vote.subject (signatures_on same vote.subject members new) c)

@@ -1,9 +1,13 @@
 //! The vote batcher: it collects votes and makes certificates of them.
 //!
-//! It owes that a certificate is made of the signatures of just n - f different members on one subject, each of a vote that
-//! was handed in; that of each member one vote of a kind and view counts, and a contradicting one is shown with it; and that
-//! a vote which is refused changes nothing. It holds at most one vote of each kind of each member in each view that was
-//! admitted and is not forgotten. That a vote's signature is good is tested before.
+//! It guarantees:
+//!
+//! - a certificate is made of the signatures of exactly n - f different members on one subject, each of a vote that was passed in;
+//! - of each member one vote of a kind and view counts, and a contradicting one is returned with it;
+//! - a refused vote changes nothing.
+//!
+//! It stores at most one vote of each kind of each member in each view that was admitted and is not forgotten. The host verifies a vote's
+//! signature before.
 
 ghost use Rattle.std.specs.Prelude.{◌≡◌, ◌≢◌, ◌≤◌, ◌++◌, ◌∷◌, [], ℕ, true, length, IfOk, OnOk, OnErr, MatchOption};
 ghost use Rattle.std.specs.FinMap as map;
@@ -22,7 +26,7 @@ use simplex_types::types::{
 use simplex_view_maps::tracked::Tracked;
 use std::alloc::{AllocError, Global};
 
-/// What a vote comes to.
+/// The result of counting a vote.
 #[derive(Drop)]
 pub enum Counted<S: CertificateScheme, D> {
     /// Its view is not admitted, or its signer is no member. Nothing has changed.
@@ -31,7 +35,7 @@ pub enum Counted<S: CertificateScheme, D> {
     /// view. Nothing has changed.
     Known,
     /// Its signer voted for something else of this kind in this view before: that vote, and this one. Such a pair is returned once of a
-    /// signer, kind and view; the first vote stays held.
+    /// signer, kind and view; the first vote stays stored.
     Equivocated(Vote<D, S::Signature>, Vote<D, S::Signature>),
     /// It was taken. The votes for the same are fewer than a quorum, or were one before.
     Taken,
@@ -42,7 +46,7 @@ pub enum Counted<S: CertificateScheme, D> {
 /// The votes of one kind, by view and member.
 type Polls<D, G> = Tracked<Vec<Option<Ballot<D, G>>>>;
 
-/// The votes that are held, by kind, view and member.
+/// The stored votes, by kind, view and member.
 #[derive(Drop)]
 pub struct Batcher<S: CertificateScheme, D> {
     alloc: Global,
@@ -55,7 +59,7 @@ pub struct Batcher<S: CertificateScheme, D> {
 impl<S: Assembly<D>, D: Digest> Batcher<S, D> {
     ghost use Rattle.engine_votes.specs.StoredVotes.{held, kind_of, AreGiven, AreGood, IsGoodIfCertified, HoldsNothing, HoldsAllTheSame, HoldsNoOther, HoldsUpTo, HoldsFrom, KeepsOthers, MayCount, IsCounted, IsForgotten};
 
-    /// A batcher of the scheme's members that holds nothing.
+    /// Returns an empty batcher of the scheme's members.
     pub fn new(alloc: Global, scheme: S) -> Batcher<S, D>
         ensures scheme { result.scheme ≡ scheme }
         ensures nothing { HoldsNothing result }
@@ -70,20 +74,21 @@ impl<S: Assembly<D>, D: Digest> Batcher<S, D> {
         }
     }
 
-    /// Counts a vote whose signature is good. `is_admitted` is the state's word on its view (`State::admits_vote`).
+    /// Counts a vote whose signature is valid. `is_admitted` says whether the state admits votes of its view (`State::admits_vote`).
     ///
-    /// A quorum is n - f of n members, of whom f are fewer than a third; a scheme of more than 2^32 - 1 members has none, and
-    /// each vote is refused. Without memory nothing has changed, and the vote may be counted again.
+    /// A quorum is n - f of n members, of whom f are fewer than a third. A scheme of more than 2^32 - 1 members has no quorum, and each
+    /// vote is refused. Without memory nothing has changed, and the vote may be counted again.
     ///
-    /// - `given`: of each member it holds votes alone that were handed in.
-    /// - `good`: where each vote that was handed in is good, so is a certificate that is answered: `verify` finds it good.
-    /// - `within`: votes are held of members alone, and of views up to the highest one that is admitted.
+    /// - `given`: it stores only votes that were passed in.
+    /// - `good`: if each vote that was passed in is valid, so is a returned certificate: `verify` accepts it.
+    /// - `within`: it stores votes only of members, and of views up to the highest one that is admitted.
     pub fn count(
         &mut self,
         vote: Vote<D, S::Signature>,
         is_admitted: bool,
     ) -> Result<Counted<S, D>, AllocError>
-        ensures counted { IfOk result (IsCounted D.eq (S.IsMadeOf self.old.scheme) (length (S.participants self.old.scheme))
+        ensures counted { IfOk result
+            (IsCounted D.eq (S.IsMadeOf self.old.scheme) (length (S.participants self.old.scheme))
             is_admitted self.old vote self.new) }
         ensures kept { OnErr result (HoldsAllTheSame self.old self.new) }
         ensures given { (given : _) → AreGiven given self.old → AreGiven (given ++ vote ∷ []) self.new }
@@ -98,13 +103,14 @@ impl<S: Assembly<D>, D: Digest> Batcher<S, D> {
         self.count_vote(vote, is_admitted)
     }
 
-    /// Counts a vote, where it may count.
+    /// Counts a vote, if it may count.
     fn count_vote(
         &mut self,
         vote: Vote<D, S::Signature>,
         is_admitted: bool,
     ) -> Result<Counted<S, D>, AllocError>
-        ensures counted { IfOk result (IsCounted D.eq (S.IsMadeOf self.old.scheme) (length (S.participants self.old.scheme))
+        ensures counted { IfOk result
+            (IsCounted D.eq (S.IsMadeOf self.old.scheme) (length (S.participants self.old.scheme))
             is_admitted self.old vote self.new) }
         ensures kept { OnErr result (HoldsAllTheSame self.old self.new) }
         ensures scheme { self.new.scheme ≡ self.old.scheme }
@@ -115,7 +121,7 @@ impl<S: Assembly<D>, D: Digest> Batcher<S, D> {
         }
     }
 
-    /// How many members there are, where a vote of the signer may count.
+    /// Returns how many members there are, if a vote of the signer may count.
     fn members_to_count(&self, signer: Participant, is_admitted: bool) -> Option<u32>
         ensures { let members = length (S.participants self.now.scheme) in MatchOption result
             (¬ MayCount members is_admitted signer)
@@ -182,7 +188,9 @@ fn count_at<S: Assembly<D>, D: Digest>(
     requires { length (S.participants scheme.now) ≡ members }
     ensures counted { IfOk result (IsCountedIn D.eq (S.IsMadeOf scheme.now) members
         (slots_at polls.old (subject_view vote.subject)) vote (slots_at polls.new (subject_view vote.subject))) }
-    ensures kept { OnErr result (HoldsTheSame (slots_at polls.old (subject_view vote.subject)) (slots_at polls.new (subject_view vote.subject))) }
+    ensures kept { OnErr result
+        (HoldsTheSame (slots_at polls.old (subject_view vote.subject))
+        (slots_at polls.new (subject_view vote.subject))) }
     ensures others { (view : ℕ) → view ≢ subject_view vote.subject → slots_at polls.new view ≡ slots_at polls.old view }
 {
     let view = vote.subject.view();
@@ -193,7 +201,7 @@ fn count_at<S: Assembly<D>, D: Digest>(
     count(alloc, scheme, members, slots, vote)
 }
 
-/// Opens the poll of the view, where there is none.
+/// Opens the poll of the view, if there is none.
 fn open<D: Copy, G: Drop>(
     alloc: Global,
     polls: &mut Polls<D, G>,

@@ -1,4 +1,4 @@
-//! Votes of members, counted: which are held, and the certificates that a quorum of them makes.
+//! Counted votes of members: which are stored, and the certificates that a quorum of them makes.
 #![tactic(auto)]
 
 pub mod batcher;

@@ -7,7 +7,7 @@ ghost use Rattle.engine_votes.specs.Subjects.{same_subject, subject_round};
 
 use simplex_types::types::{Digest, Participant, Proposal, Round, Subject};
 
-/// A member's vote: what it is on, whose it is, and the signature, of type `G`.
+/// A member's vote: its subject, its signer, and the signature, of type `G`.
 #[derive(Drop)]
 pub struct Vote<D, G> {
     pub subject: Subject<D>,
@@ -15,7 +15,7 @@ pub struct Vote<D, G> {
     pub signature: G,
 }
 
-/// The epoch and the view that a vote is of.
+/// Returns the epoch and the view of a vote.
 pub fn round_of<D: Copy>(subject: &Subject<D>) -> Round
     ensures round { result ≡ subject_round subject.now }
     ensures view { result.view ≡ subject_view subject.now }
@@ -27,7 +27,7 @@ pub fn round_of<D: Copy>(subject: &Subject<D>) -> Round
     }
 }
 
-/// Whether two votes are on the same: of one kind, on one proposal or round.
+/// Returns whether two votes are on the same subject: of one kind, on one proposal or round.
 pub fn is_same_subject<D: Digest>(one: &Subject<D>, other: &Subject<D>) -> bool
     ensures same { result ≡ same_subject D.eq one.now other.now }
     ensures decided { IsTrue result ↔ (one.now ≡ other.now) }
@@ -48,7 +48,7 @@ pub fn is_same_subject<D: Digest>(one: &Subject<D>, other: &Subject<D>) -> bool
     }
 }
 
-/// Whether two proposals are the same.
+/// Returns whether two proposals are the same.
 fn is_same_proposal<D: Digest>(one: &Proposal<D>, other: &Proposal<D>) -> bool
     ensures same { result ≡ same_proposal D.eq one.now other.now }
     ensures decided { IsTrue result ↔ (one.now ≡ other.now) }

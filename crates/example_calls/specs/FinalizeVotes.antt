@@ -8,4 +8,5 @@ use Rattle.laws_safety.specs.Lawful.{HasSigned}
 -- two that are of one view are for one proposal
 abbrev pub FinalizesOneProposal : {D : Type 0} → List (TraceEvent D) → Type 0
 FinalizesOneProposal {D} trace =
-    (p q : Proposal D) → HasSigned trace (Finalize p) → HasSigned trace (Finalize q) → p.round.view ≡ q.round.view → p ≡ q
+    (p q : Proposal D) → HasSigned trace (Finalize p) → HasSigned trace (Finalize q)
+    → p.round.view ≡ q.round.view → p ≡ q

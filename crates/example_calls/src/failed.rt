@@ -1,5 +1,5 @@
-//! A state or a resolver that found no memory in the midst of a call: its caller may make each later call all the same, and is
-//! answered `Failed`. Each answer but that one is proved to be out of reach.
+//! A state or a resolver that ran out of memory in the midst of a call. Its host may still make each later call, and receives `Failed`.
+//! These functions prove that no other result is possible.
 
 ghost use Rattle.std.specs.Prelude.{◌≡◌, ◌≤◌, true, Err};
 ghost use Rattle.simplex_types.specs.Certificates.{notarization_facts};
@@ -16,8 +16,8 @@ use simplex_types::types::{
 };
 use simplex_voter::voter::State;
 
-/// Takes a notarization, and goes on whatever came of it: where no memory was found, no vote is answered any more, and nothing
-/// times out.
+/// Passes a notarization, and continues whatever the result is: if no memory was found, no vote is returned any more, and nothing times
+/// out.
 pub fn goes_on_without_memory<S: Scheme<D>, L: Elector<S>, D: Digest>(
     state: &mut State<S, L, D>,
     notarization: Notarization<S, D>,
@@ -38,7 +38,7 @@ pub fn goes_on_without_memory<S: Scheme<D>, L: Elector<S>, D: Digest>(
     }
 }
 
-/// A state that has failed answers no vote.
+/// Proves that a state that has failed returns no vote.
 pub fn votes_fail<S: Scheme<D>, L: Elector<S>, D: Digest>(state: &mut State<S, L, D>, view: View)
     requires { state.old.failed ≡ true }
     ensures { state.new ≡ state.old }
@@ -54,7 +54,7 @@ pub fn votes_fail<S: Scheme<D>, L: Elector<S>, D: Digest>(state: &mut State<S, L
     };
 }
 
-/// It names no timeout, and none counts.
+/// Proves that it returns no timeout, and that no timeout counts.
 pub fn timeouts_fail<S: Scheme<D>, L: Elector<S>, D: Digest>(
     state: &mut State<S, L, D>,
     view: View,
@@ -71,7 +71,7 @@ pub fn timeouts_fail<S: Scheme<D>, L: Elector<S>, D: Digest>(
     };
 }
 
-/// It takes no certificate, and starts at no floor.
+/// Proves that it takes no certificate, and starts at no floor.
 pub fn certificates_fail<S: Scheme<D>, L: Elector<S>, D: Digest>(
     state: &mut State<S, L, D>,
     notarization: Notarization<S, D>,
@@ -97,7 +97,7 @@ pub fn certificates_fail<S: Scheme<D>, L: Elector<S>, D: Digest>(
     };
 }
 
-/// It asks for nothing to be built, and takes nothing that was.
+/// Proves that it asks for no block to be built, and takes no built block.
 pub fn proposals_fail<S: Scheme<D>, L: Elector<S>, D: Digest>(
     state: &mut State<S, L, D>,
     context: &Context<D, S::PublicKey>,
@@ -124,7 +124,7 @@ pub fn proposals_fail<S: Scheme<D>, L: Elector<S>, D: Digest>(
     };
 }
 
-/// It takes no proposal of a leader, and no answer on one.
+/// Proves that it takes no proposal of a leader, and no verification of one.
 pub fn verifications_fail<S: Scheme<D>, L: Elector<S>, D: Digest>(
     state: &mut State<S, L, D>,
     view: View,
@@ -149,7 +149,7 @@ pub fn verifications_fail<S: Scheme<D>, L: Elector<S>, D: Digest>(
     };
 }
 
-/// It offers nothing to certify, and takes no token, verdict or entry of a record.
+/// Proves that it offers nothing to certify, and takes no token, verdict or entry of a record.
 pub fn certifications_fail<S: Scheme<D>, L: Elector<S>, D: Digest>(
     state: &mut State<S, L, D>,
     view: View,
@@ -173,7 +173,7 @@ pub fn certifications_fail<S: Scheme<D>, L: Elector<S>, D: Digest>(
     };
 }
 
-/// It hands out no certificate, and drops no view.
+/// Proves that it returns no certificate, and drops no view.
 pub fn servings_fail<S: Scheme<D>, L: Elector<S>, D: Digest>(state: &mut State<S, L, D>, view: View)
     requires { state.old.failed ≡ true }
     ensures { state.new ≡ state.old }
@@ -195,8 +195,8 @@ pub fn servings_fail<S: Scheme<D>, L: Elector<S>, D: Digest>(state: &mut State<S
     };
 }
 
-/// Records a certificate in a resolver, and goes on whatever came of it: where no memory was found, the resolver takes nothing
-/// more, fetches nothing and serves nothing.
+/// Records a certificate in a resolver, and continues whatever the result is: if no memory was found, the resolver takes nothing more,
+/// fetches nothing and serves nothing.
 pub fn resolver_goes_on_without_memory<S: Scheme<D>, D: Digest>(
     state: &mut resolver::State,
     certificate: &Certificate<S, D>,

@@ -1,4 +1,4 @@
-//! Callers of a member, proved by its contracts alone: what one answered call says of the next.
+//! Callers of a member, proved by its contracts alone: what one reply says of the next.
 #![tactic(auto)]
 
 pub mod failed;
@@ -15,14 +15,14 @@ use simplex_member::member::{Member, Refusal};
 use simplex_types::reasons::TimeoutReason;
 use simplex_types::types::{Certificate, Digest, Elector, Finalize, Nullify, Scheme, View};
 
-/// A member's votes in one view: one to nullify it, and what it answers when it is then asked to finalize it.
+/// A member's votes in one view: one to nullify it, and the reply when it is then asked to finalize it.
 #[derive(Drop)]
 pub struct Votes<S: Scheme<D>, D: Digest> {
     pub nullify: Nullify<S>,
     pub finalize: Option<Finalize<S, D>>,
 }
 
-/// Asks for a vote to nullify a view, and where there is one, for a vote to finalize it, which there is not.
+/// Asks for a vote to nullify a view, and if there is one, for a vote to finalize it, which there is not.
 pub fn nullify_then_finalize<S: Scheme<D>, L: Elector<S>, D: Digest>(
     member: &mut Member<S, L, D>,
     view: View,
@@ -51,12 +51,13 @@ pub fn finalize_twice<S: Scheme<D>, L: Elector<S>, D: Digest>(
     Ok(Some((first, second)))
 }
 
-/// A vote to finalize a view, which is the last entry of the record when it is answered, with the very signature.
+/// Returns a vote to finalize a view. It is then the last entry of the record, with exactly the same signature.
 pub fn finalize<S: Scheme<D>, L: Elector<S>, D: Digest>(
     member: &mut Member<S, L, D>,
     view: View,
 ) -> Result<Option<Finalize<S, D>>, Refusal>
-    ensures recorded { IfOk result (λ vote. member.new.facts.entries ≡ member.old.facts.entries ++ vote_entry (reply_finalize vote)) }
+    ensures recorded { IfOk result
+        (λ vote. member.new.facts.entries ≡ member.old.facts.entries ++ vote_entry (reply_finalize vote)) }
     ensures signed { IfOk result (λ vote. member.new.votes ≡ member.old.votes ++ signed_finalize vote) }
 {
     member.construct_finalize(view)

@@ -17,7 +17,7 @@ same_bytes d e same =
     ap (λ (t : (bs : List ℕ) × (length bs ≡ 8)). let made : BlockDigest = record { bytes = t.0; sized = t.1 } in made)
     (Σ_prop_path (λ bs. hedberg ℕ_discrete (length bs) 8) same)
 
--- so they are where the code finds them equal
+-- they are equal if the code finds them equal
 pub from_eq : (d e : BlockDigest) → bytes_eq d.bytes e.bytes ≡ true → d ≡ e
 from_eq d e h = same_bytes d e ((bytes_eq-Decides d.bytes e.bytes).0 h)
 

@@ -30,7 +30,7 @@ impl Assembly<BlockDigest> for SealScheme {
     ghost made_is_good = { made_is_good };
 }
 
-/// The indexes of the signers, of which each fits in a byte.
+/// Returns the indexes of the signers, of which each fits in a byte.
 fn signers(
     alloc: Global,
     members: usize,

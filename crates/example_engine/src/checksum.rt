@@ -1,4 +1,4 @@
-//! A sum that stands for a hash.
+//! A checksum in place of a hash.
 
 ghost use Rattle.std.specs.Prelude.{◌≡◌, ◌<◌, ◌^◌};
 ghost use Rattle.example_engine.specs.Checksum.{checksum_from};
@@ -8,7 +8,7 @@ const MODULUS: u64 = 4_294_967_291;
 
 const FACTOR: u64 = 65_599;
 
-/// A number of 32 bits that depends on a seed and on each byte. It tells texts apart only where nobody tries to deceive.
+/// Returns a number of 32 bits that depends on a seed and on each byte. It distinguishes texts only if nobody tries to deceive.
 pub(crate) fn checksum(seed: u64, bytes: &[u8]) -> u64
     requires { seed < 2 ^ 32 }
     ensures value { result ≡ checksum_from seed bytes.now }

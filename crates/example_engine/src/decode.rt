@@ -1,4 +1,4 @@
-//! What `Certificate::encode` wrote, read back: the codec's decoder at this crate's digest and scheme.
+//! The inverse of `Certificate::encode`: the codec's decoder at this crate's digest and scheme.
 
 ghost use Rattle.std.specs.Prelude.{◌≡◌, IfOk, IfErr};
 ghost use Rattle.simplex_types.specs.Certificates.{certificate_facts};
@@ -12,11 +12,11 @@ use simplex_codec::certificate::decode_certificate;
 use simplex_codec::error::DecodeError;
 use std::alloc::Global;
 
-/// The certificate whose encoding the bytes are: a kind, then the epoch, the view, and of a proposal the parent and the
-/// payload, in eight bytes each, and behind them the signers.
+/// Returns the certificate that the bytes encode: a kind, then the epoch, the view, and of a proposal the parent and the payload, in eight
+/// bytes each, and after them the signers.
 ///
-/// Bytes of no certificate are refused: each error says what is wrong with them, but `OutOfMemory`. Whether the
-/// certificate is good is tested by `Scheme::verify`.
+/// Bytes of no certificate are refused: each error but `OutOfMemory` says what is wrong with them. `Scheme::verify` checks whether the
+/// certificate is valid.
 pub fn decode(alloc: Global, bytes: &[u8]) -> Result<Proof, DecodeError>
     ensures decoded { IfOk result (λ proof. encoding block_bytes (certificate_facts seal_bytes proof) ≡ bytes.now) }
     ensures fits { IfOk result (λ proof. IsEncodable (certificate_facts seal_bytes proof)) }

@@ -9,7 +9,7 @@ use simplex_codec::hooks::DigestCodec;
 use simplex_types::types::{Digest, View};
 use std::fmt;
 
-/// A block's digest, of eight bytes. A real one is a hash that nobody can turn round.
+/// A block's digest, of eight bytes. A real one is a hash that nobody can invert.
 #[derive(Clone, Copy, PartialEq, Eq)]
 pub struct BlockDigest {
     bytes: [u8; 8],
@@ -19,14 +19,14 @@ pub struct BlockDigest {
 impl BlockDigest {
     ghost use Rattle.example_engine.specs.Digests.{block_bytes};
 
-    /// The digest of genesis.
+    /// Returns the digest of genesis.
     pub(crate) fn genesis() -> BlockDigest
         ensures { block_bytes result ≡ to_be_bytes w64 0 }
     {
         BlockDigest::of_number(0)
     }
 
-    /// The digest whose bytes are the number's, big-endian.
+    /// Returns the digest whose bytes are the number's, big-endian.
     pub(crate) fn of_number(number: u64) -> BlockDigest
         ensures { block_bytes result ≡ to_be_bytes w64 number }
     {
@@ -35,8 +35,8 @@ impl BlockDigest {
         }
     }
 
-    /// The digest of the block that is built in a view on a parent. A leader has several blocks to choose from, which
-    /// `choice` tells apart.
+    /// Returns the digest of the block that is built in a view on a parent. A leader can choose among several blocks; `choice` is the
+    /// number of the block.
     pub fn of_block(parent: &BlockDigest, view: View, choice: u64) -> BlockDigest
         ensures { block_bytes result ≡ to_be_bytes w64 (block_number (block_bytes parent.now) view choice) }
     {
@@ -50,7 +50,7 @@ impl BlockDigest {
     }
 }
 
-/// Eight hexadecimal digits of it.
+/// Writes eight hexadecimal digits of it.
 impl fmt::Display for BlockDigest {
     fn fmt<W: fmt::Write>(&self, f: &mut fmt::Formatter<W>) -> fmt::Result {
         let start = u64::from_be_bytes(self.bytes) / (1 << 32);

@@ -1,4 +1,4 @@
-//! What the library is used at here: this crate's digest and scheme.
+//! The types of the library at this crate's digest and scheme.
 
 use crate::digest::BlockDigest;
 use crate::scheme::SealScheme;

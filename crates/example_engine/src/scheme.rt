@@ -1,4 +1,4 @@
-//! Who signs, and what certificates are. No security is meant: a real scheme has signatures that nobody else can make.
+//! The signatures and certificates. They give no security: in a real scheme nobody else can make a member's signatures.
 
 ghost use Rattle.std.specs.Prelude.{◌≡◌, ◌<◌, ◌^◌, ◌&&◌, ◌↔◌, ℕ, true, IsTrue, List, Option, Some, None, length, map, nat_le, IfOk, option_map};
 ghost use Rattle.std.specs.Option.{ForSome};
@@ -49,7 +49,7 @@ pub struct SealScheme {
 impl SealScheme {
     ghost use Rattle.example_engine.specs.Seals.{seal_keys, seal_signer, IsSignedBy};
 
-    /// The scheme of so many members, for one of them.
+    /// Returns the scheme of this number of members, for one of them.
     pub fn new(alloc: Global, members: u8, me: u8) -> Result<SealScheme, AllocError>
         requires { me < members }
         ensures members { IfOk result (λ s. length (seal_keys s) ≡ members) }
@@ -67,7 +67,7 @@ impl SealScheme {
         })
     }
 
-    /// Whether the signature is one of the member on the subject.
+    /// Returns whether the signature is one of the member on the subject.
     pub fn is_signed_by(
         &self,
         alloc: Global,
@@ -87,7 +87,7 @@ impl SealScheme {
 impl Signature {
     ghost use Rattle.example_engine.specs.Seals.{IsSignature};
 
-    /// The signature under a key on a subject.
+    /// Returns the signature under a key on a subject.
     fn of(
         alloc: Global,
         key: MemberKey,
@@ -152,7 +152,7 @@ impl CertificateScheme for SealScheme {
     ghost me_is_member = { λ s. s.signer_is_member };
 }
 
-/// Whether the bytes are rising indexes of members, of which there are so many.
+/// Returns whether the bytes are rising indexes of members, of which there are `count`.
 fn are_members(count: usize, signers: &[u8]) -> bool
     ensures { result ≡ are_members count 0 signers.now }
 {

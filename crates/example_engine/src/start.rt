@@ -1,4 +1,4 @@
-//! How a member is set up.
+//! The settings of a member.
 
 ghost use Rattle.std.specs.Prelude.{◌≡◌, ◌<◌, IfOk, length};
 ghost use Rattle.simplex_types.specs.Plain.{members_of};
@@ -16,22 +16,22 @@ use std::alloc::{AllocError, Global};
 /// How a member starts.
 pub type CoreStart = Start<SealScheme, PlainElector, BlockDigest>;
 
-/// The epoch that every message is of.
+/// The epoch of every message.
 pub const EPOCH: u64 = 1;
 
-/// How many views below the last finalized one are kept.
+/// How many views below the last finalized one are retained.
 const RETENTION: u64 = 10;
 
-/// From the entry of a view until it times out for want of a proposal, in milliseconds.
+/// From the entry of a view until it times out without a proposal, in milliseconds.
 const LEADER_TIMEOUT: u64 = 200;
 
-/// From the entry of a view until it times out for want of its certification, in milliseconds.
+/// From the entry of a view until it times out without its certification, in milliseconds.
 const CERTIFICATION_TIMEOUT: u64 = 400;
 
 /// From a vote to nullify until it is repeated, in milliseconds.
 const TIMEOUT_RETRY: u64 = 300;
 
-/// How a member starts at genesis.
+/// Returns how a member starts at genesis.
 pub fn start_of(
     alloc: Global,
     members: u8,

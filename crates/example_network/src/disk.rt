@@ -1,11 +1,11 @@
-//! A member's disk, which outlives its process. A real one writes each entry in bytes of its own, and waits for them.
+//! A member's disk, which outlives its process. A real one writes each entry as bytes, and waits until they are synced.
 
 use example_engine::parts::Entry;
 use simplex_member::member::Stored;
 use simplex_types::types::Fault;
 use std::alloc::{AllocError, Global};
 
-/// The entries of a record that are stored, and what is stored beside them, once something was.
+/// The stored entries of a record, and what is stored beside them, once something was.
 #[derive(Drop)]
 pub struct Disk {
     alloc: Global,
@@ -14,7 +14,7 @@ pub struct Disk {
 }
 
 impl Disk {
-    /// Nothing is stored.
+    /// Returns an empty disk.
     pub(crate) fn new(alloc: Global) -> Disk {
         Disk {
             alloc,
@@ -23,7 +23,7 @@ impl Disk {
         }
     }
 
-    /// Stores entries behind those that are stored.
+    /// Appends entries to those that are stored.
     pub(crate) fn append(&mut self, mut entries: Vec<Entry>) -> Result<(), AllocError> {
         self.entries.append(&mut entries)?;
         Ok(())
@@ -35,17 +35,17 @@ impl Disk {
         self.stored = Some(stored);
     }
 
-    /// How many entries are stored.
+    /// Returns how many entries are stored.
     pub(crate) fn count(&self) -> usize {
         self.entries.len()
     }
 
-    /// What is stored beside the entries, once something was.
+    /// Returns what is stored beside the entries, once something was.
     pub(crate) fn stored(&self) -> Option<Stored> {
         self.stored
     }
 
-    /// Copies of the entries that are stored.
+    /// Returns copies of the stored entries.
     pub(crate) fn read(&self) -> Result<Vec<Entry>, Fault> {
         let mut copies = Vec::new(self.alloc);
         for entry in &self.entries {

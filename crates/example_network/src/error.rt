@@ -11,9 +11,9 @@ pub enum RunError {
     OutOfMemory,
     /// An engine has failed.
     Failed(Fault),
-    /// An engine did not start, or not go on from its disk.
+    /// An engine did not start, or not resume from its disk.
     NotStarted(StartError),
-    /// What is printed could not be written.
+    /// The output could not be written.
     NotPrinted,
     /// The views were not finalized in time.
     NotFinalized,

@@ -1,4 +1,4 @@
-//! What faulty members do where they lead: their proposals are held back, or differ from member to member.
+//! Faulty members as leaders: they withhold their proposals, or send different ones to different members.
 
 use crate::message::{Ballot, Message, proposal_of};
 use engine_votes::votes::Vote;
@@ -8,7 +8,7 @@ use example_engine::scheme::SealScheme;
 use simplex_types::types::{Fault, Participant, Proposal, Scheme, Subject, View, Viewable};
 use std::alloc::Global;
 
-/// What a faulty leader does in a view.
+/// The behavior of a faulty leader in a view.
 #[derive(Clone, Copy)]
 pub enum Behavior {
     /// It sends its proposal to nobody.
@@ -21,7 +21,7 @@ pub enum Behavior {
     Obeys,
 }
 
-/// What a faulty leader does in the view.
+/// Returns what a faulty leader does in the view.
 pub(crate) fn behavior_in(view: View) -> Behavior {
     match view.get() / 4 % 4 {
         1 => Behavior::StaysSilent,
@@ -31,7 +31,7 @@ pub(crate) fn behavior_in(view: View) -> Behavior {
     }
 }
 
-/// What a faulty member sends to another of a message of its own, if it sends anything.
+/// Returns what a faulty member sends to another in place of its own message, if it sends anything.
 pub(crate) fn sent(
     alloc: Global,
     scheme: &SealScheme,
@@ -45,7 +45,7 @@ pub(crate) fn sent(
     }
 }
 
-/// What a faulty leader shows of its vote.
+/// Returns the vote that a faulty leader sends.
 fn shown(
     alloc: Global,
     scheme: &SealScheme,
@@ -65,7 +65,7 @@ fn shown(
     }
 }
 
-/// A vote for another block in the same place.
+/// Returns a vote for another block in the same place.
 fn another(
     alloc: Global,
     scheme: &SealScheme,

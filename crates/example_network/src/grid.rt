@@ -14,14 +14,14 @@ pub struct Row {
 }
 
 impl Row {
-    /// Nothing is seen yet.
+    /// Returns an empty row.
     pub(crate) fn new(alloc: Global) -> Row {
         Row {
             marks: Vec::new(alloc),
         }
     }
 
-    /// Marks the view of what a member tells.
+    /// Marks the view that a member reports.
     pub(crate) fn note(&mut self, news: &News) -> Result<(), AllocError> {
         match news {
             News::Finalized(proposal) => self.mark(proposal.round.view.get(), b'#'),

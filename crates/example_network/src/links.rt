@@ -1,4 +1,4 @@
-//! The links between members, and what is under way on them.
+//! The links between members, and the messages under way on them.
 
 use crate::message::Message;
 use crate::random::Random;
@@ -13,7 +13,7 @@ pub struct Parcel {
     pub message: Message,
 }
 
-/// What is under way, by the moment at which it comes, in milliseconds, and then by the order in which it was sent.
+/// The messages under way, by the moment of arrival, in milliseconds, and then by the order in which they were sent.
 #[derive(Drop)]
 pub struct Links {
     parcels: BTreeMap<(u64, u64), Parcel>,
@@ -24,7 +24,7 @@ pub struct Links {
 }
 
 impl Links {
-    /// Nothing is under way. So many messages of a hundred are lost.
+    /// Returns empty links. Of a hundred messages, `loss` are lost.
     pub(crate) fn new(alloc: Global, loss: u64, seed: u64) -> Links {
         Links {
             parcels: BTreeMap::new(alloc),
@@ -35,7 +35,7 @@ impl Links {
         }
     }
 
-    /// Sends a message, which comes after 5 to 24 milliseconds, or is lost; to oneself at once.
+    /// Sends a message, which arrives after 5 to 24 milliseconds, or is lost; a message to oneself arrives at once.
     pub(crate) fn send(
         &mut self,
         from: u8,
@@ -60,19 +60,19 @@ impl Links {
         Ok(())
     }
 
-    /// When the next message comes.
+    /// Returns when the next message arrives.
     pub(crate) fn next_moment(&self) -> Option<u64> {
         let ((moment, _), _) = self.parcels.first_key_value()?;
         Some(*moment)
     }
 
-    /// The message that comes next.
+    /// Removes and returns the message that arrives next.
     pub(crate) fn take_next(&mut self) -> Option<Parcel> {
         let (_, parcel) = self.parcels.pop_first()?;
         Some(parcel)
     }
 
-    /// How many messages were sent, and how many of them were lost.
+    /// Returns how many messages were sent, and how many of them were lost.
     pub(crate) fn counts(&self) -> (u64, u64) {
         (self.sent, self.lost)
     }

@@ -39,7 +39,7 @@ fn main(rt: HostRuntime) -> ExitCode {
     }
 }
 
-/// What the arguments after the program's name ask for.
+/// Returns what the arguments after the program's name ask for.
 fn asked(rt: &HostRuntime) -> io::Result<Asked> {
     let mut words = Vec::new(rt.alloc());
     for word in env::args(rt)?.skip(1) {

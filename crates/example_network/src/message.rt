@@ -1,4 +1,4 @@
-//! What members send each other.
+//! The messages between members.
 
 use bytes::Bytes;
 use engine_fetches::fetches::FetchKind;
@@ -17,14 +17,14 @@ pub type Ballot = Vote<BlockDigest, Signature>;
 pub enum Message {
     Vote(Ballot),
     Certificate(Proof),
-    /// A certificate of this kind is asked for.
+    /// A request for a certificate of this kind.
     Ask(FetchKind, View),
-    /// The bytes of a certificate that was asked for.
+    /// The bytes of a requested certificate.
     Served(Bytes),
 }
 
 impl Message {
-    /// The same message once more.
+    /// Returns a copy of the message.
     pub(crate) fn copy(&self, alloc: Global) -> Result<Message, Fault> {
         Ok(match self {
             Message::Vote(vote) => Message::Vote(copy_vote(alloc, vote)?),
@@ -35,7 +35,7 @@ impl Message {
     }
 }
 
-/// The proposal that a vote is for, where it is one to notarize.
+/// Returns the proposal of a vote, if it is one to notarize.
 pub(crate) fn proposal_of(vote: &Ballot) -> Option<Block> {
     match &vote.subject {
         Subject::Notarize(proposal) => Some(*proposal),
@@ -43,7 +43,7 @@ pub(crate) fn proposal_of(vote: &Ballot) -> Option<Block> {
     }
 }
 
-/// The same vote once more.
+/// Returns a copy of the vote.
 pub(crate) fn copy_vote(alloc: Global, vote: &Ballot) -> Result<Ballot, Fault> {
     Ok(Vote {
         subject: vote.subject,

@@ -1,4 +1,4 @@
-//! A member: its engine, its disk and its application. What comes in is tested and told, and what is handed out is carried out.
+//! A member: its engine, its disk and its application. It verifies inputs and passes them to the engine, and carries outputs out.
 
 ghost use Rattle.std.specs.Prelude.{◌<◌};
 
@@ -21,7 +21,7 @@ use std::alloc::Global;
 /// The engine of a member.
 pub type Core = Engine<SealScheme, PlainElector, BlockDigest>;
 
-/// How the engines wait, in milliseconds, and when they make their records short.
+/// The intervals of the engines, in milliseconds, and the length at which they prune their records.
 const ENGINE: EngineOptions = EngineOptions {
     retry: 100,
     on_its_way: 30,
@@ -45,15 +45,15 @@ pub struct Node {
     /// The engine, while the process runs; on the heap, since it is large.
     engine: Option<Box<Core>>,
     disk: Disk,
-    /// What is to be sent, oldest first.
+    /// The letters to send, oldest first.
     pub(crate) letters: Vec<Letter>,
-    /// What has happened and is not read yet, oldest first.
+    /// The news that are not read yet, oldest first.
     pub(crate) news: Vec<News>,
     pub(crate) counts: Counts,
     ghost is_member: { me < options.members },
 }
 
-/// How often what has happened at a member.
+/// How often each thing has happened at a member.
 #[derive(Clone, Copy)]
 pub struct Counts {
     pub finalized: u64,
@@ -63,7 +63,7 @@ pub struct Counts {
 }
 
 impl Node {
-    /// A member whose process begins at genesis.
+    /// Returns a member whose process begins at genesis.
     pub(crate) fn start(alloc: Global, options: Options, me: u8) -> Result<Node, RunError>
         requires { me < options.members }
     {
@@ -86,7 +86,7 @@ impl Node {
         })
     }
 
-    /// Ends the process. What is on the disk stays.
+    /// Ends the process. The disk stays unchanged.
     pub(crate) fn crash(&mut self) -> Result<(), Fault> {
         if self.engine.is_some() {
             self.engine = None;
@@ -95,7 +95,7 @@ impl Node {
         Ok(())
     }
 
-    /// Begins the process from the disk, where it has ended.
+    /// Begins the process from the disk, if it has ended.
     pub(crate) fn come_back(&mut self, now: u64) -> Result<(), RunError> {
         if self.engine.is_some() {
             return Ok(());
@@ -119,17 +119,17 @@ impl Node {
         Ok(())
     }
 
-    /// The member's index.
+    /// Returns the member's index.
     pub(crate) fn me(&self) -> u8 {
         self.me
     }
 
-    /// When the member is to be polled next, while it runs.
+    /// Returns when to poll the member next, while it runs.
     pub(crate) fn wake(&self) -> Option<u64> {
         Some(self.engine.as_ref()?.wake())
     }
 
-    /// The view that was entered last; 0 where the process has ended.
+    /// Returns the view that was entered last; 0 if the process has ended.
     pub(crate) fn current_view(&self) -> View {
         match &self.engine {
             Some(engine) => match engine.state() {
@@ -140,7 +140,7 @@ impl Node {
         }
     }
 
-    /// The highest finalized view; 0 where the process has ended.
+    /// Returns the highest finalized view; 0 if the process has ended.
     pub(crate) fn last_finalized(&self) -> View {
         match &self.engine {
             Some(engine) => match engine.state() {
@@ -151,12 +151,12 @@ impl Node {
         }
     }
 
-    /// How many entries are on the disk.
+    /// Returns how many entries are on the disk.
     pub(crate) fn stored_entries(&self) -> usize {
         self.disk.count()
     }
 
-    /// How many fetches are open.
+    /// Returns how many fetches are open.
     pub(crate) fn open_fetches(&self) -> usize {
         match &self.engine {
             Some(engine) => engine.fetches().len(),
@@ -164,12 +164,12 @@ impl Node {
         }
     }
 
-    /// Whether the member leads the view.
+    /// Returns whether the member leads the view.
     pub(crate) fn is_leading(&self, view: View) -> bool {
         self.options.leader(view) == self.me
     }
 
-    /// The member's keys.
+    /// Returns the member's keys.
     pub(crate) fn scheme(&self) -> &SealScheme {
         &self.scheme
     }

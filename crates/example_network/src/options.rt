@@ -4,12 +4,12 @@ use simplex_types::types::{TermLength, Terms, View};
 use std::io;
 use std::num::NonZeroU32;
 
-/// How a network is set up, and what goes wrong in it.
+/// The settings of a network, and of the faults in it.
 #[derive(Clone, Copy)]
 pub struct Options {
     /// How many members there are, from 1 to 40.
     pub members: u8,
-    /// How many of them are faulty where they lead: fewer than a third.
+    /// How many of them are faulty as leaders: fewer than a third.
     pub faulty: u8,
     /// How many views one leader leads.
     pub term: NonZeroU32,
@@ -17,7 +17,7 @@ pub struct Options {
     pub optimistic: u64,
     /// How many messages of a hundred are lost.
     pub loss: u64,
-    /// What all that is by chance begins with.
+    /// The seed of everything random.
     pub seed: u64,
     /// How many views are to be finalized.
     pub views: u64,
@@ -34,7 +34,7 @@ pub enum Asked {
 }
 
 impl Asked {
-    /// What the arguments after the program's name ask for: each option at most once or more often, the last one counts.
+    /// Returns what the arguments after the program's name ask for. Each option may occur more than once; the last one counts.
     pub(crate) fn read(words: &[String]) -> Asked {
         match words {
             [word] if word.as_str() == "--help" => Asked::Help,
@@ -47,7 +47,7 @@ impl Asked {
 }
 
 impl Options {
-    /// What is set where nothing is asked for.
+    /// Returns the default options.
     fn usual() -> Options {
         Options {
             members: 4,
@@ -61,7 +61,7 @@ impl Options {
         }
     }
 
-    /// The options that the words name.
+    /// Returns the options that the words name.
     fn read(words: &[String]) -> Option<Options> {
         let mut options = Options::usual();
         let mut name: Option<&str> = None;
@@ -82,7 +82,7 @@ impl Options {
         Some(options)
     }
 
-    /// The same, but for what one option sets.
+    /// Returns these options with one option set.
     fn with(mut self, option: &str, number: u64) -> Option<Options> {
         match option {
             "--members" if 1 <= number && number <= 40 => self.members = number as u8,
@@ -97,7 +97,7 @@ impl Options {
         Some(self)
     }
 
-    /// The terms of the views. A long one that makes no progress is given up after some seconds.
+    /// Returns the terms of the views. A long term without progress is abandoned after some seconds.
     pub(crate) fn terms(&self) -> Terms {
         Terms {
             term_length: TermLength::new(self.term),
@@ -110,18 +110,18 @@ impl Options {
         }
     }
 
-    /// The leader of a view: members take turns, a term each.
+    /// Returns the leader of a view: members lead round-robin, a term each.
     pub(crate) fn leader(&self, view: View) -> u8 {
         let term = view.get().saturating_sub(1) / u64::from(self.term.get());
         (term % u64::from(self.members.max(1))) as u8
     }
 
-    /// Whether the member is faulty where it leads: the last ones are.
+    /// Returns whether the member is faulty as a leader: the last ones are.
     pub(crate) fn is_faulty(&self, member: u8) -> bool {
         self.members.saturating_sub(self.faulty) <= member
     }
 
-    /// Prints what is set.
+    /// Prints the settings.
     pub(crate) fn print(&self, rt: &impl Print) -> Result<(), io::Error> {
         let Options {
             members,

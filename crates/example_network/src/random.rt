@@ -1,4 +1,4 @@
-//! Numbers by chance, the same ones for the same seed.
+//! Random numbers, the same ones for the same seed.
 
 ghost use Rattle.std.specs.Prelude.{◌≤◌};
 
@@ -9,12 +9,12 @@ pub struct Random {
 }
 
 impl Random {
-    /// One that begins with a seed.
+    /// Returns a generator with this seed.
     pub(crate) fn new(seed: u64) -> Random {
         Random { state: seed }
     }
 
-    /// The next number of 64 bits.
+    /// Returns the next number of 64 bits.
     fn next(&mut self) -> u64 {
         self.state = self.state.wrapping_add(0x9e37_79b9_7f4a_7c15);
         let mixed = (self.state ^ (self.state >> 30)).wrapping_mul(0xbf58_476d_1ce4_e5b9);
@@ -22,7 +22,7 @@ impl Random {
         mixed ^ (mixed >> 31)
     }
 
-    /// A number below a bound above 0; 0 where it is 0.
+    /// Returns a number below a bound above 0; 0 if the bound is 0.
     pub(crate) fn below(&mut self, bound: u64) -> u64
         ensures { result ≤ bound }
     {

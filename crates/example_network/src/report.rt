@@ -1,4 +1,4 @@
-//! What a person reads: a line for each view, and a summary.
+//! The printed output: a line for each view, and a summary.
 
 use crate::error::RunError;
 use crate::options::Options;
@@ -9,7 +9,7 @@ use std::alloc::{AllocError, Global};
 use std::collections::{BTreeMap, BTreeSet};
 use std::io;
 
-/// How many views below the highest are remembered, to compare what members tell of them.
+/// How many views below the highest are remembered, to compare the members' reports of them.
 const REMEMBERED: u64 = 1000;
 
 /// Something that has happened at a member.
@@ -21,13 +21,13 @@ pub enum News {
     Nullified(View),
     /// The view's leader signed two proposals.
     ProposedTwice(View),
-    /// The member's process ended, with so many entries on its disk.
+    /// The member's process ended, with this number of entries on its disk.
     Crashed(usize),
     /// The member's process began again, in the view.
     CameBack(View),
 }
 
-/// What has happened in the network.
+/// The events of the network so far.
 #[derive(Drop)]
 pub struct Report {
     options: Options,
@@ -36,11 +36,11 @@ pub struct Report {
     nullified: BTreeSet<View>,
     nullified_count: u64,
     deceived: BTreeSet<View>,
-    /// What is not printed yet.
+    /// The lines that are not printed yet.
     lines: Vec<Line>,
 }
 
-/// What a member told, and when.
+/// A member's report, and its moment.
 #[derive(Clone, Copy)]
 struct Line {
     now: u64,
@@ -49,7 +49,7 @@ struct Line {
 }
 
 impl Report {
-    /// Nothing has happened yet.
+    /// Returns an empty report.
     pub(crate) fn new(alloc: Global, options: Options) -> Report {
         Report {
             options,
@@ -62,12 +62,12 @@ impl Report {
         }
     }
 
-    /// How many views are finalized.
+    /// Returns how many views are finalized.
     pub(crate) fn finalized(&self) -> u64 {
         self.count
     }
 
-    /// The highest finalized view; 0 where there is none.
+    /// Returns the highest finalized view; 0 if there is none.
     pub(crate) fn highest(&self) -> View {
         match self.finalized.last_key_value() {
             Some((view, _)) => *view,
@@ -75,17 +75,17 @@ impl Report {
         }
     }
 
-    /// Keeps what a member tells, where nobody told it before.
+    /// Stores what a member reports, if no member reported it before.
     pub(crate) fn note(&mut self, member: u8, news: News, now: u64) -> Result<(), RunError> {
-        let is_new = self.is_new(&news)?;
+        let is_new = self.note_once(&news)?;
         if is_new && !self.options.is_quiet {
             self.lines.push(Line { now, member, news })?;
         }
         Ok(())
     }
 
-    /// Whether nobody told it before, which is kept.
-    fn is_new(&mut self, news: &News) -> Result<bool, RunError> {
+    /// Stores what a member reports. Returns whether no member reported it before.
+    fn note_once(&mut self, news: &News) -> Result<bool, RunError> {
         match news {
             News::Finalized(proposal) => self.note_finalized(proposal),
             News::Nullified(view) => Ok(self.note_nullified(*view)?),
@@ -94,7 +94,7 @@ impl Report {
         }
     }
 
-    /// Keeps what is final. Where something else is in the same view, the members disagree.
+    /// Stores a final proposal. If another one is final in the same view, the members disagree.
     fn note_finalized(&mut self, proposal: &Block) -> Result<bool, RunError> {
         let view = proposal.round.view;
         if let Some(payload) = self.finalized.get(&view) {
@@ -135,7 +135,7 @@ impl Report {
         Ok(())
     }
 
-    /// Prints what came of it all.
+    /// Prints the results of the run.
     pub(crate) fn print_summary(
         &self,
         rt: &impl Print,

@@ -1,4 +1,4 @@
-//! All members in one process, the links between them, and a clock that stands still while they work.
+//! All members in one process, the links between them, and a clock that does not advance while they work.
 
 use crate::error::RunError;
 use crate::faults::sent;
@@ -18,7 +18,7 @@ const CRASHING: u8 = 1;
 /// The most events for each view that is to be finalized, and each member.
 const MOST_EVENTS: u64 = 5000;
 
-/// The members, what is under way between them, and the moment, in milliseconds.
+/// The members, the messages under way between them, and the moment, in milliseconds.
 #[derive(Drop)]
 pub struct World {
     alloc: Global,
@@ -30,7 +30,7 @@ pub struct World {
     report: Report,
 }
 
-/// What happens next.
+/// The next event.
 #[derive(Clone, Copy)]
 enum Event {
     Message,
@@ -38,7 +38,7 @@ enum Event {
 }
 
 impl World {
-    /// All members start at genesis.
+    /// Starts all members at genesis.
     pub(crate) fn start(alloc: Global, options: Options) -> Result<World, RunError> {
         let mut nodes = Vec::new(alloc);
         let mut rows = Vec::new(alloc);
@@ -57,7 +57,7 @@ impl World {
         })
     }
 
-    /// Goes on until so many views are finalized, and every member knows of the last of them.
+    /// Runs until enough views are finalized, and every member knows of the last of them.
     pub(crate) fn run(&mut self, rt: &impl Print) -> Result<(), RunError> {
         let members = u64::from(self.options.members);
         let most = self.options.views.saturating_mul(MOST_EVENTS * members);
@@ -90,7 +90,7 @@ impl World {
         self.collect(CRASHING)
     }
 
-    /// Whether so many views are finalized, and every member runs and knows of the last of them.
+    /// Returns whether enough views are finalized, and every member runs and knows of the last of them.
     fn is_done(&self) -> bool {
         let highest = self.report.highest();
         self.report.finalized() >= self.options.views
@@ -100,7 +100,7 @@ impl World {
                 .all(|node| node.last_finalized() >= highest)
     }
 
-    /// Lets the next thing happen: a message comes, or the moment of a member.
+    /// Executes the next event: a message arrives, or the moment of a member.
     fn step(&mut self) -> Result<(), RunError> {
         let Some((moment, event)) = self.next_event() else {
             return Err(RunError::NotFinalized);
@@ -112,7 +112,7 @@ impl World {
         }
     }
 
-    /// The next thing that happens, and when.
+    /// Returns the next event, and its moment.
     fn next_event(&self) -> Option<(u64, Event)> {
         let mut next: Option<(u64, Event)> = match self.links.next_moment() {
             Some(moment) => Some((moment, Event::Message)),
@@ -132,7 +132,7 @@ impl World {
         next
     }
 
-    /// The message that comes next is taken, where its member runs.
+    /// Takes the message that arrives next, if its member runs.
     fn deliver(&mut self) -> Result<(), RunError> {
         let Some(parcel) = self.links.take_next() else {
             return Ok(());
@@ -151,13 +151,13 @@ impl World {
         self.collect(me)
     }
 
-    /// Sends what a member wrote, and notes what it tells.
+    /// Sends a member's letters, and notes its news.
     fn collect(&mut self, me: u8) -> Result<(), RunError> {
         self.send_letters(me)?;
         self.note_news(me)
     }
 
-    /// Sends what a member wrote.
+    /// Sends a member's letters.
     fn send_letters(&mut self, me: u8) -> Result<(), Fault> {
         let Some(node) = self.nodes.get_mut(usize::from(me)) else {
             return Ok(());
@@ -177,7 +177,7 @@ impl World {
         Ok(())
     }
 
-    /// Notes what a member tells.
+    /// Notes a member's news.
     fn note_news(&mut self, me: u8) -> Result<(), RunError> {
         let Some(node) = self.nodes.get_mut(usize::from(me)) else {
             return Ok(());
@@ -215,7 +215,7 @@ impl World {
     }
 }
 
-/// Sends a letter to whom it is meant for. What a faulty leader sends may be something else.
+/// Sends a letter to its receivers. A faulty leader may send something else.
 fn send(
     alloc: Global,
     options: &Options,
@@ -252,7 +252,7 @@ fn send(
     Ok(())
 }
 
-/// Whether the message is a proposal of its sender.
+/// Returns whether the message is a proposal of its sender.
 fn is_proposal(node: &Node, message: &Message) -> bool {
     match message {
         Message::Vote(vote) => match proposal_of(vote) {
@@ -263,7 +263,7 @@ fn is_proposal(node: &Node, message: &Message) -> bool {
     }
 }
 
-/// Prints what came of a member.
+/// Prints the results of a member.
 fn print_counts(rt: &impl Print, node: &Node) -> Result<(), io::Error> {
     let (member, last, open, stored) = (
         node.me(),

@@ -1,4 +1,4 @@
--- What is given out stands behind all that was.
+-- A returned output comes after all that were returned before.
 use Rattle.std.proofs.Common.{◌≡◌, ℕ, List, [], ◌∷◌, ◌++◌, None, false, inl, inr, sym, subst, ◌∙◌, Result, Err}
 use Rattle.std.specs.Prelude.{option_to_list}
 use Rattle.std.proofs.lemmas.Bool.{false≢true}
@@ -17,7 +17,7 @@ use Rattle.ffi_engine.specs.declared.flat.FlatOutput.{FlatOutput}
 use Rattle.ffi_engine.specs.EngineHandles.{IsAllReturned, IsReturned}
 use Rattle.ffi_engine.specs.Outputs.{HostOutput}
 
--- an error that is answered is one
+-- an error that is returned is one
 pub same_error : {X E : Type 0} {r : Result X E} {a b : E} → r ≡ Err a → r ≡ Err b → a ≡ b
 same_error first second = cc
 
@@ -29,13 +29,13 @@ all_given out before r old new going gives (inl it) given all alive =
     subst (λ last. IsJournaled certificate_bytes (given ++ option_to_list last) new.engine.core) (sym it.0.last) (gives given (all going))
 all_given out before r old new going gives (inr it) given all alive = absurd (false≢true (sym alive ∙ it.0))
 
--- no other proposal is queued to be told as final
+-- no other proposal is queued to be reported as final
 pub tells_no_more : (out : HostOutput) (before : FlatStored) (r : FlatOutput) (old new : HeldEngine) → ReportsNoMore (out ∷ []) old.engine.core.outbox new.engine.core.outbox
     → IsReturned out before r new → new.is_lost ≡ false → ReportsNoMore (option_to_list new.last) old.engine.core.outbox new.engine.core.outbox
 tells_no_more out before r old new tells (inl it) alive = subst (λ last. ReportsNoMore (option_to_list last) old.engine.core.outbox new.engine.core.outbox) (sym it.0.last) tells
 tells_no_more out before r old new tells (inr it) alive = absurd (false≢true (sym alive ∙ it.0))
 
--- what is given out is traced by what the member has done
+-- what the member has done traces what is returned
 pub traced_given : (out : HostOutput) (before : FlatStored) (r : FlatOutput) (old new : HeldEngine)
     → EmitsOn same_host_payload host_leader certificate_bytes (IsOrder bytes_in_digest) None (out ∷ []) old.engine.core new.engine.core → IsReturned out before r new
     → new.is_lost ≡ false → EmitsOn same_host_payload host_leader certificate_bytes (IsOrder bytes_in_digest) None (option_to_list new.last) old.engine.core new.engine.core
@@ -43,7 +43,7 @@ traced_given out before r old new traced (inl it) alive =
     subst (λ last. EmitsOn same_host_payload host_leader certificate_bytes (IsOrder bytes_in_digest) None (option_to_list last) old.engine.core new.engine.core) (sym it.0.last) traced
 traced_given out before r old new traced (inr it) alive = absurd (false≢true (sym alive ∙ it.0))
 
--- what the member waits for stays told
+-- what the member waits for is not lost
 pub has_told : (out : HostOutput) (before : FlatStored) (r : FlatOutput) (old new : HeldEngine)
     → ((given : List HostOutput) → HasReportedAll given old.engine → HasReportedAll (given ++ out ∷ []) new.engine) → IsReturned out before r new
     → new.is_lost ≡ false → (given : List HostOutput) → HasReportedAll given old.engine → HasReportedAll (given ++ option_to_list new.last) new.engine
@@ -57,7 +57,7 @@ pub works_given : (out : HostOutput) (before : FlatStored) (r : FlatOutput) (old
 works_given out before r old new works (inl it) alive = subst (λ last. AreAmong (work_ahead old.engine) (work_in (option_to_list last) ++ work_ahead new.engine)) (sym it.0.last) works
 works_given out before r old new works (inr it) alive = absurd (false≢true (sym alive ∙ it.0))
 
--- and all comes of what was at hand
+-- and what was at hand causes everything
 pub comes_given : (now : ℕ) (out : HostOutput) (before : FlatStored) (r : FlatOutput) (old new : HeldEngine)
     → IsCaused same_host_payload host_leader bytes_in_digest certificate_bytes now (forgettable new.engine.core.member.facts) (work_in (out ∷ [])) (held_by new.engine) old.engine new.engine → IsReturned out before r new → new.is_lost ≡ false
     → IsCaused same_host_payload host_leader bytes_in_digest certificate_bytes now (forgettable new.engine.core.member.facts) (work_in (option_to_list new.last)) (held_by new.engine) old.engine new.engine

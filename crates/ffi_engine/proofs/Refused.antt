@@ -1,4 +1,4 @@
--- Why no engine goes on, by why no member does.
+-- Why no engine resumes, by why no member does.
 use Rattle.std.proofs.Common.{◌≡◌, ◌∙◌, ap, sym, subst, ℕ, Bool, true, false, true≢false, ◌==◌, List, [], ◌∷◌, Option, Some, None, length, inl, inr, refl}
 use Rattle.simplex_member.specs.declared.member.resume.ResumeError.TheVariants as resume
 use Rattle.simplex_engine.specs.declared.engine.begin.StartError.{StartError}

@@ -1,4 +1,4 @@
--- How an engine behind a handle is told and asked.
+-- The inputs and outputs of an engine behind a handle.
 use Rattle.std.specs.Prelude.{◌≡◌, ◌⊎◌, ◌+◌, ◌-◌, ◌^◌, ◌++◌, min, ℕ, Bool, true, false, List, [], length, Option, Some, None, option_to_list, Result, Ok, Err, OnErr, OnOk, IfErr, IfOk, IsFalse, IsTrue, if◌then◌else◌}
 use Rattle.simplex_types.specs.declared.types.fault.Fault.{Fault}
 use Rattle.simplex_types.specs.declared.types.fault.Fault.TheVariants.{Failed}
@@ -47,13 +47,13 @@ use Rattle.ffi_engine.specs.declared.flat.FlatTaken.{FlatTaken}
 use Rattle.ffi_engine.specs.Inputs.{PassesBytes, HasInputNumbers, HostInput, IsNoInput, IsToldAs}
 use Rattle.ffi_engine.specs.Outputs.{HasOutputOf, HostEngine, HostOutput, other_signature, first_bytes_in}
 
--- nothing was given out or shown yet, and nothing is lost
+-- nothing was returned or loaded yet, and nothing is lost
 pub record HasShownNothing (held : HeldEngine) : Type 0 where
   pub nothing : held.last ≡ None
   pub lost : held.is_lost ≡ false
   pub shown : held.shown.items ≡ []
 
--- whether it was of use, or why the engine has failed
+-- whether it was ignored, or why the engine has failed
 abbrev pub IsAnswer : Result Bool Fault → FlatTaken → Type 0
 IsAnswer (Ok is_of_use) r = (r.status ≡ 0) × (r.is_of_use ≡ flag_number is_of_use)
 IsAnswer (Err fault) r = r.status ≡ fault_status fault
@@ -62,74 +62,83 @@ IsAnswer (Err fault) r = r.status ≡ fault_status fault
 abbrev pub AreTheSignatures : HostScheme → Subject (BytesDigest 32) → List (ℕ × Order) → HostCertificate → Type 0
 AreTheSignatures _ _ signatures certificate = certificate_bytes certificate ≡ signed_bytes signatures
 
--- the engine takes an input at a moment, by its contract, and nothing else changes
+-- the engine takes an input at a moment, as its contract says, and nothing else changes
 pub record IsTaken (now : ℕ) (input : HostInput) (old : HeldEngine) (r : FlatTaken) (new : HeldEngine) : Type 0 where
   pub going : old.is_lost ≡ false
   pub answer : Result Bool Fault
   pub tells : IsAnswer answer r
-  -- after an error the engine has failed; one that had failed answers only that, and stays as it was; any other, that memory was lacking
+  -- after an error the engine has failed; one that had failed returns only that, and is unchanged; any other returns out of memory
   pub failed : OnErr answer (has_failed new.engine.core ≡ true)
   pub error : IfErr answer (IsFailure (has_failed old.engine.core))
   pub refused : has_failed old.engine.core ≡ true → (answer ≡ Err Failed) × (new.engine ≡ old.engine)
-  -- what is of no use is dropped: the member has done nothing, and no vote is taken; what is not admitted is of none
+  -- an ignored input is dropped: the member has done nothing, and no vote is taken; an input that is not admitted is ignored
   pub dropped : IfOk answer (λ is_of_use. IsFalse is_of_use → IsDropped now input old.engine new.engine)
-  pub unadmitted : IsFalse (is_input_admitted certificate_bytes old.engine.core.member.facts input) → IfOk answer (λ is_of_use. IsFalse is_of_use
+  pub unadmitted : IsFalse (is_input_admitted certificate_bytes old.engine.core.member.facts input)
+      → IfOk answer (λ is_of_use. IsFalse is_of_use
       × IsTurnedAway input (ignoring old.engine) new.engine)
-  -- what is admitted is acted on
+  -- an admitted input is acted on
   pub acted : IsTrue (is_input_admitted certificate_bytes old.engine.core.member.facts input) → IfOk answer
       (IsActedOn same_host_payload host_leader certificate_bytes AreTheSignatures host_keys now input old.engine
       new.engine.core.member.facts new.engine.batcher new.engine.plan.steps.items)
-  pub continues : Continues same_host_payload host_leader certificate_bytes (IsOrder bytes_in_digest) (subject_in certificate_bytes input)
+  pub continues : Continues same_host_payload host_leader certificate_bytes (IsOrder bytes_in_digest)
+      (subject_in certificate_bytes input)
       old.engine.core new.engine.core
   pub votes : TakesVotes (votes_of_input input) old.engine.batcher new.engine.batcher
-  -- but for a vote, the same votes are held
+  -- except for a vote, the same votes are stored
   pub held : KeepsVotes input old.engine.batcher new.engine.batcher
-  pub backed : IsBackedInput same_host_payload host_leader certificate_bytes (IsOrder bytes_in_digest) (length (host_keys old.engine.batcher.scheme))
+  pub backed : IsBackedInput same_host_payload host_leader certificate_bytes (IsOrder bytes_in_digest)
+      (length (host_keys old.engine.batcher.scheme))
       input old.engine.batcher old.engine.core new.engine.core
   pub bounded : StaysBounded host_keys old.engine.core old.engine.batcher new.engine.core new.engine.batcher
-  -- each proposal and block that the application is to be told of stays told
+  -- no proposal and no block that the application must receive is lost
   pub due_work : OnOk answer (KeepsReports old.engine new.engine)
-  -- what the member is asked, and what is at hand, comes of the input and of what was at hand; what was asked of peers is still
-  pub provenance : OnOk answer (IsCausedWith same_host_payload host_leader bytes_in_digest certificate_bytes now (input_causes certificate_bytes old.engine.batcher input)
+  -- the input and what was at hand cause each call of the member, and what is at hand then; what was asked of peers still is
+  pub provenance : OnOk answer
+      (IsCausedWith same_host_payload host_leader bytes_in_digest certificate_bytes now
+      (input_causes certificate_bytes old.engine.batcher input)
       old.engine new.engine)
-  -- of no view above those that the member has heard of does a certificate come to be asked for
+  -- no certificate of a view above those that the member has heard of becomes asked for
   pub fetch_heights : OnOk answer (FetchesNoHigher same_host_payload host_leader old.engine new.engine)
-  -- what is of no use is counted, and nothing else
-  pub ignored : IfOk answer (λ is_of_use. new.engine.plan.ignored ≡ (if is_of_use then old.engine.plan.ignored else one_more old.engine.plan.ignored))
+  -- ignored inputs are counted, and nothing else
+  pub ignored : IfOk answer
+      (λ is_of_use. new.engine.plan.ignored ≡
+      (if is_of_use then old.engine.plan.ignored else one_more old.engine.plan.ignored))
   pub rest : new ≡ record old { engine = new.engine }
 
--- or what it gave out was lost before, and it takes nothing
+-- or an output was lost before, and it takes nothing
 abbrev pub HasLost : HeldEngine → ℕ → HeldEngine → Type 0
 HasLost old status new = (old.is_lost ≡ true) × (status ≡ 2) × (new ≡ old)
 
 abbrev pub Takes : ℕ → HostInput → HeldEngine → FlatTaken → HeldEngine → Type 0
 Takes now input old r new = HasLost old r.status new ⊎ IsTaken now input old r new
 
--- nothing was told, and all is as it was: one of the numbers is none of an input, a vote would make a certificate from which leaders
--- are drawn, or there was no memory for its bytes
+-- nothing was passed to the engine, and everything is unchanged: one of the numbers is not valid, a vote would make a certificate from
+-- which leaders are drawn, or there was no memory for its bytes
 abbrev pub IsInputNotPassed : HeldEngine → FlatInput → FlatTaken → HeldEngine → Type 0
 IsInputNotPassed old f r new =
-    (new ≡ old) × (((r.status ≡ 6) × (IsNoInput f ⊎ ((old.draws ≡ 1) × (f.kind ≡ 2)))) ⊎ ((r.status ≡ 7) × PassesBytes f))
+    (new ≡ old) × (((r.status ≡ 6) × (IsNoInput f ⊎ ((old.draws ≡ 1) × (f.kind ≡ 2))))
+    ⊎ ((r.status ≡ 7) × PassesBytes f))
 
--- the input that the flat one stands for was told, at a moment
-pub record IsInputPassed (now : ℕ) (old : HeldEngine) (f : FlatInput) (bytes : List ℕ) (r : FlatTaken) (new : HeldEngine) : Type 0 where
+-- the input that the flat one represents was passed to the engine, at a moment
+pub record IsInputPassed (now : ℕ) (old : HeldEngine) (f : FlatInput) (bytes : List ℕ) (r : FlatTaken)
+    (new : HeldEngine) : Type 0 where
   pub input : HostInput
   pub numbers : HasInputNumbers f
   pub is_reported : IsToldAs f bytes input
   pub taken : Takes now input old r new
 
--- what came in was told, or nothing was
+-- the input was passed to the engine, or nothing was
 abbrev pub IsHandled : ℕ → HeldEngine → FlatInput → List ℕ → FlatTaken → HeldEngine → Type 0
 IsHandled now old f bytes r new = IsInputNotPassed old f r new ⊎ IsInputPassed now old f bytes r new
 
--- the bytes of an output: its entries as these frames, what is to be signed, a certificate, or the first signature of two
+-- the bytes of an output: its entries as these frames, the text to sign, a certificate, or the first signature of two
 abbrev pub bytes_in : List ℕ → Option HostOutput → List ℕ
 bytes_in frames (Some (output.Store _)) = frames
 bytes_in frames (Some (output.Replace _ _)) = frames
 bytes_in frames (Some out) = first_bytes_in out
 bytes_in frames None = []
 
--- of what was given out last
+-- the same of the last output
 abbrev pub first_bytes : HeldEngine → List ℕ
 first_bytes held = bytes_in held.frames.items held.last
 
@@ -141,15 +150,16 @@ second_bytes_in None = []
 abbrev pub second_bytes : HeldEngine → List ℕ
 second_bytes held = second_bytes_in held.last
 
--- entries that are to be stored are written as frames, and what is stored beside them counts them
+-- entries to store are written as frames, and what is stored beside them counts them
 abbrev pub AreFramed : HostOutput → FlatStored → List ℕ → FlatStored → Type 0
 AreFramed (output.Store entries) before frames after =
-    (frames ≡ framed entries.items) × (after ≡ record before { entries = min (before.entries + length entries.items) (2 ^ 64 - 1) })
+    (frames ≡ framed entries.items)
+    × (after ≡ record before { entries = min (before.entries + length entries.items) (2 ^ 64 - 1) })
 AreFramed (output.Replace entries beside) before frames after =
     (frames ≡ framed entries.items) × (after.entries ≡ length entries.items) × IsFlatStored after beside
 AreFramed _ before frames after = after ≡ before
 
--- a flat output tells an output, which is read behind the handle
+-- a flat output represents an output, whose bytes are read behind the handle
 pub record IsReadAs (out : HostOutput) (r : FlatOutput) (new : HeldEngine) : Type 0 where
   pub status : r.status ≡ 0
   pub tells : HasOutputOf out r
@@ -158,95 +168,105 @@ pub record IsReadAs (out : HostOutput) (r : FlatOutput) (new : HeldEngine) : Typ
   pub others : r.other_bytes ≡ length (second_bytes new)
   pub stored : r.stored ≡ new.stored
 
--- nothing is told, for this status
+-- nothing is returned, for this status
 pub record IsNothing (status : ℕ) (r : FlatOutput) (new : HeldEngine) : Type 0 where
   pub status_is : r.status ≡ status
   pub nothing : r.kind ≡ 0
   pub last : new.last ≡ None
 
--- an output is given out, its entries written; or they could not be, for want of memory or since no frame holds one, and all is lost
+-- an output is returned, its entries written; or they could not be, because memory ran out or no frame holds one, and everything is lost
 abbrev pub IsReturned : HostOutput → FlatStored → FlatOutput → HeldEngine → Type 0
 IsReturned out before r new =
     (IsReadAs out r new × AreFramed out before new.frames.items new.stored × (new.is_lost ≡ false))
     ⊎ ((new.is_lost ≡ true) × ((error : NotWritten) × IsNothing (not_written_number error) r new))
 
--- all that was given out since the life began, until something is lost
+-- all outputs since the lifetime began, until something is lost
 abbrev pub IsAllReturned : List HostOutput → HeldEngine → Type 0
 IsAllReturned given held = held.is_lost ≡ false → IsJournaled certificate_bytes given held.engine.core
 
--- where nothing is queued and all of the record was given out, a journal that carries out what was given out holds the record
+-- if nothing is queued and all of the record was returned, a journal that carries out all returned outputs holds the record
 abbrev pub HoldsRecord : List HostOutput → HeldEngine → Type 0
 HoldsRecord given held =
-    held.engine.core.failed ≡ false → held.engine.core.outbox.queue.items ≡ [] → IsWhole certificate_bytes held.engine.core
+    held.engine.core.failed ≡ false → held.engine.core.outbox.queue.items ≡ []
+    → IsWhole certificate_bytes held.engine.core
     → IsRecordOf certificate_bytes held.engine.core.member (journal_of given)
 
--- an engine has nothing more to do at a moment, builds no block and holds no vote of views that are over, has a short record, and asks
--- for just what is lacking; where each proposal to verify or certify and each block to build was told, it was given out, or a member
--- alone waits for the block's view; where no vote was held above those that are taken, each that is held is a member's, and of a view
--- whose votes are taken
+-- an engine has nothing more to do at a moment, builds no block and stores no vote of past views, has a short record, and asks for exactly
+-- the missing certificates; if each proposal to verify or certify and each block to build was returned, queued or planned, it was returned,
+-- or a lone member waits for the block's view; if no stored vote was above those that are taken, each stored vote is a member's, and of a
+-- view whose votes are taken
 pub record IsAtRest (now : ℕ) (old new : HostEngine) : Type 0 where
   pub settled : IsEngineAtRest same_host_payload host_leader certificate_bytes new.core
   pub idle : IsIdle now new.plan
   pub ahead : BuildsAhead new.core new.plan
   pub lowest : HoldsFromKept new.core new.batcher
   pub lacking : FetchesItsMissing new.core new.plan.repair
-  pub short : (given : List HostOutput) → IsJournaled certificate_bytes given old.core → IsShort new.plan.options.long_record new.core.member.facts
+  pub short : (given : List HostOutput) → IsJournaled certificate_bytes given old.core
+      → IsShort new.plan.options.long_record new.core.member.facts
   pub waiting : (given : List HostOutput) → HasReportedAll given old → AllIsReturned given new
   pub admitted : HoldsNoneAhead host_keys old.core old.batcher → HoldsAdmitted host_keys new.core new.batcher
 
--- what a poll comes to at a moment: something is given out; nothing is left to be done then; or the engine has failed
+-- the result of a poll at a moment: an output is returned; nothing is left to be done then; or the engine has failed
 abbrev pub IsOutcome : ℕ → HeldEngine → FlatOutput → HeldEngine → Type 0
 IsOutcome now old r new =
     ((out : HostOutput) × IsReturned out old.stored r new)
     ⊎ (IsNothing 0 r new × IsAtRest now old.engine new.engine)
-    ⊎ ((fault : Fault) × IsFailure (has_failed old.engine.core) fault × IsNothing (fault_status fault) r new × (has_failed new.engine.core ≡ true))
+    ⊎ ((fault : Fault) × IsFailure (has_failed old.engine.core) fault × IsNothing (fault_status fault) r new
+    × (has_failed new.engine.core ≡ true))
 
--- an engine that has lost nothing is asked what is to be carried out next at a moment
+-- an engine that has lost nothing is polled at a moment
 pub record IsAsked (now : ℕ) (old : HeldEngine) (r : FlatOutput) (new : HeldEngine) : Type 0 where
-  -- what is given out stands behind all that was
+  -- the output is appended to all that were returned
   pub given : (given : List HostOutput) → IsAllReturned given old → IsAllReturned (given ++ option_to_list new.last) new
-  -- no other proposal is queued to be told as final
+  -- no other proposal is queued to be reported as final
   pub told : new.is_lost ≡ false → ReportsNoMore (option_to_list new.last) old.engine.core.outbox new.engine.core.outbox
-  -- what is given out is traced by what the member has done
+  -- what the member has done traces the output
   pub traced : new.is_lost ≡ false
-      → EmitsOn same_host_payload host_leader certificate_bytes (IsOrder bytes_in_digest) None (option_to_list new.last) old.engine.core new.engine.core
+      → EmitsOn same_host_payload host_leader certificate_bytes (IsOrder bytes_in_digest) None (option_to_list new.last)
+      old.engine.core new.engine.core
   -- no certificate is accepted, and no vote is taken
-  pub does : ExtendsHistoryOn same_host_payload host_leader None old.engine.core.member.facts new.engine.core.member.facts
+  pub does : ExtendsHistoryOn same_host_payload host_leader None old.engine.core.member.facts
+      new.engine.core.member.facts
   pub votes : TakesNone old.engine.batcher new.engine.batcher
-  -- just those of views below the lowest one that is kept are forgotten, or none is
+  -- exactly those of views below the lowest retained one are forgotten, or none is
   pub held : ForgetsNoOther new.engine.core old.engine.batcher new.engine.batcher
   pub bounded : StaysBounded host_keys old.engine.core old.engine.batcher new.engine.core new.engine.batcher
-  -- each proposal and block that the application is to be told of stays told
-  pub due_work : has_failed new.engine.core ≡ false → new.is_lost ≡ false → (given : List HostOutput) → HasReportedAll given old.engine
+  -- no proposal and no block that the application must receive is lost
+  pub due_work : has_failed new.engine.core ≡ false → new.is_lost ≡ false → (given : List HostOutput)
+      → HasReportedAll given old.engine
       → HasReportedAll (given ++ option_to_list new.last) new.engine
-  -- no work is lost: what is queued or planned is given out, or is so still
+  -- no work is lost: what was queued or planned is returned, or still is queued or planned
   pub works : has_failed new.engine.core ≡ false → new.is_lost ≡ false
       → AreAmong (work_ahead old.engine) (work_in (option_to_list new.last) ++ work_ahead new.engine)
-  -- what the member is asked, what is given out and what is at hand comes of what was at hand, but that views may be forgotten below the
-  -- lowest one that it keeps; and what was asked of peers is still
+  -- what was at hand causes each call of the member, each output and what is at hand then, except that views may be forgotten below the
+  -- lowest one that it retains; and what was asked of peers still is
   pub provenance : has_failed new.engine.core ≡ false → new.is_lost ≡ false
-      → IsCaused same_host_payload host_leader bytes_in_digest certificate_bytes now (forgettable new.engine.core.member.facts)
+      → IsCaused same_host_payload host_leader bytes_in_digest certificate_bytes now
+      (forgettable new.engine.core.member.facts)
       (work_in (option_to_list new.last)) (held_by new.engine) old.engine new.engine
-  -- of no view above those that the member has heard of does a certificate come to be asked for
-  pub fetch_heights : has_failed new.engine.core ≡ false → FetchesNoHigher same_host_payload host_leader old.engine new.engine
-  -- no block comes to be built above the first view of the next term
-  pub near : has_failed new.engine.core ≡ false → BuildsNear old.engine.core old.engine.plan → BuildsNear new.engine.core new.engine.plan
-  -- its views stay the member's
+  -- no certificate of a view above those that the member has heard of becomes asked for
+  pub fetch_heights : has_failed new.engine.core ≡ false
+      → FetchesNoHigher same_host_payload host_leader old.engine new.engine
+  -- no block above the first view of the next term is added
+  pub near : has_failed new.engine.core ≡ false → BuildsNear old.engine.core old.engine.plan
+      → BuildsNear new.engine.core new.engine.plan
+  -- the plan's views stay the member's
   pub seen : has_failed new.engine.core ≡ false → TracksViews old.engine.core.member.facts old.engine.plan
       → TracksViews new.engine.core.member.facts new.engine.plan
-  -- no proposal is lost that came early, until its view is entered
+  -- no early proposal is lost until its view is entered
   pub early : has_failed new.engine.core ≡ false → TracksViews old.engine.core.member.facts old.engine.plan
       → StaysStoredEarly old.engine.plan new.engine.core.member.facts new.engine.plan
-  -- no input is counted as of no use
+  -- no input is counted as ignored
   pub ignored : has_failed new.engine.core ≡ false → new.engine.plan.ignored ≡ old.engine.plan.ignored
   -- the options stay, and so does whether there are other members
   pub constants : has_failed new.engine.core ≡ false → constants_of new.engine.plan ≡ constants_of old.engine.plan
   pub outcome : IsOutcome now old r new
-  -- one that had failed tells only that, and stays as it was
+  -- an engine that had failed returns only that, and is unchanged
   pub refused : has_failed old.engine.core ≡ true → IsNothing 2 r new × (new.engine ≡ old.engine)
 
 -- an engine is polled at a moment; one that has lost something has failed
 abbrev pub IsPolled : ℕ → HeldEngine → FlatOutput → HeldEngine → Type 0
 IsPolled now old r new =
-    (((old.is_lost ≡ true) × IsNothing 2 r new × (new.engine ≡ old.engine)) ⊎ ((old.is_lost ≡ false) × IsAsked now old r new))
+    (((old.is_lost ≡ true) × IsNothing 2 r new × (new.engine ≡ old.engine))
+    ⊎ ((old.is_lost ≡ false) × IsAsked now old r new))
     × (new.draws ≡ old.draws) × (new.shown ≡ old.shown)

@@ -40,13 +40,13 @@ use Rattle.ffi_engine.specs.declared.held.HeldEngine.{HeldEngine}
 use Rattle.ffi_engine.specs.declared.flat.FlatOptions.{FlatOptions}
 use Rattle.ffi_engine.specs.EngineHandles.{IsAllReturned, HasShownNothing}
 
--- intervals, and how long a record grows
+-- the options of a flat struct
 abbrev pub options_of : FlatOptions → Options
 options_of f = record { retry = f.retry; on_its_way = f.on_its_way; long_record = f.long_record }
 
--- nothing was given out, so it is traced by what the member has done before; the whole record is to be stored in place of all that is and nothing else is queued, no proposal to be told as
--- final, nothing is at hand, the member waits for nothing, and leaders are drawn as set; and no certificate is asked for of a view above
--- those that the member has heard of
+-- nothing was returned, so what the member has done before traces it; the whole record is to be stored in place of all that is stored and
+-- nothing else is queued, no proposal is to be reported as final, nothing is at hand, the member waits for nothing, and leaders are drawn
+-- as set; and no certificate is asked for of a view above those that the member has heard of
 pub record HasReturnedNothing (f : FlatSettings) (held : HeldEngine) : Type 0 where
   pub kept : IsAllReturned [] held
   pub traced : BeginsTraced same_host_payload host_leader certificate_bytes held.engine.core.member held.engine.core
@@ -61,15 +61,16 @@ pub record HasReturnedNothing (f : FlatSettings) (held : HeldEngine) : Type 0 wh
   pub draws : held.draws ≡ f.draws
   pub fresh : HasShownNothing held
 
--- an engine begins by what a member begins with, and these options
+-- an engine begins as its member does, with these options
 abbrev pub HasStartedBy : HostStart → FlatOptions → HeldEngine → Type 0
 HasStartedBy start options held =
     HasStartedWith bytes_in_digest host_keys (host_keys start.settings.scheme) (host_signer start.settings.scheme)
     (host_terms start.settings.elector).term_length (with_a_retry (options_of options)) held.engine
 
--- an engine begins by these settings, with this table, floor and moment: its member is the one that they begin, and a fetch is asked again
+-- an engine begins with these settings, this table, floor and moment: its member is the one that they begin, and a fetch is asked again
 -- after a millisecond at least
-pub record IsEngineStarted (f : FlatSettings) (leaders bytes : List ℕ) (options : FlatOptions) (now : ℕ) (held : HeldEngine) : Type 0 where
+pub record IsEngineStarted (f : FlatSettings) (leaders bytes : List ℕ) (options : FlatOptions) (now : ℕ)
+    (held : HeldEngine) : Type 0 where
   pub retry : options.retry ≢ 0
   pub start : HostStart
   pub by : IsStart f leaders bytes now start
@@ -79,30 +80,35 @@ pub record IsEngineStarted (f : FlatSettings) (leaders bytes : List ℕ) (option
   pub begins : HasStarted same_host_payload host_leader host_signer host_terms start held.engine.core.member.facts
   pub nothing : HasReturnedNothing f held
 
--- the error of an engine, by the member's and the resolver's
+-- the error of an engine, from the member's and the resolver's
 abbrev pub engine_not_started_of : StartError → EngineNotStarted
-engine_not_started_of start_error.RetryZero = engine_not_started.Member (not_resumed.Settings (settings_error.Refused (record_error.Config config_error.RetryZero)))
+engine_not_started_of start_error.RetryZero =
+    engine_not_started.Member
+    (not_resumed.Settings (settings_error.Refused (record_error.Config config_error.RetryZero)))
 engine_not_started_of (start_error.Resume resume.EntriesLost) = engine_not_started.Member not_resumed.EntriesLost
 engine_not_started_of (start_error.Resume (resume.Recover e)) = engine_not_started.Member (not_resumed.Recover e)
 engine_not_started_of (start_error.Replay e) = engine_not_started.Resolver e
 
--- no engine begins, for the error of its member that is due, that of its resolver, or want of memory
+-- no engine begins, for the error of its member that is due, that of its resolver, or because memory ran out
 pub record IsStartRefused (f : FlatSettings) (leaders bytes : List ℕ) (now : ℕ) (e : EngineNotStarted) : Type 0 where
   pub start : HostStart
   pub by : IsStart f leaders bytes now start
   pub error : StartError
   pub is_of : e ≡ engine_not_started_of error
-  pub refused : IsStartRefusal start.settings.timeout_retry (IsMemberError (begin_error start)) (λ m. m ≡ begun start) error
+  pub refused : IsStartRefusal start.settings.timeout_retry (IsMemberError (begin_error start))
+      (λ m. m ≡ begun start) error
 
--- why none begins: by its options or settings; or by what they begin, or out of memory
+-- why none begins: for its options or settings; or for what they begin, or out of memory
 abbrev pub IsEngineNotStarted : FlatSettings → List ℕ → List ℕ → FlatOptions → ℕ → EngineNotStarted → Type 0
 IsEngineNotStarted f leaders bytes options now engine_not_started.FetchRetryZero = options.retry ≡ 0
-IsEngineNotStarted f leaders bytes options now (engine_not_started.Member (not_resumed.Settings e)) = IsNoStart f leaders bytes e
+IsEngineNotStarted f leaders bytes options now (engine_not_started.Member (not_resumed.Settings e)) =
+    IsNoStart f leaders bytes e
 IsEngineNotStarted f leaders bytes options now e = IsStartRefused f leaders bytes now e
 
--- an engine goes on from the bytes of a journal, which has all entries that were counted, and a fetch is asked again after a millisecond at
+-- an engine resumes from the bytes of a journal, which has all entries that were counted, and a fetch is asked again after a millisecond at
 -- least
-pub record IsEngineResumed (f : FlatSettings) (leaders bytes : List ℕ) (options : FlatOptions) (now : ℕ) (beside : FlatStored) (journal : List ℕ)
+pub record IsEngineResumed (f : FlatSettings) (leaders bytes : List ℕ) (options : FlatOptions) (now : ℕ)
+    (beside : FlatStored) (journal : List ℕ)
     (held : HeldEngine) : Type 0 where
   pub retry : options.retry ≢ 0
   pub start : HostStart
@@ -110,29 +116,36 @@ pub record IsEngineResumed (f : FlatSettings) (leaders bytes : List ℕ) (option
   pub entries : List HostArtifact
   pub from : IsResumption f leaders bytes now beside journal start stored entries
   pub whole : beside.entries ≤ length entries
-  pub resumed : IsResumed same_host_payload host_leader stored (entries_of certificate_bytes entries) (host_start start) held.engine.core.member.facts
-  pub continues : HasContinued same_host_payload host_leader host_signer host_terms stored (entries_of certificate_bytes entries) start
+  pub resumed : IsResumed same_host_payload host_leader stored (entries_of certificate_bytes entries) (host_start start)
+      held.engine.core.member.facts
+  pub continues : HasContinued same_host_payload host_leader host_signer host_terms stored
+      (entries_of certificate_bytes entries) start
       held.engine.core.member.facts
   pub votes : held.engine.core.member.votes ≡ votes_of entries
   pub begun_by : HasStartedBy start options held
   pub nothing : HasReturnedNothing f held
 
--- no engine goes on from what is read of them, for what refuses its member or its resolver, or want of memory
-pub record IsResumeRefused (f : FlatSettings) (leaders bytes : List ℕ) (now : ℕ) (beside : FlatStored) (journal : List ℕ) (e : EngineNotStarted) : Type 0 where
+-- no engine resumes from what is read of them, for what refuses its member or its resolver, or because memory ran out
+pub record IsResumeRefused (f : FlatSettings) (leaders bytes : List ℕ) (now : ℕ) (beside : FlatStored)
+    (journal : List ℕ) (e : EngineNotStarted) : Type 0 where
   pub start : HostStart
   pub stored : Stored
   pub entries : List HostArtifact
   pub from : IsResumption f leaders bytes now beside journal start stored entries
   pub error : StartError
   pub is_of : e ≡ engine_not_started_of error
-  pub refused : IsStartRefusal start.settings.timeout_retry (IsNotResumed same_host_payload host_leader stored (entries_of certificate_bytes entries) (host_start start))
+  pub refused : IsStartRefusal start.settings.timeout_retry
+      (IsNotResumed same_host_payload host_leader stored (entries_of certificate_bytes entries) (host_start start))
       (IsResumed same_host_payload host_leader stored (entries_of certificate_bytes entries) (host_start start)) error
 
--- why none goes on: by its options, settings or journal; or by what these are, or out of memory
-abbrev pub IsEngineNotResumed : FlatSettings → List ℕ → List ℕ → FlatOptions → ℕ → FlatStored → List ℕ → EngineNotStarted → Type 0
+-- why none resumes: for its options, settings or journal; or for what these are, or out of memory
+abbrev pub IsEngineNotResumed : FlatSettings → List ℕ → List ℕ → FlatOptions → ℕ → FlatStored → List ℕ
+    → EngineNotStarted → Type 0
 IsEngineNotResumed f leaders bytes options now beside journal engine_not_started.FetchRetryZero = options.retry ≡ 0
-IsEngineNotResumed f leaders bytes options now beside journal (engine_not_started.Member (not_resumed.Settings e)) = IsNoStart f leaders bytes e
-IsEngineNotResumed f leaders bytes options now beside journal (engine_not_started.Member not_resumed.NoFlag) = 2 ≤ beside.is_pruned
+IsEngineNotResumed f leaders bytes options now beside journal (engine_not_started.Member (not_resumed.Settings e)) =
+    IsNoStart f leaders bytes e
+IsEngineNotResumed f leaders bytes options now beside journal (engine_not_started.Member not_resumed.NoFlag) =
+    2 ≤ beside.is_pruned
 IsEngineNotResumed f leaders bytes options now beside journal (engine_not_started.Member (not_resumed.Journal e)) =
     IsNotResumedBy f leaders bytes now beside journal (not_resumed.Journal e)
 IsEngineNotResumed f leaders bytes options now beside journal (engine_not_started.Member not_resumed.EntriesLost) =

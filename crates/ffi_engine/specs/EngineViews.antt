@@ -1,4 +1,4 @@
--- What an engine behind a handle shows beside its outputs.
+-- What the host can read of an engine behind a handle beside its outputs.
 use Rattle.std.specs.Prelude.{◌≡◌, ◌||◌, ℕ, Bool, zero, suc, length, slice_get, MatchOption, if◌then◌else◌}
 use Rattle.engine_fetches.specs.declared.fetches.Fetch.{Fetch}
 use Rattle.engine_outbox.specs.Continuity.{has_failed}
@@ -17,7 +17,7 @@ use Rattle.ffi_engine.specs.declared.flat.FlatStatus.{FlatStatus}
 use Rattle.ffi_engine.specs.EngineHandles.{first_bytes, second_bytes}
 use Rattle.ffi_engine.specs.Outputs.{fetch_number}
 
--- a part of the bytes of what was given out last, of the second signature of two, or of what was shown last
+-- a part of the bytes of the last output, of the second signature of two, or of what was loaded last
 abbrev pub ShowsChunk : HeldEngine → ℕ → ℕ → FlatChunk → Type 0
 ShowsChunk held zero from r = IsChunk (first_bytes held) from r
 ShowsChunk held (suc zero) from r = IsChunk (second_bytes held) from r
@@ -27,14 +27,14 @@ ShowsChunk held (suc (suc _)) from r = IsChunk held.shown.items from r
 abbrev pub is_failed : HeldEngine → Bool
 is_failed held = held.is_lost || has_failed held.engine.core
 
--- what an engine knows of itself
+-- the status of an engine
 pub record ShowsStatus (held : HeldEngine) (r : FlatStatus) : Type 0 where
   pub status : r.status ≡ (if is_failed held then 2 else 0)
   pub wake : IsWake held.engine.plan.repair.fetches.wanted.items held.engine.plan.timeout r.wake
   pub ignored : r.ignored ≡ held.engine.plan.ignored
   pub fetches : r.fetches ≡ length held.engine.plan.repair.fetches.wanted.items
 
--- a fetch is of these numbers
+-- a fetch has these numbers
 pub record IsOpenAs (f : Fetch) (r : FlatOpen) : Type 0 where
   pub fetched : r.fetch ≡ fetch_number f.kind
   pub view : r.view ≡ f.view
@@ -44,7 +44,8 @@ pub record IsOpenAs (f : Fetch) (r : FlatOpen) : Type 0 where
 -- there is no such open fetch, or this one
 abbrev pub ShowsOpenFetch : HeldEngine → ℕ → FlatOpen → Type 0
 ShowsOpenFetch held index r =
-    (r.status ≡ 0) × MatchOption (slice_get held.engine.plan.repair.fetches.wanted.items index) (r.fetch ≡ 0) (λ f. IsOpenAs f r)
+    (r.status ≡ 0) × MatchOption (slice_get held.engine.plan.repair.fetches.wanted.items index) (r.fetch ≡ 0)
+    (λ f. IsOpenAs f r)
 
 -- what the member knows of a view
 abbrev pub ShowsView : HeldEngine → ℕ → FlatView → Type 0
@@ -54,13 +55,13 @@ ShowsView held view r = IsViewIn held.engine.core.member.facts.life view r
 abbrev pub ShowsWithheld : HeldEngine → ℕ → ℕ → FlatWithheld → Type 0
 ShowsWithheld held kind view r = IsWithheldIn held.engine.core.member.facts.life kind view r
 
--- how a view's certificate is shown
+-- how a view's certificate is loaded
 pub record ShowsFound (old : HeldEngine) (kind view : ℕ) (r : FlatFound) (new : HeldEngine) : Type 0 where
   pub answered : HasAnsweredIn old.engine.core.member.facts.life kind view r new.shown.items
   pub bytes : r.bytes ≡ length new.shown.items
   pub rest : new ≡ record old { shown = new.shown }
 
--- how what a peer is served for a view is shown
+-- how the data that a peer is served for a view is loaded
 pub record ShowsServed (old : HeldEngine) (view : ℕ) (r : FlatServed) (new : HeldEngine) : Type 0 where
   pub of_view : r.view ≡ view
   pub served : HasServedOf old.engine.plan.repair.resolver.state view r new.shown.items

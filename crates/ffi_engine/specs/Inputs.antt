@@ -1,4 +1,4 @@
--- Which input of an engine a flat one stands for.
+-- Which input of an engine a flat one represents.
 use Rattle.std.specs.Prelude.{◌≡◌, ◌⊎◌, ◌<◌, ◌≤◌, ℕ, List}
 use Rattle.simplex_types.specs.declared.types.messages.Certificate.{Certificate}
 use Rattle.simplex_types.specs.declared.types.messages.Certificate.TheVariants as certificate
@@ -32,54 +32,60 @@ HostCertified = Certificate HostScheme (BytesDigest 32) HostKey Order HostCertif
 abbrev pub HostVote : Type 0
 HostVote = Vote (BytesDigest 32) Order
 
--- the kind of a vote or certificate is one, or none
+-- the kind of a vote or certificate is valid
 abbrev pub HasKind : FlatSubject → Type 0
 HasKind f = (0 < f.kind) × (f.kind < 4)
 
 abbrev pub IsNoKind : FlatSubject → Type 0
 IsNoKind f = (f.kind ≡ 0) ⊎ (4 ≤ f.kind)
 
--- what a vote is on, by the number of its kind
+-- the subject of a vote, by the number of its kind
 abbrev pub IsOn : FlatSubject → Subject (BytesDigest 32) → Type 0
 IsOn f (subject.Notarize q) = (f.kind ≡ vote_number vote.Notarize) × IsFlatProposal f.proposal q
 IsOn f (subject.Nullify round) = (f.kind ≡ vote_number vote.Nullify) × (round ≡ flat_round f.proposal.round)
 IsOn f (subject.Finalize q) = (f.kind ≡ vote_number vote.Finalize) × IsFlatProposal f.proposal q
 
--- a vote on this of this member, under a signature of these bytes with its key
+-- a vote on this subject of this member, under a signature of these bytes with its key
 pub record IsVote (f : FlatSubject) (bytes : List ℕ) (v : HostVote) : Type 0 where
   pub on : IsOn f v.subject
   pub signer : v.signer ≡ f.member
   pub key : v.signature.key.0 ≡ f.member
   pub signature : v.signature.text ≡ bytes
 
--- a certificate on this, of these bytes
+-- a certificate on this subject, of these bytes
 abbrev pub IsCertificate : FlatSubject → List ℕ → HostCertified → Type 0
 IsCertificate f bytes (certificate.Notarization it) =
-    (f.kind ≡ certificate_number kind.Notarization) × IsFlatProposal f.proposal it.proposal × (certificate_bytes it.certificate ≡ bytes)
+    (f.kind ≡ certificate_number kind.Notarization) × IsFlatProposal f.proposal it.proposal
+    × (certificate_bytes it.certificate ≡ bytes)
 IsCertificate f bytes (certificate.Nullification it) =
-    (f.kind ≡ certificate_number kind.Nullification) × (it.round ≡ flat_round f.proposal.round) × (certificate_bytes it.certificate ≡ bytes)
+    (f.kind ≡ certificate_number kind.Nullification) × (it.round ≡ flat_round f.proposal.round)
+    × (certificate_bytes it.certificate ≡ bytes)
 IsCertificate f bytes (certificate.Finalization it) =
-    (f.kind ≡ certificate_number kind.Finalization) × IsFlatProposal f.proposal it.proposal × (certificate_bytes it.certificate ≡ bytes)
+    (f.kind ≡ certificate_number kind.Finalization) × IsFlatProposal f.proposal it.proposal
+    × (certificate_bytes it.certificate ≡ bytes)
 
--- the input that a flat one stands for, with these bytes
+-- the input that a flat one represents, with these bytes
 abbrev pub IsToldAs : FlatInput → List ℕ → HostInput → Type 0
-IsToldAs f bytes (input.Proposal from q) = (f.kind ≡ 1) × (from ≡ f.subject.member) × IsFlatProposal f.subject.proposal q
+IsToldAs f bytes (input.Proposal from q) =
+    (f.kind ≡ 1) × (from ≡ f.subject.member) × IsFlatProposal f.subject.proposal q
 IsToldAs f bytes (input.Vote v) = (f.kind ≡ 2) × IsVote f.subject bytes v
 IsToldAs f bytes (input.Certificate c) = (f.kind ≡ 3) × IsCertificate f.subject bytes c
 IsToldAs f bytes (input.Verified v success) = (f.kind ≡ 4) × (v ≡ f.view) × (flag_number success ≡ f.success)
 IsToldAs f bytes (input.Built c payload) =
-    (f.kind ≡ 5) × IsContext f.context c × (c.leader.0 ≡ f.subject.member) × (bytes_in_digest payload ≡ f.subject.proposal.payload)
+    (f.kind ≡ 5) × IsContext f.context c × (c.leader.0 ≡ f.subject.member)
+    × (bytes_in_digest payload ≡ f.subject.proposal.payload)
 IsToldAs f bytes (input.Certified v success) = (f.kind ≡ 6) × (v ≡ f.view) × (flag_number success ≡ f.success)
 IsToldAs f bytes (input.GivenUp v reason) = (f.kind ≡ 7) × (v ≡ f.view) × (reason_number reason ≡ f.reason)
 
--- it hands in a signature or a certificate
+-- it passes a signature or a certificate
 abbrev pub PassesBytes : FlatInput → Type 0
 PassesBytes f = ((f.kind ≡ 2) ⊎ (f.kind ≡ 3)) × HasKind f.subject
 
--- one of its numbers is none of an input
+-- one of its numbers is not valid for an input
 abbrev pub IsNoInput : FlatInput → Type 0
-IsNoInput f = (f.kind ≡ 0) ⊎ (8 ≤ f.kind) ⊎ (10 ≤ f.reason) ⊎ (2 ≤ f.success) ⊎ (((f.kind ≡ 2) ⊎ (f.kind ≡ 3)) × IsNoKind f.subject)
+IsNoInput f = (f.kind ≡ 0) ⊎ (8 ≤ f.kind) ⊎ (10 ≤ f.reason) ⊎ (2 ≤ f.success)
+    ⊎ (((f.kind ≡ 2) ⊎ (f.kind ≡ 3)) × IsNoKind f.subject)
 
--- each of them is one, also where the kind does not read it
+-- each of them is valid, also if the kind does not read it
 abbrev pub HasInputNumbers : FlatInput → Type 0
 HasInputNumbers f = (0 < f.kind) × (f.kind < 8) × (f.reason < 10) × (f.success < 2)

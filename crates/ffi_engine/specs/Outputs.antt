@@ -1,4 +1,4 @@
--- What a flat output tells.
+-- What a flat output represents.
 use Rattle.std.specs.Prelude.{◌≡◌, ℕ, List, []}
 use Rattle.simplex_types.specs.declared.types.messages.Certificate.TheVariants as certificate
 use Rattle.simplex_codec.specs.declared.digest.BytesDigest.{BytesDigest}
@@ -29,40 +29,44 @@ use Rattle.ffi_engine.specs.Inputs.{HostCertified, HostVote, IsOn}
 abbrev pub HostEngine : Type 0
 HostEngine = Engine HostScheme HostElector (BytesDigest 32) HostKey Order HostCertificate
 
--- what an engine of the host gives out
+-- an output of an engine of the host
 abbrev pub HostOutput : Type 0
 HostOutput = Output HostScheme (BytesDigest 32) Stored HostKey Order HostCertificate
 
 abbrev pub HostWork : Type 0
 HostWork = Work HostScheme (BytesDigest 32) HostKey Order HostCertificate
 
--- a vote is on this, of this member
+-- a vote is on this subject, of this member
 abbrev pub IsVoteOf : FlatSubject → HostVote → Type 0
 IsVoteOf f v = IsOn f v.subject × (f.member ≡ v.signer)
 
--- a certificate is on this
+-- a certificate is on this subject
 abbrev pub IsOf : FlatSubject → HostCertified → Type 0
-IsOf f (certificate.Notarization it) = (f.kind ≡ certificate_number kind.Notarization) × IsFlatProposal f.proposal it.proposal
-IsOf f (certificate.Nullification it) = (f.kind ≡ certificate_number kind.Nullification) × (it.round ≡ flat_round f.proposal.round)
-IsOf f (certificate.Finalization it) = (f.kind ≡ certificate_number kind.Finalization) × IsFlatProposal f.proposal it.proposal
+IsOf f (certificate.Notarization it) =
+    (f.kind ≡ certificate_number kind.Notarization) × IsFlatProposal f.proposal it.proposal
+IsOf f (certificate.Nullification it) =
+    (f.kind ≡ certificate_number kind.Nullification) × (it.round ≡ flat_round f.proposal.round)
+IsOf f (certificate.Finalization it) =
+    (f.kind ≡ certificate_number kind.Finalization) × IsFlatProposal f.proposal it.proposal
 
--- the number of what is fetched: that of the certificate, or a number of its own
+-- the number of a fetch: that of the certificate, or a number of its own
 abbrev pub fetch_number : FetchKind → ℕ
 fetch_number fetch.Notarization = certificate_number kind.Notarization
 fetch_number fetch.Nullification = certificate_number kind.Nullification
 fetch_number fetch.Decision = 4
 
--- what is fetched, of whom
+-- what to fetch, and of whom
 pub record IsFetch (ask : Ask) (f : FlatOutput) : Type 0 where
   pub kind : f.kind ≡ 9
   pub fetched : f.fetch ≡ fetch_number ask.kind
   pub view : f.view ≡ ask.view
   pub of : f.member ≡ index_number ask.of
 
--- what a flat output tells of work
+-- the flat form of work
 abbrev pub IsWork : HostWork → FlatOutput → Type 0
 IsWork (work.Broadcast c) f = (f.kind ≡ 4) × IsOf f.subject c
-IsWork (work.Verify c q) f = (f.kind ≡ 5) × IsContext f.context c × (f.subject.member ≡ c.leader.0) × IsFlatProposal f.subject.proposal q
+IsWork (work.Verify c q) f =
+    (f.kind ≡ 5) × IsContext f.context c × (f.subject.member ≡ c.leader.0) × IsFlatProposal f.subject.proposal q
 IsWork (work.Build c) f = (f.kind ≡ 6) × IsContext f.context c × (f.subject.member ≡ c.leader.0)
 IsWork (work.StopBuilding v) f = (f.kind ≡ 7) × (f.view ≡ v)
 IsWork (work.Certify q) f = (f.kind ≡ 8) × IsFlatProposal f.subject.proposal q
@@ -71,7 +75,7 @@ IsWork (work.Equivocated v w) f = (f.kind ≡ 11) × IsVoteOf f.subject v × IsV
 IsWork (work.ProposedTwice v leader) f = (f.kind ≡ 12) × (f.view ≡ v) × (f.member ≡ leader.0)
 IsWork (work.Forget v) f = (f.kind ≡ 13) × (f.view ≡ v)
 
--- what a flat output tells, but for its bytes and for what is stored beside a journal
+-- the flat form of an output, without its bytes and without what is stored beside a journal
 abbrev pub HasOutputOf : HostOutput → FlatOutput → Type 0
 HasOutputOf (output.Store entries) f = f.kind ≡ 1
 HasOutputOf (output.Replace entries beside) f = f.kind ≡ 2
@@ -85,7 +89,7 @@ certified_bytes (certificate.Notarization it) = certificate_bytes it.certificate
 certified_bytes (certificate.Nullification it) = certificate_bytes it.certificate
 certified_bytes (certificate.Finalization it) = certificate_bytes it.certificate
 
--- what is to be signed, a certificate, or the first signature of two
+-- the text to sign, a certificate, or the first signature of two
 abbrev pub first_bytes_in : HostOutput → List ℕ
 first_bytes_in (output.Vote v) = v.signature.text
 first_bytes_in (output.Work (work.Broadcast c)) = certified_bytes c

@@ -1,4 +1,4 @@
-//! How an engine behind a handle begins: a first life at a floor, or another from the bytes of a journal.
+//! How an engine behind a handle begins: a first lifetime at a floor, or another from the bytes of a journal.
 
 ghost use Rattle.std.specs.Prelude.{◌≡◌, Err, IfOk, IfErr};
 ghost use Rattle.ffi_engine.specs.EngineStarts.{engine_not_started_number, engine_not_started_of, options_of};
@@ -7,7 +7,7 @@ use crate::flat::FlatOptions;
 use crate::held::HeldEngine;
 use ffi_member::flat::FlatSettings;
 use ffi_member::resolver_calls::{NotReplayed, number_of_not_replayed};
-use ffi_member::resumption::{NotResumed, resumption};
+use ffi_member::resumption::{NotResumed, read_resumption};
 use ffi_member::settings::{SettingsError, start_of};
 use ffi_member::statuses::number_of_not_resumed;
 use ffi_member::view_types::FlatStored;
@@ -18,10 +18,10 @@ use simplex_resolver::replay::ReplayError;
 use simplex_types::config::ConfigError;
 use std::alloc::Global;
 
-/// Why no engine begins.
+/// Why an engine could not begin.
 #[derive(Clone, Copy, PartialEq, Eq, Debug)]
 pub enum EngineNotStarted {
-    /// For what no member of these settings goes on.
+    /// No member of these settings starts or resumes, for this reason.
     Member(NotResumed),
     /// The resolver refuses the record.
     Resolver(ReplayError),
@@ -33,11 +33,11 @@ impl HeldEngine {
     ghost use Rattle.ffi_engine.specs.EngineStarts.{IsEngineStarted, IsEngineNotStarted, IsEngineNotResumed, IsEngineResumed};
     ghost use Rattle.ffi_engine.specs.declared.begin.EngineNotStarted.TheVariants.{FetchRetryZero};
 
-    /// An engine whose member never voted, by flat settings with a table of leaders and the bytes of the floor's certificate.
+    /// Starts an engine whose member never voted, from flat settings, a table of leaders and the bytes of the floor's certificate.
     ///
     /// # Errors
     ///
-    /// `FetchRetryZero` just where the options' `retry` is 0, whatever the settings are; else why no member starts by the settings.
+    /// `FetchRetryZero` exactly if the options' `retry` is 0, whatever the settings are; otherwise why no member starts with the settings.
     pub fn start(
         alloc: Global,
         flat: &FlatSettings,
@@ -63,11 +63,11 @@ impl HeldEngine {
         }
     }
 
-    /// An engine that goes on from its journal: the bytes that its entries were as frames, and what was stored beside them last.
+    /// Resumes an engine from its journal: the bytes of its entries as frames, and what was last stored beside them.
     ///
     /// # Errors
     ///
-    /// `FetchRetryZero` just where the options' `retry` is 0, whatever else is passed; else why no member goes on from the journal, or
+    /// `FetchRetryZero` exactly if the options' `retry` is 0, whatever else is passed; otherwise why no member resumes from the journal, or
     /// the resolver does not.
     pub fn resume(
         alloc: Global,
@@ -79,14 +79,16 @@ impl HeldEngine {
         stored: &FlatStored,
         journal: &[u8],
     ) -> Result<HeldEngine, EngineNotStarted>
-        ensures resumed { IfOk result (IsEngineResumed flat.now leaders.now certificate.now options.now now stored.now journal.now) }
+        ensures resumed { IfOk result
+            (IsEngineResumed flat.now leaders.now certificate.now options.now now stored.now journal.now) }
         ensures no_retry { options.now.retry ≡ 0 → result ≡ Err FetchRetryZero }
-        ensures refused { IfErr result (IsEngineNotResumed flat.now leaders.now certificate.now options.now now stored.now journal.now) }
+        ensures refused { IfErr result
+            (IsEngineNotResumed flat.now leaders.now certificate.now options.now now stored.now journal.now) }
     {
         if options.retry == 0 {
             return Err(EngineNotStarted::FetchRetryZero);
         }
-        let from = match resumption(alloc, flat, leaders, certificate, now, stored, journal) {
+        let from = match read_resumption(alloc, flat, leaders, certificate, now, stored, journal) {
             Ok(from) => from,
             Err(error) => return Err(EngineNotStarted::Member(error)),
         };
@@ -98,7 +100,7 @@ impl HeldEngine {
     }
 }
 
-/// Intervals, and how long a record grows.
+/// Returns the options of a flat struct.
 fn options_in(flat: &FlatOptions) -> Options
     ensures { result ≡ options_of flat.now }
 {
@@ -126,7 +128,7 @@ fn engine_not_started(error: StartError) -> EngineNotStarted
     }
 }
 
-/// The number of what refuses a start or a resume.
+/// Returns the number of an error of `start` or `resume`.
 pub fn number_of_engine_not_started(error: EngineNotStarted) -> u32
     ensures { result ≡ engine_not_started_number error }
 {

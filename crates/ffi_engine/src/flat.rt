@@ -1,107 +1,108 @@
-//! What an engine is told and gives out, as plain structs of fixed width, with no space between their fields.
+//! The inputs and outputs of an engine as plain structs of fixed width, with no space between their fields.
 
 use ffi_member::flat::{FlatContext, FlatProposal};
 use ffi_member::view_types::FlatStored;
 
-/// What a vote or a certificate is on.
+/// The subject of a vote or a certificate.
 #[repr(C)]
 #[derive(Clone, Copy)]
 pub struct FlatSubject {
     /// 1 to notarize, 2 to nullify, 3 to finalize.
     pub kind: u32,
-    /// Who signed a vote, sent a proposal, or leads a context; the greatest number of 32 bits where there is none.
+    /// The signer of a vote, the sender of a proposal, or the leader of a context; the greatest number of 32 bits if there is none.
     pub member: u32,
-    /// Of what is nullified the round alone.
+    /// Only the round, if it is the subject of a nullification.
     pub proposal: FlatProposal,
 }
 
-/// Intervals, in milliseconds, and how long a record grows.
+/// Intervals, in milliseconds, and the length of a long record.
 #[repr(C)]
 #[derive(Clone, Copy, Debug)]
 pub struct FlatOptions {
-    /// After how long a fetch is asked again, of the next peer: one millisecond at least.
+    /// The interval after which a fetch is asked again, of the next peer: at least one millisecond.
     pub retry: u64,
-    /// How long a certificate that is lacking may be on its way before it is asked for.
+    /// How long a missing certificate may be on its way before the engine asks for it.
     pub on_its_way: u64,
-    /// The record is made short once it has more entries than this, and by a pruning more views of it would go than stay.
+    /// The engine prunes the record once it has more entries than this, if that drops more of its views than it retains.
     pub long_record: u64,
 }
 
-/// What an engine is told. Which fields each kind reads is said by `IsToldAs`; the others may be anything, but `reason` and
-/// `success`, which are tested in each.
+/// An input of an engine. `IsToldAs` says which fields each kind reads. The others may be anything, except `reason` and `success`, which
+/// are checked for each kind.
 #[repr(C)]
 #[derive(Clone, Copy)]
 pub struct FlatInput {
-    /// 1 a proposal, 2 a vote, 3 a certificate, 4 that a proposal was verified, 5 that a block was built, 6 that a proposal was
-    /// certified, 7 that a view is given up.
+    /// 1 a proposal, 2 a vote, 3 a certificate, 4 that a proposal was verified, 5 that a block was built, 6 that a proposal was certified,
+    /// 7 that a view times out.
     pub kind: u32,
-    /// The number of a reason for a timeout; 0 where there is none.
+    /// The number of a reason for a timeout; 0 if there is none.
     pub reason: u32,
-    /// A verdict: 1 where the proposal is valid, or is certified, else 0.
+    /// A verdict: 1 if the proposal is valid, or is certified, else 0.
     pub success: u32,
-    /// Nothing; it keeps the fields behind it at multiples of eight bytes.
+    /// Unused; it keeps the fields after it at multiples of eight bytes.
     pub reserved: u32,
-    /// The view of a verdict, or the one that is given up.
+    /// The view of a verdict, or the view that times out.
     pub view: u64,
-    /// What a vote or certificate is on and who signed it; a proposal and who sent it; the payload that was built, and who leads.
+    /// The subject and the signer of a vote; the subject of a certificate; a proposal and its sender; the payload that was built, and the
+    /// leader.
     pub subject: FlatSubject,
-    /// In what was built.
+    /// The context of a built block.
     pub context: FlatContext,
 }
 
-/// Whether what came in was of use.
+/// The result of an input.
 #[repr(C)]
 #[derive(Clone, Copy, Debug)]
 pub struct FlatTaken {
-    /// 0; 1 to 4 for a fault, after which the engine has failed. 6 where one of the numbers is none of an input, and 7 where there
-    /// was no memory for its bytes: then nothing was told.
+    /// 0; 1 to 4 for a fault, after which the engine has failed. 6 if one of the input's numbers is not valid, and 7 if there was no memory
+    /// for its bytes: then nothing was passed to the engine.
     pub status: u32,
-    /// 1 where it was of use.
+    /// 0 if the input was ignored, else 1.
     pub is_of_use: u32,
 }
 
-/// What is to be carried out. Which fields each kind has is said by `HasOutputOf`; the others have no meaning. Its bytes wait
-/// behind the handle until the next is asked for.
+/// An output. `HasOutputOf` says which fields each kind has; the others have no meaning. Its bytes stay behind the handle until the next
+/// output is asked for.
 #[repr(C)]
 #[derive(Clone, Copy)]
 pub struct FlatOutput {
-    /// 0; 1 to 4 for a fault, and 14 where an entry is too long for a frame: then the engine has failed.
+    /// 0; 1 to 4 for a fault, and 14 if an entry is too long for a frame: then the engine has failed.
     pub status: u32,
-    /// 0 where nothing is to be carried out now. 1 store behind all that is stored, 2 store in its place, 3 a vote to sign and to
-    /// send, 4 a certificate to send, 5 verify, 6 build, 7 stop building, 8 certify, 9 fetch, 10 finalized, 11 two votes that
-    /// contradict each other, 12 two proposals of one leader, 13 forget.
+    /// 0 if there is no output now. 1 append to what is stored, 2 store in its place, 3 a vote to sign and to send, 4 a certificate to
+    /// send, 5 verify, 6 build, 7 stop building, 8 certify, 9 fetch, 10 finalized, 11 two votes that contradict each other, 12 two
+    /// proposals of one leader, 13 forget.
     pub kind: u32,
-    /// What is fetched: 1 a notarization, 2 a nullification, 3 whatever decides the view.
+    /// The certificate to fetch: 1 a notarization, 2 a nullification, 4 any one that decides the view.
     pub fetch: u32,
-    /// Of whom it is fetched, or who proposed twice; the greatest number of 32 bits where there is none.
+    /// The peer to fetch it from, or the leader that proposed twice; the greatest number of 32 bits if there is none.
     pub member: u32,
-    /// The view of what is fetched, not built any more, or proposed twice; below which all is forgotten.
+    /// The view to fetch, to stop building, or of two proposals; or the view below which everything is forgotten.
     pub view: u64,
-    /// How many bytes wait: the entries as frames, what is to be signed, a certificate, or the first signature of two.
+    /// How many bytes wait: the entries as frames, the text to sign, a certificate, or the first signature of two.
     pub bytes: u64,
     /// How many bytes the second signature has.
     pub other_bytes: u64,
-    /// What is stored beside the journal, once this is stored, with how many entries it has then.
+    /// The data stored beside the journal, once this is stored, with the number of its entries then.
     pub stored: FlatStored,
-    /// What a vote or certificate is on; the proposal to verify, to certify, or that is final.
+    /// The subject of a vote or certificate; the proposal to verify, to certify, or that is final.
     pub subject: FlatSubject,
-    /// What the second of two votes is on.
+    /// The subject of the second of two votes.
     pub other: FlatSubject,
-    /// In what is verified or built. The leader stands in `subject`.
+    /// The context of what is verified or built. `subject` has the leader.
     pub context: FlatContext,
 }
 
-/// What an engine knows of itself.
+/// The status of an engine.
 #[repr(C)]
 #[derive(Clone, Copy, Debug)]
 pub struct FlatStatus {
-    /// 0, or 2 where it has failed.
+    /// 0, or 2 if it has failed.
     pub status: u32,
-    /// Nothing.
+    /// Unused.
     pub reserved: u32,
-    /// The moment in milliseconds at which it is to be polled where nothing comes before.
+    /// The moment in milliseconds at which to poll it if no input comes before.
     pub wake: u64,
-    /// How many inputs were of no use.
+    /// How many inputs were ignored.
     pub ignored: u64,
     /// How many fetches are open.
     pub fetches: u64,
@@ -113,7 +114,7 @@ pub struct FlatStatus {
 pub struct FlatOpen {
     /// 0.
     pub status: u32,
-    /// As of an output; 0 where there is no such fetch.
+    /// As of an output; 0 if there is no such fetch.
     pub fetch: u32,
     pub view: u64,
     /// How often it was asked for.

@@ -1,4 +1,4 @@
-//! An engine behind a handle, with what it gave out last: its bytes are read of it, and never lack memory.
+//! An engine behind a handle, with its last output: the host reads that output's bytes, which never takes memory.
 
 ghost use Rattle.std.specs.Prelude.{◌≡◌, ◌++◌, ◌+◌, ◌-◌, ◌^◌, [], true, false, min, length, Contains, None, OnOk};
 ghost use Rattle.ffi_member.specs.Journals.{framed};
@@ -8,7 +8,8 @@ ghost use Rattle.ffi_member.specs.Statuses.{not_written_number};
 use crate::flat::{FlatInput, FlatOutput, FlatTaken};
 use crate::input::{HostInput, input_of};
 use crate::output::{
-    HostEngine, HostOutput, NOTHING_STORED, flat_output, other_signature, output_of, signature_in,
+    HostEngine, HostOutput, NOTHING, NOTHING_STORED, flat_output, other_signature, output_of,
+    signature_in,
 };
 use bytes::BytesMut;
 use engine_outbox::output::Output;
@@ -20,27 +21,27 @@ use simplex_member::member::Stored;
 use simplex_types::types::Fault;
 use std::alloc::Global;
 
-/// A status where one of the numbers is none of an input: nothing was told.
+/// The status if one of an input's numbers is not valid: nothing was passed to the engine.
 pub const STATUS_NO_INPUT: u32 = 6;
 
-/// A status where there was no memory for a signature or a certificate: nothing was told.
+/// The status if there was no memory for a signature or a certificate: nothing was passed to the engine.
 pub const STATUS_NOT_PASSED: u32 = 7;
 
-/// An engine, and what it gave out last.
+/// An engine, and its last output.
 #[derive(Drop)]
 pub struct HeldEngine {
     pub(crate) alloc: Global,
     pub(crate) engine: HostEngine,
-    /// 1 where leaders are drawn from certificates: then none is made of votes, and none are taken.
+    /// 1 if leaders are drawn from certificates: then no certificates are made of votes, and no votes are taken.
     draws: u32,
-    /// What was to be stored could not be written as frames, and nothing more is given out.
+    /// Entries to store could not be written as frames, and nothing more is returned.
     pub(crate) is_lost: bool,
     last: Option<HostOutput>,
-    /// The entries that are to be stored, as frames.
+    /// The entries to store, as frames.
     frames: BytesMut,
-    /// What is stored beside a journal, once it has all that was given out.
+    /// The data stored beside a journal, once the journal has all returned outputs.
     stored: FlatStored,
-    /// What was last shown beside an output.
+    /// The bytes that were last loaded beside an output.
     pub(crate) shown: BytesMut,
 }
 
@@ -62,7 +63,7 @@ impl HeldEngine {
     ghost use Rattle.ffi_member.specs.MemberHandles.{host_leader, same_host_payload};
     ghost use Rattle.ffi_scheme.specs.declared.scheme.HostKey.{HostKey};
 
-    /// An engine that gave nothing out yet.
+    /// Returns an engine that has returned no output yet.
     pub(crate) fn new(alloc: Global, engine: HostEngine, draws: u32) -> HeldEngine
         ensures engine { result.engine ≡ engine }
         ensures draws { result.draws ≡ draws }
@@ -80,7 +81,7 @@ impl HeldEngine {
         }
     }
 
-    /// Tells what came in. `bytes` are a vote's signature, or a certificate.
+    /// Passes an input to the engine. `bytes` are a vote's signature, or a certificate.
     pub fn handle(&mut self, flat: &FlatInput, bytes: &[u8], now: u64) -> FlatTaken
         ensures { IsHandled now self.old flat.now bytes.now result self.new }
     {
@@ -109,7 +110,7 @@ impl HeldEngine {
         }
     }
 
-    /// What is to be carried out next, at a moment in milliseconds.
+    /// Returns the next output to carry out, at a moment in milliseconds.
     pub fn poll(&mut self, now: u64) -> FlatOutput
         ensures { IsPolled now self.old result self.new }
     {
@@ -118,7 +119,7 @@ impl HeldEngine {
         self.poll_engine(now)
     }
 
-    /// What is to be carried out next, once nothing is read of the output before.
+    /// Returns the next output to carry out, once the host no longer reads the output before.
     fn poll_engine(&mut self, now: u64) -> FlatOutput
         requires last { self.old.last ≡ None }
         requires empty { self.old.frames.items ≡ [] }
@@ -134,13 +135,14 @@ impl HeldEngine {
         }
     }
 
-    /// Gives an output out. Where its entries find no memory as frames nothing behind it ever leaves, since it was not stored.
+    /// Returns an output. If its entries find no memory as frames, nothing after it ever leaves, since it was not stored.
     fn give_out(&mut self, output: HostOutput) -> FlatOutput
         requires empty { self.old.frames.items ≡ [] }
         requires last { self.old.last ≡ None }
         requires going { self.old.is_lost ≡ false }
         ensures given { IsReturned output self.old.stored result self.new }
-        ensures rest { (self.new.engine ≡ self.old.engine) × (self.new.draws ≡ self.old.draws) × (self.new.shown ≡ self.old.shown) }
+        ensures rest { (self.new.engine ≡ self.old.engine) × (self.new.draws ≡ self.old.draws)
+            × (self.new.shown ≡ self.old.shown) }
     {
         match self.write(&output) {
             Ok(()) => self.keep(output),
@@ -152,7 +154,8 @@ impl HeldEngine {
         requires { self.old.last ≡ None }
         ensures nothing { IsNothing (not_written_number error) result self.new }
         ensures lost { self.new.is_lost ≡ true }
-        ensures rest { (self.new.engine ≡ self.old.engine) × (self.new.draws ≡ self.old.draws) × (self.new.shown ≡ self.old.shown) }
+        ensures rest { (self.new.engine ≡ self.old.engine) × (self.new.draws ≡ self.old.draws)
+            × (self.new.shown ≡ self.old.shown) }
     {
         self.is_lost = true;
         self.frames.clear();
@@ -173,7 +176,7 @@ impl HeldEngine {
         }
     }
 
-    /// Writes the entries that are to be stored as frames, and counts them.
+    /// Writes the entries to store as frames, and counts them.
     fn write(&mut self, output: &HostOutput) -> Result<(), NotWritten>
         requires { self.old.frames.items ≡ [] }
         ensures written { OnOk result (AreFramed output.now self.old.stored self.new.frames.items self.new.stored) }
@@ -210,7 +213,7 @@ impl HeldEngine {
         Ok(())
     }
 
-    /// The bytes of what was given out last: entries as frames, what is to be signed, a certificate, or the first signature of two.
+    /// Returns the bytes of the last output: entries as frames, the text to sign, a certificate, or the first signature of two.
     pub fn first_bytes(&self) -> &[u8]
         ensures { result.now ≡ first_bytes self.now }
     {
@@ -221,45 +224,56 @@ impl HeldEngine {
         }
     }
 
-    /// The laws of all that it gave out, and of all that its member has done. It does nothing: its contract is the laws.
+    /// Does nothing: its contract is the laws of all outputs that it returned, and of all that its member has done.
     ///
-    /// - `behind`: each vote stands behind an output that stores it, with its very order.
-    /// - `stored`: where all of the record was given out, a journal that carries out what was given out holds the record, and beside
-    ///   it what a journal stores.
-    /// - `emitted`: until it fails, each vote that is stored was given out or is queued, but those of the record that the life began
-    ///   with, which the first output stores.
-    /// - `stops`: until it fails, a host may stop after each output that was given out: the journal is then the record of a member that
-    ///   the engine's member was, which had signed each vote among these outputs.
+    /// - `behind`: each vote comes after an output that stores it, with exactly its order.
+    /// - `stored`: if all of the record was returned, a journal that carries out all returned outputs holds the record, and what a journal
+    ///   stores beside it.
+    /// - `emitted`: until it fails, each stored vote was returned or is queued. The exceptions are votes of the record that the lifetime
+    ///   began with; the first output stores them.
+    /// - `stops`: until it fails, a host may stop after each output that was returned: the journal is then the record of a member that the
+    ///   engine's member was, which had signed each vote among these outputs.
     /// - `finals`: of each proposal that it reported as final, its member accepted the finalization.
-    /// - `signed`: each vote that it gave out is its member's, an order to sign just the vote's own bytes with the member's key.
-    /// - `rising`: the views of the proposals rise that it told as final.
-    /// - `lawful`: what its member has done keeps the voting rules, over all its lives.
+    /// - `signed`: each vote that it returned is its member's, an order to sign exactly the vote's own bytes with the member's key.
+    /// - `rising`: the views of the proposals that it reported as final rise.
+    /// - `lawful`: what its member has done keeps the voting rules, over all its lifetimes.
     /// - `ran`: a network of `agreement` may have it as member `i`.
     /// - `once`: its record holds each entry once: of each view at most seven.
     pub fn keeps_the_laws(&self)
         ensures behind { (given : _) → IsAllReturned given self.now → self.now.is_lost ≡ false → AreBehind [] given }
-        ensures stored { (given : _) → IsAllReturned given self.now → self.now.is_lost ≡ false → HoldsRecord given self.now }
-        ensures emitted { (given : _) → IsAllReturned given self.now → self.now.is_lost ≡ false → self.now.engine.core.failed ≡ false
+        ensures stored { (given : _) → IsAllReturned given self.now → self.now.is_lost ≡ false
+            → HoldsRecord given self.now }
+        ensures emitted { (given : _) → IsAllReturned given self.now → self.now.is_lost ≡ false
+            → self.now.engine.core.failed ≡ false
             → AllAreReturned (given ++ self.now.engine.core.outbox.queue.items) }
         ensures stops { (term_length i : _) (earlier given all : _)
-            → IsTraced same_host_payload host_leader certificate_bytes term_length i earlier given all self.now.engine.core
-            → self.now.engine.core.failed ≡ false → EachStopIsLawful same_host_payload host_leader certificate_bytes term_length i earlier all
+            → IsTraced same_host_payload host_leader certificate_bytes term_length i earlier given all
+            self.now.engine.core
+            → self.now.engine.core.failed ≡ false
+            → EachStopIsLawful same_host_payload host_leader certificate_bytes term_length i earlier all
             (given ++ self.now.engine.core.outbox.queue.items) }
         ensures finals { (term_length i : _) (earlier given all : _)
-            → IsTraced same_host_payload host_leader certificate_bytes term_length i earlier given all self.now.engine.core
+            → IsTraced same_host_payload host_leader certificate_bytes term_length i earlier given all
+            self.now.engine.core
             → WereAccepted all (finals_in given) }
-        ensures signed { (i key given vote : _) → IsSignedBy (IsOrder bytes_in_digest) i key given self.now.engine.core → AreBehind [] given
-            → Contains given (output.Vote vote) → (vote.signer ≡ i) × IsOrder bytes_in_digest key vote.subject vote.signature }
-        ensures rising { (given : _) → IsAllReturned given self.now → self.now.is_lost ≡ false → RiseByView (finals_in given) }
-        ensures lawful { OfEachHistory same_host_payload host_leader self.now.engine.core.member.facts (λ term_length i all. IsLawful term_length all) }
-        ensures ran { OfEachHistory same_host_payload host_leader self.now.engine.core.member.facts (MayBeHistoryOf HostKey same_host_payload host_leader) }
-        ensures once { OfEachHistory same_host_payload host_leader self.now.engine.core.member.facts (λ term_length i all.
+        ensures signed { (i key given vote : _) → IsSignedBy (IsOrder bytes_in_digest) i key given self.now.engine.core
+            → AreBehind [] given
+            → Contains given (output.Vote vote) → (vote.signer ≡ i)
+            × IsOrder bytes_in_digest key vote.subject vote.signature }
+        ensures rising { (given : _) → IsAllReturned given self.now → self.now.is_lost ≡ false
+            → RiseByView (finals_in given) }
+        ensures lawful { OfEachHistory same_host_payload host_leader self.now.engine.core.member.facts
+            (λ term_length i all. IsLawful term_length all) }
+        ensures ran { OfEachHistory same_host_payload host_leader self.now.engine.core.member.facts
+            (MayBeHistoryOf HostKey same_host_payload host_leader) }
+        ensures once { OfEachHistory same_host_payload host_leader self.now.engine.core.member.facts
+            (λ term_length i all.
             HoldsEachEntryOnce self.now.engine.core.member.facts) }
     {
         self.engine.keeps_the_laws();
     }
 
-    /// The second signature of two.
+    /// Returns the second signature of two.
     pub fn second_bytes(&self) -> &[u8]
         ensures { result.now ≡ second_bytes self.now }
     {
@@ -270,7 +284,7 @@ impl HeldEngine {
     }
 }
 
-/// What is stored beside so many entries.
+/// Returns what is stored beside this number of entries.
 fn stored_beside(entries: usize, beside: &Stored) -> FlatStored
     ensures entries { result.entries ≡ entries }
     ensures stored { IsFlatStored result beside.now }
@@ -285,7 +299,7 @@ fn stored_beside(entries: usize, beside: &Stored) -> FlatStored
     }
 }
 
-/// That nothing was of use.
+/// Returns the result that nothing was taken, for this status.
 pub(crate) fn untaken(status: u32) -> FlatTaken
     ensures { (result.status ≡ status) × (result.is_of_use ≡ 0) }
 {
@@ -295,13 +309,13 @@ pub(crate) fn untaken(status: u32) -> FlatTaken
     }
 }
 
-/// That nothing is to be carried out.
+/// Returns the result that no output is ready.
 pub(crate) fn no_output(status: u32) -> FlatOutput
     ensures status { result.status ≡ status }
     ensures nothing { (result.kind ≡ 0) × (result.bytes ≡ 0) × (result.other_bytes ≡ 0) }
 {
     FlatOutput {
         status,
-        ..output_of(0)
+        ..output_of(NOTHING)
     }
 }

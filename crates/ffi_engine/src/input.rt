@@ -1,4 +1,4 @@
-//! The inputs that flat ones stand for.
+//! The inputs that flat inputs represent.
 
 ghost use Rattle.std.specs.Prelude.{◌≡◌, ◌≤◌, ◌<◌, IfOk, OnErr, MatchOption};
 ghost use Rattle.ffi_member.specs.Numbers.{flag_number, reason_number};
@@ -23,8 +23,8 @@ use std::alloc::{AllocError, Global};
 /// An input of an engine of the host.
 pub type HostInput = Input<HostScheme, HostDigest>;
 
-/// The input that a flat one stands for, with the bytes of the signature or the certificate that it hands in; none where one of
-/// its numbers is none.
+/// Returns the input that a flat input represents, with the bytes of the signature or the certificate that it passes; `None` if one of its
+/// numbers is not valid.
 pub fn input_of(
     alloc: Global,
     flat: &FlatInput,
@@ -81,14 +81,15 @@ fn input_of_kind(
     })
 }
 
-/// A vote under a signature of these bytes; none where no vote has its kind.
+/// Returns a vote under a signature of these bytes; `None` if no vote has its kind.
 fn vote_of(
     alloc: Global,
     flat: &FlatSubject,
     bytes: &[u8],
 ) -> Result<Option<Vote<HostDigest, Order>>, AllocError>
     ensures wanting { OnErr result (HasKind flat.now) }
-    ensures made { IfOk result (λ made. MatchOption made (IsNoKind flat.now) (λ vote. HasKind flat.now × IsVote flat.now bytes.now vote)) }
+    ensures made { IfOk result
+        (λ made. MatchOption made (IsNoKind flat.now) (λ vote. HasKind flat.now × IsVote flat.now bytes.now vote)) }
 {
     let Some(subject) = subject_of(flat) else {
         return Ok(None);
@@ -103,14 +104,15 @@ fn vote_of(
     }))
 }
 
-/// A certificate of these bytes; none where no certificate has its kind.
+/// Returns a certificate of these bytes; `None` if no certificate has its kind.
 fn certificate_of(
     alloc: Global,
     flat: &FlatSubject,
     bytes: &[u8],
 ) -> Result<Option<Certificate<HostScheme, HostDigest>>, AllocError>
     ensures wanting { OnErr result (HasKind flat.now) }
-    ensures made { IfOk result (λ made. MatchOption made (IsNoKind flat.now) (λ it. HasKind flat.now × IsCertificate flat.now bytes.now it)) }
+    ensures made { IfOk result
+        (λ made. MatchOption made (IsNoKind flat.now) (λ it. HasKind flat.now × IsCertificate flat.now bytes.now it)) }
 {
     let Some(kind) = certificate_kind_of(flat.kind) else {
         return Ok(None);
@@ -128,7 +130,7 @@ fn certificate_of(
     }))
 }
 
-/// A context, and who leads it.
+/// Returns a context, with its leader.
 fn context_of(flat: &FlatContext, leader: u32) -> Context<HostDigest, HostKey>
     ensures context { IsContext flat.now result }
     ensures leader { result.leader.0 ≡ leader }
@@ -140,7 +142,7 @@ fn context_of(flat: &FlatContext, leader: u32) -> Context<HostDigest, HostKey>
     }
 }
 
-/// What a vote of a kind is on; none where no vote has the kind.
+/// Returns the subject of a vote of a kind; `None` if no vote has the kind.
 fn subject_of(flat: &FlatSubject) -> Option<Subject<HostDigest>>
     ensures { MatchOption result (IsNoKind flat.now) (λ subject. HasKind flat.now × IsOn flat.now subject) }
 {

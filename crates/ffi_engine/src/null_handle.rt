@@ -1,4 +1,4 @@
-//! What is answered of an engine's handle that is null.
+//! The results for an engine's handle that is null.
 
 ghost use Rattle.std.specs.Prelude.{◌≡◌};
 
@@ -7,21 +7,21 @@ use crate::held::{no_output, untaken};
 use crate::views::not_open;
 use ffi_member::null_handle::STATUS_NO_HANDLE;
 
-/// Whether what came in was of use.
+/// Returns the result of an input.
 pub fn taken() -> FlatTaken
     ensures { result.status ≡ 15 }
 {
     untaken(STATUS_NO_HANDLE)
 }
 
-/// What is to be carried out.
+/// Returns an output.
 pub fn output() -> FlatOutput
     ensures { result.status ≡ 15 }
 {
     no_output(STATUS_NO_HANDLE)
 }
 
-/// What the engine knows of itself.
+/// Returns the status of an engine.
 pub fn engine_status() -> FlatStatus
     ensures { result.status ≡ 15 }
 {
@@ -34,7 +34,7 @@ pub fn engine_status() -> FlatStatus
     }
 }
 
-/// An open fetch.
+/// Returns an open fetch.
 pub fn open() -> FlatOpen
     ensures { result.status ≡ 15 }
 {

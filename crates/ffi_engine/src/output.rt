@@ -1,4 +1,4 @@
-//! What flat outputs tell.
+//! The flat form of an engine's outputs.
 
 ghost use Rattle.std.specs.Prelude.{◌≡◌};
 ghost use Rattle.engine_outbox.specs.declared.output.Work.TheVariants.{Fetch};
@@ -25,50 +25,79 @@ use simplex_types::types::{Certificate, Context, Participant, Proposal, Subject}
 /// An engine of the host.
 pub type HostEngine = Engine<HostScheme, HostElector, HostDigest>;
 
-/// What an engine of the host gives out.
+/// An output of an engine of the host.
 pub type HostOutput = Output<HostScheme, HostDigest, Stored>;
 
 /// A vote of a member of the host.
 pub type HostVote = Vote<HostDigest, Order>;
 
-/// What is to be carried out of the host, and is neither stored, nor a vote, nor final.
+/// An output of the host that is neither stored, nor a vote, nor final.
 pub type HostWork = Work<HostScheme, HostDigest>;
 
-/// The number of a fetch of whatever certificate decides a view: none of a certificate's kind.
+/// The kinds of outputs, as the header numbers them.
+pub(crate) const NOTHING: u32 = 0;
+
+const STORE: u32 = 1;
+
+const REPLACE: u32 = 2;
+
+const VOTE: u32 = 3;
+
+const BROADCAST: u32 = 4;
+
+const VERIFY: u32 = 5;
+
+const BUILD: u32 = 6;
+
+const STOP_BUILDING: u32 = 7;
+
+const CERTIFY: u32 = 8;
+
+const ASK: u32 = 9;
+
+const FINAL: u32 = 10;
+
+const EQUIVOCATED: u32 = 11;
+
+const PROPOSED_TWICE: u32 = 12;
+
+const FORGET: u32 = 13;
+
+/// The number of a fetch of any certificate that decides a view: no certificate kind has it.
 const FETCH_DECISION: u32 = 4;
 
-/// A proposal with nothing in it.
+/// An empty proposal.
 const NO_PROPOSAL: FlatProposal = FlatProposal {
     round: FlatRound { epoch: 0, view: 0 },
     parent: 0,
     payload: [0; 32],
 };
 
-/// A subject with nothing in it.
+/// An empty subject.
 const NO_SUBJECT: FlatSubject = FlatSubject {
     kind: 0,
     member: u32::MAX,
     proposal: NO_PROPOSAL,
 };
 
-/// What an output tells, but for its bytes and for what is stored beside a journal.
+/// Returns the flat form of an output, without its bytes and without what is stored beside a journal.
 pub(crate) fn flat_output(output: &HostOutput) -> FlatOutput
     ensures output { HasOutputOf output.now result }
     ensures status { result.status ≡ 0 }
 {
     match output {
-        Output::Store(_) => output_of(1),
-        Output::Replace(_, _) => output_of(2),
+        Output::Store(_) => output_of(STORE),
+        Output::Replace(_, _) => output_of(REPLACE),
         Output::Vote(vote) => FlatOutput {
             subject: flat_vote(vote),
-            ..output_of(3)
+            ..output_of(VOTE)
         },
-        Output::Finalized(proposal) => of_proposal(10, proposal),
+        Output::Finalized(proposal) => of_proposal(FINAL, proposal),
         Output::Work(work) => flat_work(work),
     }
 }
 
-/// What work tells.
+/// Returns the flat form of work.
 fn flat_work(work: &HostWork) -> FlatOutput
     ensures work { IsWork work.now result }
     ensures status { result.status ≡ 0 }
@@ -76,27 +105,27 @@ fn flat_work(work: &HostWork) -> FlatOutput
     match work {
         Work::Broadcast(certificate) => FlatOutput {
             subject: flat_certificate(certificate),
-            ..output_of(4)
+            ..output_of(BROADCAST)
         },
-        Work::Verify(context, proposal) => in_context(5, context, proposal_subject(proposal)),
-        Work::Build(context) => in_context(6, context, NO_SUBJECT),
-        Work::StopBuilding(view) => of_view(7, view.get()),
-        Work::Certify(proposal) => of_proposal(8, proposal),
+        Work::Verify(context, proposal) => in_context(VERIFY, context, proposal_subject(proposal)),
+        Work::Build(context) => in_context(BUILD, context, NO_SUBJECT),
+        Work::StopBuilding(view) => of_view(STOP_BUILDING, view.get()),
+        Work::Certify(proposal) => of_proposal(CERTIFY, proposal),
         Work::Fetch(ask) => flat_fetch(*ask),
         Work::Equivocated(first, second) => FlatOutput {
             subject: flat_vote(first),
             other: flat_vote(second),
-            ..output_of(11)
+            ..output_of(EQUIVOCATED)
         },
         Work::ProposedTwice(view, leader) => FlatOutput {
             member: leader.0,
-            ..of_view(12, view.get())
+            ..of_view(PROPOSED_TWICE, view.get())
         },
-        Work::Forget(view) => of_view(13, view.get()),
+        Work::Forget(view) => of_view(FORGET, view.get()),
     }
 }
 
-/// An output of a kind, with nothing in it.
+/// Returns an empty output of a kind.
 pub(crate) fn output_of(kind: u32) -> FlatOutput
     ensures kind { result.kind ≡ kind }
     ensures status { result.status ≡ 0 }
@@ -121,7 +150,7 @@ pub(crate) fn output_of(kind: u32) -> FlatOutput
     }
 }
 
-/// Beside a journal before anything was stored.
+/// The data stored beside a journal before anything was stored.
 pub(crate) const NOTHING_STORED: FlatStored = FlatStored {
     entries: 0,
     closed: 0,
@@ -177,7 +206,7 @@ fn flat_fetch(ask: Ask) -> FlatOutput
     FlatOutput {
         fetch: number_of_fetch(ask.kind),
         member: number_of_peer(ask.of),
-        ..of_view(9, ask.view.get())
+        ..of_view(ASK, ask.view.get())
     }
 }
 
@@ -190,7 +219,7 @@ fn proposal_subject(proposal: &Proposal<HostDigest>) -> FlatSubject
     }
 }
 
-/// What a vote is on, and who signed it.
+/// Returns the subject of a vote, and its signer.
 fn flat_vote(vote: &HostVote) -> FlatSubject
     ensures on { IsOn result vote.now.subject }
     ensures signer { result.member ≡ vote.now.signer }
@@ -221,7 +250,7 @@ fn flat_vote(vote: &HostVote) -> FlatSubject
     }
 }
 
-/// What a certificate is on.
+/// Returns the subject of a certificate.
 fn flat_certificate(certificate: &Certificate<HostScheme, HostDigest>) -> FlatSubject
     ensures { IsOf result certificate.now }
 {
@@ -260,7 +289,7 @@ fn subject_on(kind: CertificateKind, member: u32, proposal: FlatProposal) -> Fla
     }
 }
 
-/// What is nullified.
+/// Returns the subject of a nullification.
 fn of_round(round: FlatRound) -> FlatProposal
     ensures { result.round ≡ round }
 {
@@ -270,7 +299,7 @@ fn of_round(round: FlatRound) -> FlatProposal
     }
 }
 
-/// The number of what is fetched.
+/// Returns the number of a kind of fetch.
 pub(crate) fn number_of_fetch(kind: FetchKind) -> u32
     ensures { result ≡ fetch_number kind }
 {
@@ -281,7 +310,7 @@ pub(crate) fn number_of_fetch(kind: FetchKind) -> u32
     }
 }
 
-/// The index of a member, or the greatest number where there is none.
+/// Returns the index of a member, or the greatest number if there is none.
 fn number_of_peer(of: Option<Participant>) -> u32
     ensures { result ≡ index_number of }
 {
@@ -291,7 +320,7 @@ fn number_of_peer(of: Option<Participant>) -> u32
     }
 }
 
-/// What is to be signed, a certificate, or the first signature of two: what is read of an output that is no journal's.
+/// Returns the text to sign, a certificate, or the first signature of two: the bytes of an output that stores nothing.
 pub(crate) fn signature_in(output: &HostOutput) -> &[u8]
     ensures { result.now ≡ first_bytes_in output.now }
 {
@@ -303,7 +332,7 @@ pub(crate) fn signature_in(output: &HostOutput) -> &[u8]
     }
 }
 
-/// The second signature of two.
+/// Returns the second signature of two.
 pub(crate) fn other_signature(output: &HostOutput) -> &[u8]
     ensures { result.now ≡ other_signature output.now }
 {
@@ -313,7 +342,7 @@ pub(crate) fn other_signature(output: &HostOutput) -> &[u8]
     }
 }
 
-/// The bytes of a certificate.
+/// Returns the bytes of a certificate.
 fn bytes_of(certificate: &Certificate<HostScheme, HostDigest>) -> &[u8]
     ensures { result.now ≡ certified_bytes certificate.now }
 {

@@ -1,4 +1,4 @@
-//! What an engine shows beside its outputs.
+//! The data that the host can read of an engine beside its outputs.
 
 ghost use Rattle.std.specs.Prelude.{◌≡◌};
 
@@ -14,8 +14,8 @@ use ffi_member::withheld::withheld_in;
 impl HeldEngine {
     ghost use Rattle.ffi_engine.specs.EngineViews.{ShowsChunk, ShowsFound, ShowsOpenFetch, ShowsServed, ShowsStatus, ShowsView, ShowsWithheld, is_failed};
 
-    /// A part of the bytes of what was given out last, where `which` is 0; of the second signature of two, where it is 1; and else
-    /// of what was shown last.
+    /// Returns a part of the bytes of the last output, if `which` is 0; of the second signature of two, if it is 1; and otherwise of what
+    /// was last loaded.
     pub fn chunk(&self, which: u32, from: u64) -> FlatChunk
         ensures { ShowsChunk self.now which from result }
     {
@@ -26,7 +26,7 @@ impl HeldEngine {
         }
     }
 
-    /// What the engine knows of itself.
+    /// Returns the status of the engine.
     pub fn status(&self) -> FlatStatus
         ensures { ShowsStatus self.now result }
     {
@@ -39,14 +39,14 @@ impl HeldEngine {
         }
     }
 
-    /// Whether it has failed: nothing more is given out.
+    /// Returns whether it has failed: nothing more is returned.
     pub fn has_failed(&self) -> bool
         ensures { result ≡ is_failed self.now }
     {
         self.is_lost || self.engine.has_failed()
     }
 
-    /// An open fetch.
+    /// Returns an open fetch.
     pub fn open(&self, index: u64) -> FlatOpen
         ensures { ShowsOpenFetch self.now index result }
     {
@@ -62,21 +62,21 @@ impl HeldEngine {
         }
     }
 
-    /// What the member knows, and what it knows of a view.
+    /// Returns what the member knows, and what it knows of a view.
     pub fn view(&self, view: u64) -> FlatView
         ensures { ShowsView self.now view result }
     {
         view_in(self.engine.state(), view)
     }
 
-    /// Why the member withholds its vote of a kind on a view: 1 asks for a vote to notarize, 2 to nullify, 3 to finalize.
+    /// Returns why the member withholds its vote of a kind on a view: 1 asks for a vote to notarize, 2 to nullify, 3 to finalize.
     pub fn withheld(&self, kind: u32, view: u64) -> FlatWithheld
         ensures { ShowsWithheld self.now kind view result }
     {
         withheld_in(self.engine.state(), kind, view)
     }
 
-    /// Shows the bytes of a view's certificate, and answers what it is of: 1 asks for a notarization, 2 for a nullification, 3 for a
+    /// Loads the bytes of a view's certificate, and returns its subject: 1 asks for a notarization, 2 for a nullification, 3 for a
     /// finalization.
     pub fn certificate(&mut self, kind: u32, view: u64) -> FlatFound
         ensures { ShowsFound self.old kind view result self.new }
@@ -84,7 +84,7 @@ impl HeldEngine {
         certificate_in(self.engine.state(), kind, view, &mut self.shown)
     }
 
-    /// Shows what a peer is served for a view.
+    /// Loads what a peer is served for a view.
     pub fn serve(&mut self, view: u64) -> FlatServed
         ensures { ShowsServed self.old view result self.new }
     {
@@ -92,7 +92,7 @@ impl HeldEngine {
     }
 }
 
-/// That there is no such fetch.
+/// Returns the result that there is no such fetch.
 pub(crate) fn not_open() -> FlatOpen
     ensures { (result.status ≡ 0) × (result.fetch ≡ 0) }
 {

@@ -1,4 +1,4 @@
--- What C is answered of a start, a resume or a restart.
+-- What C receives for a start, a resume or a restart.
 use Rattle.std.specs.Prelude.{◌≡◌, ◌⊎◌, ℕ, List, Option, Some, Result}
 use Rattle.std.specs.Option.{IsSomeAnd}
 use Rattle.ffi_exports.specs.declared.handles.EngineHandle.{EngineHandle}
@@ -38,17 +38,20 @@ IsStartStatus f leaders bytes now status old new =
     ⊎ ((status ≡ 1) × (new ≡ old))
     ⊎ ((e : NotStarted) × IsNotStarted f leaders bytes now e × (status ≡ not_started_number e) × (new ≡ old))
 
--- the handle of the member that goes on was written; or there was no memory for it, or the resume is refused, and nothing was
-abbrev pub IsResumeStatus : FlatSettings → List ℕ → List ℕ → ℕ → FlatStored → List ℕ → ℕ → MemberHandle → MemberHandle → Type 0
+-- the handle of the member that resumes was written; or there was no memory for it, or the resume is refused, and nothing was
+abbrev pub IsResumeStatus : FlatSettings → List ℕ → List ℕ → ℕ → FlatStored → List ℕ → ℕ → MemberHandle
+    → MemberHandle → Type 0
 IsResumeStatus f leaders bytes now beside journal status old new =
     ((status ≡ 0) × IsSomeAnd new.held (IsResumedBy f leaders bytes now beside journal))
     ⊎ ((status ≡ 1) × (new ≡ old))
-    ⊎ ((e : NotResumed) × IsNotResumedBy f leaders bytes now beside journal e × (status ≡ not_resumed_number e) × (new ≡ old))
+    ⊎ ((e : NotResumed) × IsNotResumedBy f leaders bytes now beside journal e
+    × (status ≡ not_resumed_number e) × (new ≡ old))
 
 -- the member is restarted, or that is refused
 abbrev pub IsRestartStatus : Held → FlatRestart → List ℕ → List ℕ → ℕ → Held → Type 0
 IsRestartStatus old f leaders bytes status new =
-    (result : Result (Unit {0}) NotStarted) × IsRestartedBy old f leaders bytes result new × (status ≡ restart_number result)
+    (result : Result (Unit {0}) NotStarted) × IsRestartedBy old f leaders bytes result new
+    × (status ≡ restart_number result)
 
 -- the handle of the resolver was written; or there was no memory for it, or none starts, and nothing was
 abbrev pub IsReplayStatus : ℕ → List ℕ → ℕ → ResolverHandle → ResolverHandle → Type 0
@@ -62,12 +65,15 @@ abbrev pub IsStartedStatus : FlatSettings → List ℕ → List ℕ → FlatOpti
 IsStartedStatus f leaders bytes options now status old new =
     ((status ≡ 0) × IsSomeAnd new.held (IsEngineStarted f leaders bytes options now))
     ⊎ ((status ≡ 1) × (new ≡ old))
-    ⊎ ((e : EngineNotStarted) × IsEngineNotStarted f leaders bytes options now e × (status ≡ engine_not_started_number e) × (new ≡ old))
+    ⊎ ((e : EngineNotStarted) × IsEngineNotStarted f leaders bytes options now e
+    × (status ≡ engine_not_started_number e) × (new ≡ old))
 
--- the handle of the engine that goes on was written; or there was no memory for it, or the resume is refused, and nothing was
-abbrev pub IsResumptionStatus : FlatSettings → List ℕ → List ℕ → FlatOptions → ℕ → FlatStored → List ℕ → ℕ → EngineHandle → EngineHandle
+-- the handle of the engine that resumes was written; or there was no memory for it, or the resume is refused, and nothing was
+abbrev pub IsResumptionStatus : FlatSettings → List ℕ → List ℕ → FlatOptions → ℕ → FlatStored → List ℕ → ℕ
+    → EngineHandle → EngineHandle
     → Type 0
 IsResumptionStatus f leaders bytes options now beside journal status old new =
     ((status ≡ 0) × IsSomeAnd new.held (IsEngineResumed f leaders bytes options now beside journal))
     ⊎ ((status ≡ 1) × (new ≡ old))
-    ⊎ ((e : EngineNotStarted) × IsEngineNotResumed f leaders bytes options now beside journal e × (status ≡ engine_not_started_number e) × (new ≡ old))
+    ⊎ ((e : EngineNotStarted) × IsEngineNotResumed f leaders bytes options now beside journal e
+    × (status ≡ engine_not_started_number e) × (new ≡ old))

@@ -1,6 +1,5 @@
-//! The functions of an engine that C calls. `engine_at` says what a handle is: null, or a pointer to an engine that
-//! `simplex_engine_start` or `simplex_engine_resume` made, and that no other call has. At null each answers the status 15, and
-//! does nothing.
+//! The functions of an engine that C calls. `engine_at` says what a handle is: null, or a pointer to an engine that `simplex_engine_start`
+//! or `simplex_engine_resume` made, and that no other call has. For null each function returns the status 15, and does nothing.
 
 ghost use Rattle.std.specs.Prelude.{◌≡◌};
 ghost use Rattle.std.specs.Borrow.{sem};
@@ -22,7 +21,7 @@ use ffi_member::resolver_types::FlatServed;
 use ffi_member::view_types::{FlatChunk, FlatFound, FlatStored, FlatView, FlatWithheld};
 use std::alloc::Global;
 
-/// Begins an engine whose member never voted, and writes its handle. 0, or why there is none; then nothing is written.
+/// Starts an engine whose member never voted, and writes its handle. Returns 0, or why there is no engine; then it writes nothing.
 #[unsafe(no_mangle)]
 pub extern "C" fn simplex_engine_start(
     alloc: Global,
@@ -42,7 +41,7 @@ pub extern "C" fn simplex_engine_start(
     }
 }
 
-/// Makes an engine that goes on from its journal, and writes its handle. 0, or why there is none; then nothing is written.
+/// Resumes an engine from its journal, and writes its handle. Returns 0, or why there is no engine; then it writes nothing.
 #[unsafe(no_mangle)]
 pub extern "C" fn simplex_engine_resume(
     alloc: Global,
@@ -55,7 +54,8 @@ pub extern "C" fn simplex_engine_resume(
     journal: &[u8],
     out: &mut EngineHandle,
 ) -> u32
-    ensures resumed { IsResumptionStatus settings.now leaders.now certificate.now options.now now stored.now journal.now result out.old out.new }
+    ensures resumed { IsResumptionStatus settings.now leaders.now certificate.now options.now now stored.now journal.now
+        result out.old out.new }
     ensures no_retry { options.now.retry ≡ 0 → result ≡ 33 }
 {
     match HeldEngine::resume(
@@ -73,7 +73,7 @@ pub extern "C" fn simplex_engine_resume(
     }
 }
 
-/// Tells the engine what came in.
+/// Passes an input to the engine.
 #[unsafe(no_mangle)]
 pub unsafe extern "C" fn simplex_engine_handle(
     at: *mut u8,
@@ -83,7 +83,8 @@ pub unsafe extern "C" fn simplex_engine_handle(
 ) -> FlatTaken
     ghost held: { HeldEngine }
     requires* { sem 𝓛 (engine_at at held) }
-    ensures* { sem 𝓛 (engine_left_at at (result.status ≡ 15) (λ new. IsHandled now held input.now bytes.now result new)) }
+    ensures* { sem 𝓛 (engine_left_at at (result.status ≡ 15)
+        (λ new. IsHandled now held input.now bytes.now result new)) }
 {
     if at.is_null() {
         return absent_engine::taken();
@@ -97,7 +98,7 @@ fn tell(held: &mut HeldEngine, input: &FlatInput, bytes: &[u8], now: u64) -> Fla
     held.handle(input, bytes, now)
 }
 
-/// What the engine gives out next.
+/// Returns the engine's next output.
 #[unsafe(no_mangle)]
 pub unsafe extern "C" fn simplex_engine_poll(at: *mut u8, now: u64) -> FlatOutput
     ghost held: { HeldEngine }
@@ -116,12 +117,13 @@ fn give_out(held: &mut HeldEngine, now: u64) -> FlatOutput
     held.poll(now)
 }
 
-/// A part of the bytes of what was given out last, or of those that were shown last.
+/// Returns a part of the bytes of the last output, or of those that were loaded last.
 #[unsafe(no_mangle)]
 pub unsafe extern "C" fn simplex_engine_bytes(at: *mut u8, which: u32, from: u64) -> FlatChunk
     ghost held: { HeldEngine }
     requires* { sem 𝓛 (engine_at at held) }
-    ensures* { sem 𝓛 (engine_left_at at (result.status ≡ 15) (λ new. IsRead held new (ShowsChunk held which from result))) }
+    ensures* { sem 𝓛 (engine_left_at at (result.status ≡ 15)
+        (λ new. IsRead held new (ShowsChunk held which from result))) }
 {
     if at.is_null() {
         return null_handle::chunk();
@@ -135,7 +137,7 @@ fn pass_chunk(held: &mut HeldEngine, which: u32, from: u64) -> FlatChunk
     held.chunk(which, from)
 }
 
-/// What the engine knows of itself.
+/// Returns the status of the engine.
 #[unsafe(no_mangle)]
 pub unsafe extern "C" fn simplex_engine_status(at: *mut u8) -> FlatStatus
     ghost held: { HeldEngine }
@@ -154,12 +156,13 @@ fn pass_status(held: &mut HeldEngine) -> FlatStatus
     held.status()
 }
 
-/// A fetch that is open.
+/// Returns an open fetch.
 #[unsafe(no_mangle)]
 pub unsafe extern "C" fn simplex_engine_open(at: *mut u8, index: u64) -> FlatOpen
     ghost held: { HeldEngine }
     requires* { sem 𝓛 (engine_at at held) }
-    ensures* { sem 𝓛 (engine_left_at at (result.status ≡ 15) (λ new. IsRead held new (ShowsOpenFetch held index result))) }
+    ensures* { sem 𝓛 (engine_left_at at (result.status ≡ 15)
+        (λ new. IsRead held new (ShowsOpenFetch held index result))) }
 {
     if at.is_null() {
         return absent_engine::open();
@@ -173,7 +176,7 @@ fn pass_open(held: &mut HeldEngine, index: u64) -> FlatOpen
     held.open(index)
 }
 
-/// What the member knows, and what it knows of a view.
+/// Returns what the member knows, and what it knows of a view.
 #[unsafe(no_mangle)]
 pub unsafe extern "C" fn simplex_engine_view(at: *mut u8, view: u64) -> FlatView
     ghost held: { HeldEngine }
@@ -192,12 +195,13 @@ fn pass_view(held: &mut HeldEngine, view: u64) -> FlatView
     held.view(view)
 }
 
-/// Why the member withholds a vote on a view.
+/// Returns why the member withholds a vote on a view.
 #[unsafe(no_mangle)]
 pub unsafe extern "C" fn simplex_engine_withheld(at: *mut u8, kind: u32, view: u64) -> FlatWithheld
     ghost held: { HeldEngine }
     requires* { sem 𝓛 (engine_at at held) }
-    ensures* { sem 𝓛 (engine_left_at at (result.status ≡ 15) (λ new. IsRead held new (ShowsWithheld held kind view result))) }
+    ensures* { sem 𝓛 (engine_left_at at (result.status ≡ 15)
+        (λ new. IsRead held new (ShowsWithheld held kind view result))) }
 {
     if at.is_null() {
         return null_handle::withheld();
@@ -211,7 +215,7 @@ fn pass_withheld(held: &mut HeldEngine, kind: u32, view: u64) -> FlatWithheld
     held.withheld(kind, view)
 }
 
-/// Shows a view's certificate.
+/// Loads a view's certificate.
 #[unsafe(no_mangle)]
 pub unsafe extern "C" fn simplex_engine_certificate(at: *mut u8, kind: u32, view: u64) -> FlatFound
     ghost held: { HeldEngine }
@@ -230,7 +234,7 @@ fn pass_certificate(held: &mut HeldEngine, kind: u32, view: u64) -> FlatFound
     held.certificate(kind, view)
 }
 
-/// Shows what a peer is served for a view.
+/// Loads what a peer is served for a view.
 #[unsafe(no_mangle)]
 pub unsafe extern "C" fn simplex_engine_serve(at: *mut u8, view: u64) -> FlatServed
     ghost held: { HeldEngine }
@@ -249,7 +253,7 @@ fn pass_served(held: &mut HeldEngine, view: u64) -> FlatServed
     held.serve(view)
 }
 
-/// Lets the engine go, and the memory of its handle.
+/// Frees the engine, and the memory of its handle.
 #[unsafe(no_mangle)]
 pub unsafe extern "C" fn simplex_engine_free(alloc: Global, at: *mut u8)
     ghost held: { HeldEngine }

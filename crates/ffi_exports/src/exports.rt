@@ -1,6 +1,6 @@
 //! The functions that C calls. `held_at` says what a handle is: null, or a pointer to a member that `simplex_member_start` or
-//! `simplex_member_resume` made, and that no other call has. At null each answers the status 15, and does nothing. `passed_at` says
-//! what these two write.
+//! `simplex_member_resume` made, and that no other call has. For null each function returns the status 15, and does nothing. `passed_at`
+//! says what these two write.
 
 ghost use Rattle.std.specs.Prelude.{◌≡◌};
 ghost use Rattle.std.specs.Borrow.{sem};
@@ -27,7 +27,7 @@ use ffi_member::view_types::{
 use ffi_member::views::subject_text;
 use std::alloc::Global;
 
-/// The number that rises when a struct, a number or a function here changes its meaning.
+/// Returns the version, which rises when a struct, a number or a function here changes its meaning.
 #[unsafe(no_mangle)]
 pub extern "C" fn simplex_version() -> u32
     ensures { result ≡ 4 }
@@ -35,7 +35,7 @@ pub extern "C" fn simplex_version() -> u32
     4
 }
 
-/// Begins a member that never voted, and writes its handle. 0, or why there is none; then nothing is written.
+/// Starts a member that never voted, and writes its handle. Returns 0, or why there is no member; then it writes nothing.
 #[unsafe(no_mangle)]
 pub extern "C" fn simplex_member_start(
     alloc: Global,
@@ -53,7 +53,7 @@ pub extern "C" fn simplex_member_start(
     }
 }
 
-/// Makes a member that goes on from its journal, and writes its handle. 0, or why there is none; then nothing is written.
+/// Resumes a member from its journal, and writes its handle. Returns 0, or why there is no member; then it writes nothing.
 #[unsafe(no_mangle)]
 pub extern "C" fn simplex_member_resume(
     alloc: Global,
@@ -65,7 +65,8 @@ pub extern "C" fn simplex_member_resume(
     journal: &[u8],
     out: &mut MemberHandle,
 ) -> u32
-    ensures { IsResumeStatus settings.now leaders.now certificate.now now stored.now journal.now result out.old out.new }
+    ensures { IsResumeStatus settings.now leaders.now certificate.now now stored.now journal.now result
+        out.old out.new }
 {
     match Held::resume(alloc, settings, leaders, certificate, now, stored, journal) {
         Ok(held) => out.write(alloc, held),
@@ -82,7 +83,8 @@ pub unsafe extern "C" fn simplex_member_call(
 ) -> FlatReply
     ghost held: { Held }
     requires* { sem 𝓛 (held_at at held) }
-    ensures* { sem 𝓛 (member_left_at at (result.status ≡ 15) (λ now. IsCallServed held call.now certificate.now result now)) }
+    ensures* { sem 𝓛 (member_left_at at (result.status ≡ 15)
+        (λ now. IsCallServed held call.now certificate.now result now)) }
 {
     if at.is_null() {
         return null_handle::reply();
@@ -96,12 +98,13 @@ fn serve(held: &mut Held, call: &FlatCall, certificate: &[u8]) -> FlatReply
     held.call(call, certificate)
 }
 
-/// A part of the bytes of the last reply, or of those that were shown last.
+/// Returns a part of the bytes of the last reply, or of those that were loaded last.
 #[unsafe(no_mangle)]
 pub unsafe extern "C" fn simplex_member_bytes(at: *mut u8, which: u32, from: u64) -> FlatChunk
     ghost held: { Held }
     requires* { sem 𝓛 (held_at at held) }
-    ensures* { sem 𝓛 (member_left_at at (result.status ≡ 15) (λ now. IsRead held now (IsChunkOf held which from result))) }
+    ensures* { sem 𝓛 (member_left_at at (result.status ≡ 15)
+        (λ now. IsRead held now (IsChunkOf held which from result))) }
 {
     if at.is_null() {
         return null_handle::chunk();
@@ -115,12 +118,13 @@ fn pass_chunk(held: &mut Held, which: u32, from: u64) -> FlatChunk
     held.chunk(which, from)
 }
 
-/// An item of the last reply's lists.
+/// Returns an item of the last reply's lists.
 #[unsafe(no_mangle)]
 pub unsafe extern "C" fn simplex_member_item(at: *mut u8, which: u32, index: u64) -> FlatItem
     ghost held: { Held }
     requires* { sem 𝓛 (held_at at held) }
-    ensures* { sem 𝓛 (member_left_at at (result.status ≡ 15) (λ now. IsRead held now (IsItem held.last which index result))) }
+    ensures* { sem 𝓛 (member_left_at at (result.status ≡ 15)
+        (λ now. IsRead held now (IsItem held.last which index result))) }
 {
     if at.is_null() {
         return null_handle::item();
@@ -134,7 +138,7 @@ fn pass_item(held: &mut Held, which: u32, index: u64) -> FlatItem
     held.item(which, index)
 }
 
-/// Shows a view's certificate.
+/// Loads a view's certificate.
 #[unsafe(no_mangle)]
 pub unsafe extern "C" fn simplex_member_certificate(at: *mut u8, kind: u32, view: u64) -> FlatFound
     ghost held: { Held }
@@ -153,7 +157,7 @@ fn pass_certificate(held: &mut Held, kind: u32, view: u64) -> FlatFound
     held.certificate(kind, view)
 }
 
-/// Shows what was recorded after the first entries.
+/// Loads what was recorded after the first entries.
 #[unsafe(no_mangle)]
 pub unsafe extern "C" fn simplex_member_entries(at: *mut u8, count: u64) -> FlatEntries
     ghost held: { Held }
@@ -172,7 +176,7 @@ fn pass_entries(held: &mut Held, count: u64) -> FlatEntries
     held.entries(count)
 }
 
-/// Prunes the record within the life, and shows all that is left of it.
+/// Prunes the record within the lifetime, and loads all that is left of it.
 #[unsafe(no_mangle)]
 pub unsafe extern "C" fn simplex_member_prune_record(at: *mut u8) -> FlatEntries
     ghost held: { Held }
@@ -191,12 +195,13 @@ fn pass_pruned(held: &mut Held) -> FlatEntries
     held.prune_record()
 }
 
-/// What the member knows, and what it knows of a view.
+/// Returns what the member knows, and what it knows of a view.
 #[unsafe(no_mangle)]
 pub unsafe extern "C" fn simplex_member_view(at: *mut u8, view: u64) -> FlatView
     ghost held: { Held }
     requires* { sem 𝓛 (held_at at held) }
-    ensures* { sem 𝓛 (member_left_at at (result.status ≡ 15) (λ now. IsRead held now (IsView held.member.facts view result))) }
+    ensures* { sem 𝓛 (member_left_at at (result.status ≡ 15)
+        (λ now. IsRead held now (IsView held.member.facts view result))) }
 {
     if at.is_null() {
         return null_handle::view();
@@ -210,12 +215,13 @@ fn pass_view(held: &mut Held, view: u64) -> FlatView
     held.view(view)
 }
 
-/// Why the member withholds a vote on a view.
+/// Returns why the member withholds a vote on a view.
 #[unsafe(no_mangle)]
 pub unsafe extern "C" fn simplex_member_withheld(at: *mut u8, kind: u32, view: u64) -> FlatWithheld
     ghost held: { Held }
     requires* { sem 𝓛 (held_at at held) }
-    ensures* { sem 𝓛 (member_left_at at (result.status ≡ 15) (λ now. IsRead held now (IsWithheld held.member.facts kind view result))) }
+    ensures* { sem 𝓛 (member_left_at at (result.status ≡ 15)
+        (λ now. IsRead held now (IsWithheld held.member.facts kind view result))) }
 {
     if at.is_null() {
         return null_handle::withheld();
@@ -229,7 +235,7 @@ fn pass_withheld(held: &mut Held, kind: u32, view: u64) -> FlatWithheld
     held.withheld(kind, view)
 }
 
-/// Ends the member's life and begins another from its record. 0, or why there is none.
+/// Ends the member's lifetime and begins another from its record. Returns 0, or why there is none.
 #[unsafe(no_mangle)]
 pub unsafe extern "C" fn simplex_member_restart(
     at: *mut u8,
@@ -239,7 +245,8 @@ pub unsafe extern "C" fn simplex_member_restart(
 ) -> u32
     ghost held: { Held }
     requires* { sem 𝓛 (held_at at held) }
-    ensures* { sem 𝓛 (member_left_at at (result ≡ 15) (λ now. IsRestartStatus held restart.now leaders.now certificate.now result now)) }
+    ensures* { sem 𝓛 (member_left_at at (result ≡ 15)
+        (λ now. IsRestartStatus held restart.now leaders.now certificate.now result now)) }
 {
     if at.is_null() {
         return null_handle::status();
@@ -258,7 +265,7 @@ fn begin_anew(held: &mut Held, restart: &FlatRestart, leaders: &[u32], certifica
     number_of_restart(held.restart(restart, leaders, certificate))
 }
 
-/// Lets the member go, and the memory of its handle.
+/// Frees the member, and the memory of its handle.
 #[unsafe(no_mangle)]
 pub unsafe extern "C" fn simplex_member_free(alloc: Global, at: *mut u8)
     ghost held: { Held }
@@ -278,7 +285,7 @@ fn end(member: RawBox<Held, Global>) {
     let _member = member.into_box();
 }
 
-/// What a vote signs.
+/// Returns the text that a vote signs.
 #[unsafe(no_mangle)]
 pub extern "C" fn simplex_subject(alloc: Global, kind: u32, proposal: &FlatProposal) -> FlatText
     ensures { IsText kind proposal.now result }
@@ -286,7 +293,7 @@ pub extern "C" fn simplex_subject(alloc: Global, kind: u32, proposal: &FlatPropo
     subject_text(alloc, kind, proposal)
 }
 
-/// What the bytes of a journal are.
+/// Returns how many whole frames a journal has, and how it ends.
 #[unsafe(no_mangle)]
 pub extern "C" fn simplex_scan(journal: &[u8]) -> FlatScan
     ensures { IsScan journal.now result }

@@ -1,4 +1,4 @@
-//! Where a handle is written: a pointer that C has, with what lies behind it once a start wrote it.
+//! The place where a start writes a handle: a pointer that C has, and the value behind it after the write.
 
 ghost use Rattle.std.specs.Prelude.{◌≡◌, ◌⊎◌, Option, Some};
 ghost use Rattle.ffi_member.specs.declared.held.Held.{Held};
@@ -13,7 +13,7 @@ use ffi_member::resolver_calls::HeldResolver;
 use std::alloc::Global;
 use std::marker::Model;
 
-/// The place of a member's handle. Before a handle is written there may be anything at it, and it is let go then as it is.
+/// The place of a member's handle. Before a handle is written there may be anything at it, and it is then released unchanged.
 #[repr(C)]
 #[derive(Drop)]
 pub struct MemberHandle {
@@ -37,7 +37,7 @@ impl MemberHandle {
         MemberHandle { at: at as *mut u8 }
     }
 
-    /// Writes the handle of a member: 0, or 1 where there is no memory for it.
+    /// Writes the handle of a member. Returns 0, or 1 if there is no memory for it.
     pub(crate) fn write(&mut self, alloc: Global, held: Held) -> u32
         ensures { IsWritten held result self.old self.new }
     {
@@ -75,7 +75,7 @@ impl ResolverHandle {
         ResolverHandle { at: at as *mut u8 }
     }
 
-    /// Writes the handle of a resolver: 0, or 1 where there is no memory for it.
+    /// Writes the handle of a resolver. Returns 0, or 1 if there is no memory for it.
     pub(crate) fn write(&mut self, alloc: Global, held: HeldResolver) -> u32
         ensures { IsResolverWritten held result self.old self.new }
     {
@@ -113,7 +113,7 @@ impl EngineHandle {
         EngineHandle { at: at as *mut u8 }
     }
 
-    /// Writes the handle of an engine: 0, or 1 where there is no memory for it.
+    /// Writes the handle of an engine. Returns 0, or 1 if there is no memory for it.
     pub(crate) fn write(&mut self, alloc: Global, held: HeldEngine) -> u32
         ensures { IsEngineWritten held result self.old self.new }
     {

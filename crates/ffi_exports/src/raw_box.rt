@@ -1,4 +1,4 @@
-//! A box as its pointer, which C has held.
+//! A box as a raw pointer, which C has owned.
 
 ghost use Rattle.std.specs.Prelude.{◌≡◌};
 ghost use Rattle.std_alloc.specs.Box.Ownership.{box_owns};
@@ -6,7 +6,7 @@ ghost use Rattle.std_alloc.specs.Box.Ownership.{box_owns};
 use std::alloc::Allocator;
 use std::marker::Model;
 
-/// A pointer that owns what a box there would.
+/// A pointer that owns what a box there would own.
 pub(crate) struct RawBox<T, A: Allocator> {
     pub(crate) at: *mut T,
     pub(crate) alloc: A,
@@ -18,7 +18,7 @@ impl<T, A: Allocator> Model for RawBox<T, A> {
 }
 
 impl<T: Drop, A: Allocator> RawBox<T, A> {
-    /// What a box owns, without it.
+    /// Turns a box into its pointer.
     pub(crate) fn of(value: Box<T, A>) -> RawBox<T, A>
         ensures { result.value ≡ value.value }
     {
@@ -26,7 +26,7 @@ impl<T: Drop, A: Allocator> RawBox<T, A> {
         RawBox { at, alloc }
     }
 
-    /// The box.
+    /// Turns the pointer back into its box.
     pub(crate) fn into_box(self) -> Box<T, A>
         ensures { result.value ≡ self.value }
     {

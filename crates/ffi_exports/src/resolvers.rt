@@ -1,5 +1,5 @@
 //! The functions of a resolver that C calls. `resolver_at` says what a handle is: null, or a pointer to a resolver that
-//! `simplex_resolver_start` made, and that no other call has. At null each answers the status 15, and does nothing.
+//! `simplex_resolver_start` made, and that no other call has. For null each function returns the status 15, and does nothing.
 
 ghost use Rattle.std.specs.Prelude.{◌≡◌};
 ghost use Rattle.std.specs.Borrow.{sem};
@@ -19,7 +19,7 @@ use ffi_member::resolver_types::{
 use ffi_member::view_types::FlatChunk;
 use std::alloc::Global;
 
-/// Starts a resolver from the bytes of a journal, and writes its handle. 0, or why there is none; then nothing is written.
+/// Starts a resolver from the bytes of a journal, and writes its handle. Returns 0, or why there is no resolver; then it writes nothing.
 #[unsafe(no_mangle)]
 pub extern "C" fn simplex_resolver_start(
     alloc: Global,
@@ -35,7 +35,7 @@ pub extern "C" fn simplex_resolver_start(
     }
 }
 
-/// Tells the resolver of a certificate or of a verdict.
+/// Passes a certificate or a verdict to the resolver.
 #[unsafe(no_mangle)]
 pub unsafe extern "C" fn simplex_resolver_told(
     at: *mut u8,
@@ -44,7 +44,8 @@ pub unsafe extern "C" fn simplex_resolver_told(
 ) -> FlatEffects
     ghost held: { HeldResolver }
     requires* { sem 𝓛 (resolver_at at held) }
-    ensures* { sem 𝓛 (resolver_left_at at (result.status ≡ 15) (λ now. IsHeard held told.now certificate.now result now)) }
+    ensures* { sem 𝓛 (resolver_left_at at (result.status ≡ 15)
+        (λ now. IsHeard held told.now certificate.now result now)) }
 {
     if at.is_null() {
         return null_handle::effects();
@@ -62,12 +63,13 @@ fn tell(held: &mut HeldResolver, told: &FlatResolverReply, certificate: &[u8]) -
     held.told(told, certificate)
 }
 
-/// An effect of what the resolver was told last.
+/// Returns an effect of the resolver's last input.
 #[unsafe(no_mangle)]
 pub unsafe extern "C" fn simplex_resolver_effect(at: *mut u8, index: u64) -> FlatEffect
     ghost held: { HeldResolver }
     requires* { sem 𝓛 (resolver_at at held) }
-    ensures* { sem 𝓛 (resolver_left_at at (result.status ≡ 15) (λ now. IsRead held now (IsEffectAt held.last.items index result))) }
+    ensures* { sem 𝓛 (resolver_left_at at (result.status ≡ 15)
+        (λ now. IsRead held now (IsEffectAt held.last.items index result))) }
 {
     if at.is_null() {
         return null_handle::effect();
@@ -81,12 +83,13 @@ fn pass_effect(held: &mut HeldResolver, index: u64) -> FlatEffect
     held.effect(index)
 }
 
-/// What the resolver knows of a view.
+/// Returns what the resolver knows of a view.
 #[unsafe(no_mangle)]
 pub unsafe extern "C" fn simplex_resolver_settled(at: *mut u8, view: u64) -> FlatSettled
     ghost held: { HeldResolver }
     requires* { sem 𝓛 (resolver_at at held) }
-    ensures* { sem 𝓛 (resolver_left_at at (result.status ≡ 15) (λ now. IsRead held now (IsSettledAt held.resolver view result))) }
+    ensures* { sem 𝓛 (resolver_left_at at (result.status ≡ 15)
+        (λ now. IsRead held now (IsSettledAt held.resolver view result))) }
 {
     if at.is_null() {
         return null_handle::settled();
@@ -100,7 +103,7 @@ fn pass_settled(held: &mut HeldResolver, view: u64) -> FlatSettled
     held.settled(view)
 }
 
-/// Shows the views whose fetch is open, rising.
+/// Loads the views with an open fetch, rising.
 #[unsafe(no_mangle)]
 pub unsafe extern "C" fn simplex_resolver_outstanding(at: *mut u8) -> FlatOutstanding
     ghost held: { HeldResolver }
@@ -119,7 +122,7 @@ fn pass_outstanding(held: &mut HeldResolver) -> FlatOutstanding
     held.outstanding()
 }
 
-/// Shows what a peer is served for a view.
+/// Loads what a peer is served for a view.
 #[unsafe(no_mangle)]
 pub unsafe extern "C" fn simplex_resolver_produce(at: *mut u8, view: u64) -> FlatServed
     ghost held: { HeldResolver }
@@ -138,12 +141,13 @@ fn pass_served(held: &mut HeldResolver, view: u64) -> FlatServed
     held.produce(view)
 }
 
-/// A part of what was served last.
+/// Returns a part of what was served last.
 #[unsafe(no_mangle)]
 pub unsafe extern "C" fn simplex_resolver_bytes(at: *mut u8, from: u64) -> FlatChunk
     ghost held: { HeldResolver }
     requires* { sem 𝓛 (resolver_at at held) }
-    ensures* { sem 𝓛 (resolver_left_at at (result.status ≡ 15) (λ now. IsRead held now (IsChunk held.served.items from result))) }
+    ensures* { sem 𝓛 (resolver_left_at at (result.status ≡ 15)
+        (λ now. IsRead held now (IsChunk held.served.items from result))) }
 {
     if at.is_null() {
         return null_handle::chunk();
@@ -157,7 +161,7 @@ fn pass_bytes(held: &mut HeldResolver, from: u64) -> FlatChunk
     held.chunk(from)
 }
 
-/// Lets the resolver go, and the memory of its handle.
+/// Frees the resolver, and the memory of its handle.
 #[unsafe(no_mangle)]
 pub unsafe extern "C" fn simplex_resolver_free(alloc: Global, at: *mut u8)
     ghost held: { HeldResolver }

@@ -43,7 +43,7 @@ pub fit_more : (entries : List HostArtifact) (i : ℕ) (entry : HostArtifact) �
 fit_more entries i entry low is fit fits =
     subst (All FitsFrame) (sym (more_taken entries i entry low is)) (All-push FitsFrame (take i entries) entry fit fits)
 
--- and its frame stands behind those of the others
+-- and its frame comes after those of the others
 pub framed_more : (entries : List HostArtifact) (i : ℕ) (entry : HostArtifact) (before out new : List ℕ) → i < length entries
     → get_or entries i entry ≡ entry → out ≡ before ++ framed (take i entries) → new ≡ out ++ frame (entry_bytes entry)
     → new ≡ before ++ framed (take (i + 1) entries)

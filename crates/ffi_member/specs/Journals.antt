@@ -25,7 +25,7 @@ HostArtifact = Artifact HostScheme (BytesDigest 32) HostKey Order HostCertificat
 abbrev pub entry_bytes : HostArtifact → List ℕ
 entry_bytes a = artifact_bytes bytes_in_digest certificate_bytes order_bytes a
 
--- entries as frames, one behind the other
+-- entries as frames, one after the other
 abbrev pub framed : List HostArtifact → List ℕ
 framed entries = flat_map (λ a. frame (entry_bytes a)) entries
 
@@ -37,11 +37,11 @@ FitsFrame a = length (entry_bytes a) < 2 ^ 32
 abbrev pub HasTooLong : List HostArtifact → Type 0
 HasTooLong entries = (a : HostArtifact) × Contains entries a × (2 ^ 32 ≤ length (entry_bytes a))
 
--- why entries are not written; want of memory says nothing of them
+-- why entries are not written; out of memory says nothing about them
 abbrev pub IsNotWritten : List HostArtifact → NotWritten → Type 0
 IsNotWritten entries error = error ≡ not_written.TooLong → HasTooLong entries
 
--- whole entries, and behind them bytes that begin with no frame
+-- whole entries, and after them bytes that begin with no frame
 pub record IsDamagedAt (journal : List ℕ) (at : ℕ) : Type 0 where
   pub entries : List HostArtifact
   pub rest : List ℕ
@@ -50,7 +50,7 @@ pub record IsDamagedAt (journal : List ℕ) (at : ℕ) : Type 0 where
   pub some : 0 < length rest
   pub no_frame : HasNoFrame rest
 
--- whole entries, and behind them a frame whose bytes are refused so
+-- whole entries, and after them a frame whose bytes are refused for this reason
 pub record IsNoEntryAt (journal : List ℕ) (at : ℕ) (is_refusal : List ℕ → Type 0) : Type 0 where
   pub entries : List HostArtifact
   pub entry : List ℕ
@@ -59,17 +59,18 @@ pub record IsNoEntryAt (journal : List ℕ) (at : ℕ) (is_refusal : List ℕ �
   pub place : at ≡ length (framed entries)
   pub refused : is_refusal entry
 
--- why bytes are not read; want of memory says nothing of them
+-- why bytes are not read; out of memory says nothing about them
 abbrev pub IsNotRead : List ℕ → NotRead → Type 0
 IsNotRead journal not_read.OutOfMemory = Unit {0}
 IsNotRead journal (not_read.Damaged at) = IsDamagedAt journal at
-IsNotRead journal (not_read.NoEntry at e) = IsNoEntryAt journal at (λ entry. IsArtifactRefusal (bytes_in_digest {n = 32}) 32 certificate_bytes order_of entry e)
+IsNotRead journal (not_read.NoEntry at e) =
+    IsNoEntryAt journal at (λ entry. IsArtifactRefusal (bytes_in_digest {n = 32}) 32 certificate_bytes order_of entry e)
 
--- there are no bytes, or no frame stands at their front
+-- there are no bytes, or no frame is at their front
 abbrev pub StandsAlone : List ℕ → Type 0
 StandsAlone bytes = (length bytes ≡ 0) ⊎ ((0 < length bytes) × HasNoFrame bytes)
 
--- a frame stands in front of the rest
+-- a frame comes before the rest
 abbrev pub BeginsWithFrame : List ℕ → List ℕ → Type 0
 BeginsWithFrame bytes rest = (entry : List ℕ) × (bytes ≡ frame entry ++ rest)
 
@@ -80,13 +81,13 @@ IsEnding rest (suc zero) = (0 < length rest) × HasNoFrame rest × IsCut rest
 IsEnding rest (suc (suc zero)) = (0 < length rest) × HasNoFrame rest × ¬ (IsCut rest)
 IsEnding rest _ = ⊥
 
--- so many whole frames stand in front of the rest
+-- this number of whole frames come before the rest
 pub record HasScanned (journal : List ℕ) (count : ℕ) (rest : List ℕ) : Type 0 where
   pub frames : List (List ℕ)
   pub parts : journal ≡ flat_map frame frames ++ rest
   pub counted : count ≡ length frames
 
--- the whole frames at the front of a journal, and how it ends behind them
+-- the whole frames at the front of a journal, and how it ends after them
 pub record IsScan (journal : List ℕ) (r : FlatScan) : Type 0 where
   pub rest : List ℕ
   pub scanned : HasScanned journal r.entries rest

@@ -35,22 +35,23 @@ same_host_payload d e = bytes_eq (bytes_in_digest d) (bytes_in_digest e)
 abbrev pub host_leader : HostElector → Round → Option (List ℕ) → ℕ
 host_leader e round seed = leader_after e round.view seed
 
--- no call was made, and all is as it was: one of its numbers is none of a call, or there was no memory for its certificate
+-- no call was made, and everything is unchanged: one of its numbers is not valid for a call, or there was no memory for its certificate
 abbrev pub IsNotMade : Held → FlatCall → FlatReply → Held → Type 0
 IsNotMade old f r new = (new ≡ old) × (((r.status ≡ 6) × IsNoFlatCall f) ⊎ ((r.status ≡ 7) × PassesCertificate f))
 
--- the call that the flat one stands for was made
+-- the call that the flat one represents was made
 pub record IsCallMade (old : Held) (f : FlatCall) (bytes : List ℕ) (r : FlatReply) (new : Held) : Type 0 where
   pub call : HostCallFacts
   pub numbers : HasNumbers f
   pub is_asked : IsAskedBy f bytes call
-  -- the member answered it, by its contract; its reply is kept
-  pub made : IsCall same_host_payload host_leader old.member.facts call (told certificate_bytes new.last) new.member.facts
-  -- the flat reply tells what it tells
+  -- the member replied to it, by its contract; its reply is stored
+  pub made : IsCall same_host_payload host_leader old.member.facts call
+      (told certificate_bytes new.last) new.member.facts
+  -- the flat reply represents that reply
   pub tells : RepresentsReply r (told certificate_bytes new.last)
-  -- a vote in it is ordered, for just its own bytes
+  -- a vote in it is ordered, for exactly its own bytes
   pub ordered : IfSome old.member.facts.life (IsSignedReply (IsOrder bytes_in_digest) new.last)
-  -- it stands last among the record's votes, with its order
+  -- it comes last among the record's votes, with its order
   pub votes : new.member.votes ≡ old.member.votes ++ signed_reply new.last
   pub shown : new.shown ≡ old.shown
 
@@ -88,7 +89,8 @@ dropped_in _ = []
 
 -- the proposal at an index of a list
 abbrev pub IsProposalAt : List (Proposal (BytesDigest 32)) → ℕ → FlatProposal → Type 0
-IsProposalAt proposals index f = (q : Proposal (BytesDigest 32)) × (slice_get proposals index ≡ Some q) × IsFlatProposal f q
+IsProposalAt proposals index f =
+    (q : Proposal (BytesDigest 32)) × (slice_get proposals index ≡ Some q) × IsFlatProposal f q
 
 -- the fetch at an index of a list
 abbrev pub IsFetchAt : List CertificateFetch → ℕ → FlatFetch → Type 0

@@ -1,4 +1,4 @@
--- How a member starts by flat settings.
+-- How a member starts from flat settings.
 use Rattle.std.specs.Prelude.{◌≡◌, ℕ, List, [], Option, None}
 use Rattle.simplex_types.specs.Config.{floor_facts}
 use Rattle.simplex_codec.specs.declared.digest.BytesDigest.{BytesDigest}
@@ -25,16 +25,17 @@ begun start =
     started_member same_host_payload host_leader (set_up host_signer host_keys host_terms is_early start.settings)
     (floor_facts certificate_bytes start.floor) start.now
 
--- the error in which a start ends, with no record
+-- the error of a start that has no record
 abbrev pub begin_error : HostStart → Option RecoverError
 begin_error start =
-    recover_error same_host_payload (set_up host_signer host_keys host_terms is_early start.settings) (floor_facts certificate_bytes start.floor) start.now []
+    recover_error same_host_payload (set_up host_signer host_keys host_terms is_early start.settings)
+    (floor_facts certificate_bytes start.floor) start.now []
 
--- no call was made yet, and nothing was shown
+-- no call was made yet, and nothing was loaded
 abbrev pub IsFresh : Held → Type 0
 IsFresh held = (held.last ≡ reply.Unit) × (held.shown.items ≡ [])
 
--- a member is begun by these settings, with this table, floor and moment; it has voted nothing
+-- a member begins with these settings, this table, floor and moment; it has voted nothing
 pub record IsStarted (f : FlatSettings) (leaders bytes : List ℕ) (now : ℕ) (held : Held) : Type 0 where
   pub start : HostStart
   pub by : IsStart f leaders bytes now start
@@ -43,7 +44,8 @@ pub record IsStarted (f : FlatSettings) (leaders bytes : List ℕ) (now : ℕ) (
   pub votes : held.member.votes ≡ []
   pub fresh : IsFresh held
 
--- why none is begun: by its settings, or by what is due of the start that they make
+-- why none begins: by its settings, or by what is due of the start that they make
 abbrev pub IsNotStarted : FlatSettings → List ℕ → List ℕ → ℕ → NotStarted → Type 0
 IsNotStarted f leaders bytes now (not_started.Settings e) = IsNoStart f leaders bytes e
-IsNotStarted f leaders bytes now (not_started.Recover e) = (start : HostStart) × IsStart f leaders bytes now start × IsErrorDue (begin_error start) e
+IsNotStarted f leaders bytes now (not_started.Recover e) =
+    (start : HostStart) × IsStart f leaders bytes now start × IsErrorDue (begin_error start) e

@@ -56,7 +56,7 @@ vote_number vote.Notarize = certificate_number certificate.Notarization
 vote_number vote.Nullify = certificate_number certificate.Nullification
 vote_number vote.Finalize = certificate_number certificate.Finalization
 
--- the number of a certificate that is lacking
+-- the number of a missing certificate's kind
 abbrev pub missing_number : Kind → ℕ
 missing_number lacking.Nullification = certificate_number certificate.Nullification
 missing_number lacking.Notarization = certificate_number certificate.Notarization
@@ -87,7 +87,7 @@ abbrev pub flag_number : Bool → ℕ
 flag_number false = 0
 flag_number true = 1
 
--- the number of a reason to give up a handoff
+-- the number of a reason to abandon a handoff
 abbrev pub abandoned_number : HandoffAbandonedReason → ℕ
 abandoned_number abandoned.ViewExit = 0
 abandoned_number abandoned.AncestrySuperseded = 1
@@ -104,12 +104,12 @@ fault_status fault.Failed = 2
 fault_status fault.ViewTooLarge = 3
 fault_status fault.TimeOverflow = 4
 
--- the index of a member, or the greatest number of 32 bits where there is none
+-- the index of a member, or the greatest number of 32 bits if there is none
 abbrev pub member_number : Option HostKey → ℕ
 member_number None = 4294967295
 member_number (Some key) = key.0
 
--- the index of a member, or the greatest number of 32 bits where there is none
+-- the index of a member, or the greatest number of 32 bits if there is none
 abbrev pub index_number : Option ℕ → ℕ
 index_number None = 4294967295
 index_number (Some index) = index

@@ -1,4 +1,4 @@
--- What a flat reply tells.
+-- What a flat reply represents.
 use Rattle.std.specs.Prelude.{◌≡◌, ℕ, Bool, length, Option, Some, None}
 use Rattle.simplex_types.specs.Certificates.{ArtifactFacts, NotarizeVote, NullifyVote, FinalizeVote, CertificateFacts, Notarized, Nullified, Finalized, ProposalFacts}
 use Rattle.simplex_types.specs.declared.types.messages.Context.{Context}
@@ -17,11 +17,11 @@ use Rattle.ffi_member.specs.Calls.{IsFlatProposal, flat_round}
 use Rattle.ffi_member.specs.declared.kinds.CertificateKind.TheVariants as kind
 use Rattle.ffi_member.specs.Numbers.{abandoned_number, certificate_number, fault_status, flag_number, missing_number, member_number, reason_number}
 
--- the call is answered, by an answer of this kind
+-- the call returned a reply of this kind
 abbrev pub HasAnswer : ℕ → FlatReply → Type 0
 HasAnswer kind f = (f.status ≡ 0) × (f.kind ≡ kind)
 
--- a context is of these numbers and bytes
+-- a context has these numbers and bytes
 pub record IsContext (f : FlatContext) (c : Context (BytesDigest 32) HostKey) : Type 0 where
   pub round : c.round ≡ flat_round f.round
   pub parent : c.parent.0 ≡ f.parent
@@ -33,14 +33,14 @@ HasRequest None f = f.has ≡ 0
 HasRequest (Some (Propose c)) f = (f.has ≡ 1) × (f.member ≡ c.leader.0) × IsContext f.context c
 HasRequest (Some (Prepare c)) f = (f.has ≡ 2) × (f.member ≡ c.leader.0) × IsContext f.context c
 
--- what is to be verified: 1 for a proposal, 2 where a certificate of its ancestry is lacking, of this kind
+-- what is to be verified: 1 for a proposal, 2 if a certificate of its ancestry is missing, of this kind
 abbrev pub HasWork : Verify (BytesDigest 32) HostKey → FlatReply → Type 0
 HasWork Wait f = f.has ≡ 0
 HasWork (Ready c q) f = (f.has ≡ 1) × (f.member ≡ c.leader.0) × IsContext f.context c × IsFlatProposal f.proposal q
 HasWork (Resolve waiting view kind leader) f =
     (f.has ≡ 2) × (f.reason ≡ missing_number kind) × (f.member ≡ leader.0) × (f.waiting ≡ waiting) × (f.lacking ≡ view)
 
--- the notarization of a verdict's view, if it is there
+-- the notarization of a verdict's view, if there is one
 abbrev pub HasNotarization : Option (ProposalFacts (BytesDigest 32)) → FlatReply → Type 0
 HasNotarization None f = f.has ≡ 0
 HasNotarization (Some c) f = (f.has ≡ 1) × IsFlatProposal f.proposal c.proposal
@@ -67,30 +67,37 @@ HasFinalize _ f = ⊥
 -- a certificate, by the number of its kind
 abbrev pub HasCertificate : Option (CertificateFacts (BytesDigest 32)) → FlatReply → Type 0
 HasCertificate None f = f.has ≡ 0
-HasCertificate (Some (Notarized c)) f = (f.has ≡ certificate_number kind.Notarization) × IsFlatProposal f.proposal c.proposal
-HasCertificate (Some (Nullified c)) f = (f.has ≡ certificate_number kind.Nullification) × (c.round ≡ flat_round f.proposal.round)
-HasCertificate (Some (Finalized c)) f = (f.has ≡ certificate_number kind.Finalization) × IsFlatProposal f.proposal c.proposal
+HasCertificate (Some (Notarized c)) f =
+    (f.has ≡ certificate_number kind.Notarization) × IsFlatProposal f.proposal c.proposal
+HasCertificate (Some (Nullified c)) f =
+    (f.has ≡ certificate_number kind.Nullification) × (c.round ≡ flat_round f.proposal.round)
+HasCertificate (Some (Finalized c)) f =
+    (f.has ≡ certificate_number kind.Finalization) × IsFlatProposal f.proposal c.proposal
 
--- why a handoff has to be given up, if it has
+-- why a handoff must be abandoned, if it must
 abbrev pub HasReason : Option HandoffAbandonedReason → FlatReply → Type 0
 HasReason None f = f.has ≡ 0
 HasReason (Some reason) f = (f.has ≡ 1) × (f.reason ≡ abandoned_number reason)
 
--- what a flat reply tells, but for what has no fixed size
+-- the flat form of a reply, without what has no fixed size
 abbrev pub RepresentsReply : FlatReply → ReplyFacts HostKey (BytesDigest 32) → Type 0
 RepresentsReply f Done = HasAnswer 0 f
 RepresentsReply f (Answered taken) = HasAnswer 1 f × (f.flag ≡ flag_number taken)
-RepresentsReply f (Added newly leader) = HasAnswer 2 f × (f.flag ≡ flag_number newly) × (f.member ≡ member_number leader)
+RepresentsReply f (Added newly leader) =
+    HasAnswer 2 f × (f.flag ≡ flag_number newly) × (f.member ≡ member_number leader)
 RepresentsReply f (AddedNullification newly) = HasAnswer 3 f × (f.flag ≡ flag_number newly)
 RepresentsReply f (Requested request) = HasAnswer 4 f × HasRequest request f
 RepresentsReply f (Standing work) = HasAnswer 5 f × HasWork work f
-RepresentsReply f (Candidates proposals fetches) = HasAnswer 6 f × (f.count ≡ length proposals) × (f.fetches ≡ length fetches)
-RepresentsReply f (Judged success notarization) = HasAnswer 7 f × (f.flag ≡ flag_number success) × HasNotarization notarization f
+RepresentsReply f (Candidates proposals fetches) =
+    HasAnswer 6 f × (f.count ≡ length proposals) × (f.fetches ≡ length fetches)
+RepresentsReply f (Judged success notarization) =
+    HasAnswer 7 f × (f.flag ≡ flag_number success) × HasNotarization notarization f
 RepresentsReply f (Notarize vote) = HasAnswer 8 f × HasNotarize vote f
 RepresentsReply f (Nullify vote) = HasAnswer 9 f × HasNullify vote f
 RepresentsReply f (Finalize vote) = HasAnswer 10 f × HasFinalize vote f
 RepresentsReply f (Returned certificate) = HasAnswer 11 f × HasCertificate certificate f
-RepresentsReply f (TimesOut (Some (moment, reason))) = HasAnswer 12 f × (f.moment ≡ moment) × (f.reason ≡ reason_number reason)
+RepresentsReply f (TimesOut (Some (moment, reason))) =
+    HasAnswer 12 f × (f.moment ≡ moment) × (f.reason ≡ reason_number reason)
 RepresentsReply f (Dropped views) = HasAnswer 13 f × (f.count ≡ length views)
 RepresentsReply f (Released was_open) = HasAnswer 14 f × (f.flag ≡ flag_number was_open)
 RepresentsReply f (Triggered latched) = HasAnswer 15 f × (f.flag ≡ flag_number latched)

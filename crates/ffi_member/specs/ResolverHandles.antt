@@ -1,4 +1,4 @@
--- How a resolver behind a handle starts, what it is told, and what it answers.
+-- How a resolver behind a handle starts, its inputs and its results.
 use Rattle.std.specs.Prelude.{◌≡◌, ◌⊎◌, ◌<◌, ◌≤◌, ◌^◌, ◌==◌, max, if◌then◌else◌, ℕ, zero, suc, Bool, true, false, List, [], Option, Some, None, length, slice_get}
 use Rattle.std.specs.FinMap as map
 use Rattle.std.specs.Int.{w64, to_be_bytes}
@@ -37,16 +37,17 @@ use Rattle.ffi_member.specs.Calls.{IsFlatProposal, flat_round}
 use Rattle.ffi_member.specs.Journals.{HostArtifact, IsNotRead, framed}
 use Rattle.ffi_member.specs.Numbers.{fault_status, flag_number, missing_number}
 
--- a resolver that was told the entries whose frames these bytes are, and then that its replay has ended; nothing is to be read yet
+-- a resolver that received the entries whose frames these bytes are, and then the end of its replay; nothing is to be read yet
 pub record IsReplayedFrom (term_length : ℕ) (journal : List ℕ) (held : HeldResolver) : Type 0 where
   pub entries : List HostArtifact
   pub read : journal ≡ framed entries
   pub accepted : record_error (newest_first certificate_bytes entries) ≡ None
-  pub told : HasReceivedCalls term_length (replay_calls (bytes_in_digest {n = 32}) certificate_bytes entries) held.resolver
+  pub told : HasReceivedCalls term_length
+      (replay_calls (bytes_in_digest {n = 32}) certificate_bytes entries) held.resolver
   pub last : held.last.items ≡ []
   pub served : held.served.items ≡ []
 
--- the record is refused, or memory is wanting
+-- the record is refused, or memory ran out
 pub record IsNotReplayed (journal : List ℕ) (error : ReplayError) : Type 0 where
   pub entries : List HostArtifact
   pub read : journal ≡ framed entries
@@ -69,14 +70,15 @@ not_replayed_number (not_replayed.Replay replay.ZeroView) = 42
 not_replayed_number (not_replayed.Replay replay.ViewTooLarge) = 43
 not_replayed_number (not_replayed.Replay replay.VerdictWithoutNotarization) = 46
 
--- a certificate of a kind is of these numbers and bytes
+-- a certificate of a kind has these numbers and bytes
 abbrev pub IsFlatCertificate : ℕ → FlatResolverReply → List ℕ → CertificateFacts (BytesDigest 32) → Type 0
 IsFlatCertificate (suc zero) f bytes (Notarized c) = IsFlatProposal f.proposal c.proposal × (c.bytes ≡ bytes)
 IsFlatCertificate (suc (suc zero)) f bytes (Nullified c) = (c.round ≡ flat_round f.proposal.round) × (c.bytes ≡ bytes)
-IsFlatCertificate (suc (suc (suc zero))) f bytes (Finalized c) = IsFlatProposal f.proposal c.proposal × (c.bytes ≡ bytes)
+IsFlatCertificate (suc (suc (suc zero))) f bytes (Finalized c) =
+    IsFlatProposal f.proposal c.proposal × (c.bytes ≡ bytes)
 IsFlatCertificate _ f bytes c = ⊥
 
--- a verdict on a notarization of these numbers and bytes
+-- a verdict on a notarization with these numbers and bytes
 pub record IsJudged (f : FlatResolverReply) (bytes : List ℕ) (call : Call) : Type 0 where
   pub notarization : ProposalFacts (BytesDigest 32)
   pub success : Bool
@@ -85,18 +87,20 @@ pub record IsJudged (f : FlatResolverReply) (bytes : List ℕ) (call : Call) : T
   pub flag : flag_number success ≡ f.success
   pub told : call ≡ verdict (bytes_in_digest {n = 32}) notarization success
 
--- what is told: a certificate, or a verdict
+-- the input: a certificate, or a verdict
 abbrev pub IsResolverCall : FlatResolverReply → List ℕ → Call → Type 0
 IsResolverCall f bytes call =
-    ((c : CertificateFacts (BytesDigest 32)) × IsFlatCertificate f.kind f bytes c × (call ≡ update (bytes_in_digest {n = 32}) c))
+    ((c : CertificateFacts (BytesDigest 32)) × IsFlatCertificate f.kind f bytes c
+    × (call ≡ update (bytes_in_digest {n = 32}) c))
     ⊎ ((f.kind ≡ 4) × IsJudged f bytes call)
 
 -- the highest view that is named: of a nullification its own, else the greater of its own and its parent's
 abbrev pub highest_passed : FlatResolverReply → ℕ
 highest_passed f = if f.kind == 2 then f.proposal.round.view else max f.proposal.round.view f.proposal.parent
 
--- it is told, and these are its effects
-pub record HasEffects (old : HeldResolver) (highest : ℕ) (call : Call) (r : FlatEffects) (new : HeldResolver) : Type 0 where
+-- the resolver receives it, and these are its effects
+pub record HasEffects (old : HeldResolver) (highest : ℕ) (call : Call) (r : FlatEffects)
+    (new : HeldResolver) : Type 0 where
   pub status : r.status ≡ 0
   pub living : old.resolver.state.is_failed ≡ false
   pub views : highest < 2 ^ 63
@@ -105,60 +109,65 @@ pub record HasEffects (old : HeldResolver) (highest : ℕ) (call : Call) (r : Fl
   pub count : r.count ≡ length new.last.items
   pub fetches : r.fetches ≡ length new.resolver.open_fetches
 
--- no effects are told
+-- no effects are returned
 abbrev pub HasNoEffects : ℕ → FlatEffects → Type 0
 HasNoEffects status r = (r.status ≡ status) × (r.count ≡ 0) × (r.fetches ≡ 0)
 
--- a fault leaves what it leaves, and no effects to be read
+-- a fault changes what its contract says, and leaves no effects to be read
 abbrev pub HasFault : HeldResolver → ℕ → Call → FlatEffects → HeldResolver → Type 0
 HasFault old highest call r new =
-    (fault : Fault) × HasNoEffects (fault_status fault) r × IsLeftBy old.resolver highest call fault new.resolver × (new.last.items ≡ [])
+    (fault : Fault) × HasNoEffects (fault_status fault) r × IsLeftBy old.resolver highest call fault new.resolver
+    × (new.last.items ≡ [])
 
--- a call that names no view above the highest is told, or ends in a fault; what was served last stays
+-- the resolver receives a call that names no view above the highest, or it ends in a fault; what was served last stays
 abbrev pub IsHeardAs : HeldResolver → ℕ → Call → FlatEffects → HeldResolver → Type 0
 IsHeardAs old highest call r new =
     (HasEffects old highest call r new ⊎ HasFault old highest call r new) × (new.served ≡ old.served)
 
--- one of the numbers is none of a verdict, or of a kind
+-- one of the numbers is not valid for a verdict, or a kind
 abbrev pub IsNoResolverCall : FlatResolverReply → Type 0
 IsNoResolverCall f = (2 ≤ f.success) ⊎ ((1 ≤ f.proposal.round.view) × ((f.kind ≡ 0) ⊎ (5 ≤ f.kind)))
 
--- each of them is one, and the view is not that of genesis
+-- each of them is valid, and the view is not that of genesis
 abbrev pub HasTold : FlatResolverReply → Type 0
 HasTold f = (0 < f.kind) × (f.kind < 5) × (f.success < 2) × (1 ≤ f.proposal.round.view)
 
--- why nothing was told: the view is that of genesis, a number is none, or there was no memory for the certificate
+-- why nothing was passed to the resolver: the view is that of genesis, a number is not valid, or there was no memory for the certificate
 abbrev pub IsUntold : FlatResolverReply → FlatEffects → Type 0
 IsUntold f r =
     (HasNoEffects 5 r × (f.success < 2) × (f.proposal.round.view ≡ 0))
     ⊎ (HasNoEffects 6 r × IsNoResolverCall f)
     ⊎ (HasNoEffects 7 r × HasTold f)
 
--- nothing was told, and all is as it was
+-- nothing was passed to the resolver, and everything is unchanged
 abbrev pub IsResolverNotNotified : HeldResolver → FlatResolverReply → FlatEffects → HeldResolver → Type 0
 IsResolverNotNotified old f r new = (new ≡ old) × IsUntold f r
 
--- what flat numbers tell a resolver
+-- what flat numbers pass to a resolver
 abbrev pub IsHeard : HeldResolver → FlatResolverReply → List ℕ → FlatEffects → HeldResolver → Type 0
 IsHeard old f bytes r new =
-    IsResolverNotNotified old f r new ⊎ (HasTold f × ((call : Call) × IsResolverCall f bytes call × IsHeardAs old (highest_passed f) call r new))
+    IsResolverNotNotified old f r new
+    ⊎ (HasTold f × ((call : Call) × IsResolverCall f bytes call × IsHeardAs old (highest_passed f) call r new))
 
 -- why a fetch is opened, and what is settled
 abbrev pub why_number : FetchReason → ℕ
 why_number why.MissingNullification = 0
 why_number why.CertificationFailed = 1
 
--- an effect is of these numbers
+-- an effect has these numbers
 abbrev pub IsEffect : Effect → FlatEffect → Type 0
-IsEffect (effect.Fetch view cause reason) f = (f.kind ≡ 1) × (f.view ≡ view) × (f.cause ≡ cause) × (f.reason ≡ why_number reason)
-IsEffect (effect.Settled kind start end) f = (f.kind ≡ 2) × (f.view ≡ start) × (f.end ≡ end) × (f.reason ≡ missing_number kind)
+IsEffect (effect.Fetch view cause reason) f =
+    (f.kind ≡ 1) × (f.view ≡ view) × (f.cause ≡ cause) × (f.reason ≡ why_number reason)
+IsEffect (effect.Settled kind start end) f =
+    (f.kind ≡ 2) × (f.view ≡ start) × (f.end ≡ end) × (f.reason ≡ missing_number kind)
 IsEffect (effect.Finalized view) f = (f.kind ≡ 3) × (f.view ≡ view)
 IsEffect (effect.Raised view) f = (f.kind ≡ 4) × (f.view ≡ view)
 
 -- the effect at an index, or none
 abbrev pub IsEffectAt : List Effect → ℕ → FlatEffect → Type 0
 IsEffectAt es index f =
-    (f.status ≡ 0) × (((f.kind ≡ 0) × (length es ≤ index)) ⊎ ((e : Effect) × (slice_get es index ≡ Some e) × IsEffect e f))
+    (f.status ≡ 0) × (((f.kind ≡ 0) × (length es ≤ index))
+    ⊎ ((e : Effect) × (slice_get es index ≡ Some e) × IsEffect e f))
 
 -- what is known of a view
 pub record IsSettledAt (r : LawfulResolverFacts) (view : ℕ) (f : FlatSettled) : Type 0 where
@@ -174,38 +183,39 @@ pub record IsSettledAt (r : LawfulResolverFacts) (view : ℕ) (f : FlatSettled) 
 abbrev pub view_bytes : List ℕ → List ℕ
 view_bytes views = flat_map (λ v. to_be_bytes w64 v) views
 
--- views are shown; or there was no memory for them, and nothing is
+-- views are loaded; or there was no memory for them, and nothing is
 abbrev pub HasViews : List ℕ → FlatOutstanding → List ℕ → Type 0
 HasViews views r served =
-    ((r.status ≡ 0) × (r.count ≡ length views) × (served ≡ view_bytes views)) ⊎ ((r.status ≡ 1) × (r.count ≡ 0) × (served ≡ []))
+    ((r.status ≡ 0) × (r.count ≡ length views) × (served ≡ view_bytes views))
+    ⊎ ((r.status ≡ 1) × (r.count ≡ 0) × (served ≡ []))
 
--- the views whose fetch is open are shown, rising
+-- the views with an open fetch are loaded, rising
 pub record AreOutstanding (old : HeldResolver) (r : FlatOutstanding) (new : HeldResolver) : Type 0 where
   pub resolver : new.resolver ≡ old.resolver
   pub last : new.last ≡ old.last
   pub bytes : r.bytes ≡ length new.served.items
   pub shown : HasViews old.resolver.open_fetches r new.served.items
 
--- nothing is shown, for this status
+-- nothing is loaded, for this status
 abbrev pub IsUnserved : ℕ → FlatServed → List ℕ → Type 0
 IsUnserved status r served = (r.status ≡ status) × (r.has ≡ 0) × (r.bytes ≡ 0) × (served ≡ [])
 
--- an encoding is shown
+-- an encoding is loaded
 abbrev pub IsShown : List ℕ → FlatServed → List ℕ → Type 0
 IsShown bytes r served = (r.status ≡ 0) × (r.has ≡ 1) × (r.bytes ≡ length bytes) × (served ≡ bytes)
 
--- there is nothing to serve; or the encoding is shown, or there was no memory for it
+-- there is nothing to serve; or the encoding is loaded, or there was no memory for it
 abbrev pub HasServed : Option (List ℕ) → FlatServed → List ℕ → Type 0
 HasServed None r served = IsUnserved 0 r served
 HasServed (Some bytes) r served = IsShown bytes r served ⊎ IsUnserved 1 r served
 
--- what a peer is served; nothing, where the resolver has failed
+-- what a peer is served; nothing, if the resolver has failed
 abbrev pub HasServedOf : ResolverFacts → ℕ → FlatServed → List ℕ → Type 0
 HasServedOf state view r served =
     ((state.is_failed ≡ true) × IsUnserved 2 r served)
     ⊎ ((state.is_failed ≡ false) × HasServed (served_encoding state view) r served)
 
--- how it is shown
+-- how it is loaded
 pub record IsServedFor (old : HeldResolver) (view : ℕ) (r : FlatServed) (new : HeldResolver) : Type 0 where
   pub resolver : new.resolver ≡ old.resolver
   pub last : new.last ≡ old.last

@@ -1,4 +1,4 @@
--- How a member goes on from a journal, and how it is restarted.
+-- How a member resumes from a journal, and how it is restarted.
 use Rattle.std.specs.Prelude.{◌≡◌, ◌⊎◌, ◌<◌, ◌≤◌, ℕ, List, length, Result, Ok, Err}
 use Rattle.simplex_codec.specs.declared.digest.BytesDigest.{BytesDigest}
 use Rattle.ffi_scheme.specs.declared.elector.HostElector.{HostElector}
@@ -28,7 +28,7 @@ use Rattle.ffi_member.specs.MemberHandles.{same_host_payload, host_leader}
 use Rattle.ffi_member.specs.Settings.{HostStart, IsNoStart, IsStart}
 use Rattle.ffi_member.specs.MemberStart.{IsFresh}
 
--- what is stored beside a journal is of these numbers
+-- what is stored beside a journal has these numbers
 pub record IsFlatStored (f : FlatStored) (s : Stored) : Type 0 where
   pub closed : s.closed ≡ f.closed
   pub is_pruned : flag_number s.is_pruned ≡ f.is_pruned
@@ -39,7 +39,7 @@ pub record IsFlatStored (f : FlatStored) (s : Stored) : Type 0 where
 abbrev pub host_start : HostStart → StartFacts HostKey HostElector (BytesDigest 32)
 host_start start = start_facts host_signer host_keys host_terms is_early certificate_bytes start
 
--- a start, a record and what is stored beside it, by flat settings and the bytes of a journal
+-- a start, a record and what is stored beside it, from flat settings and the bytes of a journal
 pub record IsResumption
     (f : FlatSettings) (leaders bytes : List ℕ) (now : ℕ) (beside : FlatStored) (journal : List ℕ)
     (start : HostStart) (stored : Stored) (entries : List HostArtifact) : Type 0 where
@@ -47,15 +47,17 @@ pub record IsResumption
   pub stored_so : IsFlatStored beside stored
   pub read : journal ≡ framed entries
 
--- a member goes on from them; the journal has all entries that were counted
+-- a member resumes from them; the journal has all entries that were counted
 pub record IsResumedBy
-    (f : FlatSettings) (leaders bytes : List ℕ) (now : ℕ) (beside : FlatStored) (journal : List ℕ) (held : Held) : Type 0 where
+    (f : FlatSettings) (leaders bytes : List ℕ) (now : ℕ) (beside : FlatStored) (journal : List ℕ)
+    (held : Held) : Type 0 where
   pub start : HostStart
   pub stored : Stored
   pub entries : List HostArtifact
   pub from : IsResumption f leaders bytes now beside journal start stored entries
   pub whole : beside.entries ≤ length entries
-  pub resumed : IsResumed same_host_payload host_leader stored (entries_of certificate_bytes entries) (host_start start) held.member.facts
+  pub resumed : IsResumed same_host_payload host_leader stored (entries_of certificate_bytes entries) (host_start start)
+      held.member.facts
   -- its votes are those of the journal, with their orders
   pub votes : held.member.votes ≡ votes_of entries
   pub fresh : IsFresh held
@@ -66,34 +68,39 @@ pub record IsLost (beside : FlatStored) (journal : List ℕ) : Type 0 where
   pub read : journal ≡ framed entries
   pub fewer : (length entries < beside.entries) ⊎ (length entries < beside.closed)
 
--- the record is refused, or memory is wanting
+-- the record is refused, or memory ran out
 pub record IsNotRecovered
-    (f : FlatSettings) (leaders bytes : List ℕ) (now : ℕ) (beside : FlatStored) (journal : List ℕ) (error : RecoverError) : Type 0 where
+    (f : FlatSettings) (leaders bytes : List ℕ) (now : ℕ) (beside : FlatStored) (journal : List ℕ)
+    (error : RecoverError) : Type 0 where
   pub start : HostStart
   pub stored : Stored
   pub entries : List HostArtifact
   pub from : IsResumption f leaders bytes now beside journal start stored entries
-  pub refused : IsNotResumed same_host_payload host_leader stored (entries_of certificate_bytes entries) (host_start start) (resume.Recover error)
+  pub refused : IsNotResumed same_host_payload host_leader stored (entries_of certificate_bytes entries)
+      (host_start start) (resume.Recover error)
 
--- why no member goes on from them
+-- why no member resumes from them
 abbrev pub IsNotResumedBy : FlatSettings → List ℕ → List ℕ → ℕ → FlatStored → List ℕ → NotResumed → Type 0
 IsNotResumedBy f leaders bytes now beside journal (not_resumed.Settings e) = IsNoStart f leaders bytes e
 IsNotResumedBy f leaders bytes now beside journal not_resumed.NoFlag = 2 ≤ beside.is_pruned
 IsNotResumedBy f leaders bytes now beside journal (not_resumed.Journal e) = IsNotRead journal e
 IsNotResumedBy f leaders bytes now beside journal not_resumed.EntriesLost = IsLost beside journal
-IsNotResumedBy f leaders bytes now beside journal (not_resumed.Recover e) = IsNotRecovered f leaders bytes now beside journal e
+IsNotResumedBy f leaders bytes now beside journal (not_resumed.Recover e) =
+    IsNotRecovered f leaders bytes now beside journal e
 
--- what a restart by these settings asks for
-pub record IsRestartOf (f : FlatRestart) (leaders bytes : List ℕ) (r : RestartFacts HostKey HostElector (BytesDigest 32)) : Type 0 where
+-- the restart that these settings ask for
+pub record IsRestartOf (f : FlatRestart) (leaders bytes : List ℕ)
+    (r : RestartFacts HostKey HostElector (BytesDigest 32)) : Type 0 where
   pub start : HostStart
   pub started : IsStart f.settings leaders bytes f.moment start
   pub start_is : r.start ≡ host_start start
   pub drop : r.drop ≡ f.drop
   pub prune : flag_number r.prune ≡ f.prune
 
--- the member is restarted with this result, which keeps the orders of the votes that stay, and all that is read of the handle
+-- the member is restarted with this result, which retains the orders of the votes that stay, and all that is read of the handle
 pub record IsRestartTo
-    (old : Held) (f : FlatRestart) (leaders bytes : List ℕ) (result : Result (Unit {0}) RecoverError) (new : Held) : Type 0 where
+    (old : Held) (f : FlatRestart) (leaders bytes : List ℕ) (result : Result (Unit {0}) RecoverError)
+    (new : Held) : Type 0 where
   pub asked : RestartFacts HostKey HostElector (BytesDigest 32)
   pub is_asked : IsRestartOf f leaders bytes asked
   pub restarted : IsRestart same_host_payload host_leader old.member.facts asked result new.member.facts
@@ -101,7 +108,7 @@ pub record IsRestartTo
   pub last : new.last ≡ old.last
   pub shown : new.shown ≡ old.shown
 
--- why a restart is refused: by its settings, with all as it was; or by what is due of it
+-- why a restart is refused: by its settings, with everything unchanged; or by what is due of it
 abbrev pub IsNoRestart : Held → FlatRestart → List ℕ → List ℕ → NotStarted → Held → Type 0
 IsNoRestart old f leaders bytes (not_started.Settings settings.NoFlag) new =
     (new ≡ old) × (IsNoStart f.settings leaders bytes settings.NoFlag ⊎ (2 ≤ f.prune))

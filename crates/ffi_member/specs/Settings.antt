@@ -1,4 +1,4 @@
--- How a member is set up by flat settings.
+-- How flat settings set up a member.
 use Rattle.std.specs.Prelude.{◌≡◌, ℕ, ◌<◌, ◌==◌, ◌&&◌, nat_le, nat_lt, Bool, true, if◌then◌else◌, List, Option, Some, None, MatchOption, not, length}
 use Rattle.std.specs.List.{list_all}
 use Rattle.std.specs.Option.{option_or}
@@ -41,18 +41,18 @@ abbrev pub IsSigner : FlatSettings → Option ℕ → Type 0
 IsSigner f None = f.signer ≡ 4294967295
 IsSigner f (Some signer) = (signer ≡ f.signer) × (signer < f.members)
 
--- after how long a term stalls, if it does
+-- how long until a term stalls, if it does
 abbrev pub IsStall : FlatSettings → Option ℕ → Type 0
 IsStall f None = f.stalls ≡ 0
 IsStall f (Some timeout) = (f.stalls ≡ 1) × (timeout ≡ f.stall_timeout)
 
--- how views are parted into terms
+-- how views are divided into terms
 pub record IsTerms (f : FlatSettings) (t : Terms) : Type 0 where
   pub length : t.term_length ≡ f.term_length
   pub optimistic_views : t.optimistic_views ≡ f.optimistic_views
   pub stall : IsStall f t.stall_timeout
 
--- the elector has this table, and draws leaders where the settings say so
+-- the elector has this table, and draws leaders if the settings say so
 pub record IsElector (f : FlatSettings) (leaders : List ℕ) (e : HostElector) : Type 0 where
   pub members : host_members e ≡ f.members
   pub table : table_of e ≡ leaders
@@ -62,15 +62,17 @@ pub record IsElector (f : FlatSettings) (leaders : List ℕ) (e : HostElector) :
 -- genesis has the floor's payload; a finalization has the floor's proposal, and these bytes
 abbrev pub IsFloor : FlatSettings → List ℕ → Floor HostScheme (BytesDigest 32) HostKey Order HostCertificate → Type 0
 IsFloor f bytes (floor.Genesis payload) = (f.is_finalized ≡ 0) × (bytes_in_digest payload ≡ f.floor.payload)
-IsFloor f bytes (floor.Finalized it) = (f.is_finalized ≡ 1) × IsFlatProposal f.floor it.proposal × (certificate_bytes it.certificate ≡ bytes)
+IsFloor f bytes (floor.Finalized it) =
+    (f.is_finalized ≡ 1) × IsFlatProposal f.floor it.proposal × (certificate_bytes it.certificate ≡ bytes)
 
 -- whether views of inactive leaders are skipped; a budget of 0 is that of as many terms as there are members
 abbrev pub IsSkip : FlatSettings → SkipPolicy → Type 0
 IsSkip f skip.Disabled = f.skip_timeout ≡ 0
 IsSkip f (skip.Enabled timeout budget.Participants) = (0 < timeout) × (timeout ≡ f.skip_timeout) × (f.skip_budget ≡ 0)
-IsSkip f (skip.Enabled timeout (budget.Fixed terms)) = (0 < timeout) × (timeout ≡ f.skip_timeout) × (f.skip_budget ≡ terms.value)
+IsSkip f (skip.Enabled timeout (budget.Fixed terms)) =
+    (0 < timeout) × (timeout ≡ f.skip_timeout) × (f.skip_budget ≡ terms.value)
 
--- the settings are of these numbers and bytes
+-- the settings have these numbers and bytes
 pub record IsConfig (f : FlatSettings) (bytes : List ℕ) (c : HostConfig) : Type 0 where
   pub signer : IsSigner f (host_signer c.scheme)
   pub keys : host_keys c.scheme ≡ host_keys_below f.members
@@ -84,15 +86,15 @@ pub record IsConfig (f : FlatSettings) (bytes : List ℕ) (c : HostConfig) : Typ
   -- the core forwards nothing
   pub forward : c.forward ≡ forward.Disabled
 
--- the signer has to be a member, or none
+-- the signer must be a member, or none
 abbrev pub signer_error : FlatSettings → Option SettingsError
 signer_error f = if not (f.signer == 4294967295) && nat_le f.members f.signer then Some error.NoSuchMember else None
 
--- a flag has to be 0 or 1
+-- a flag must be 0 or 1
 abbrev pub flag_error : ℕ → Option SettingsError
 flag_error flag = if nat_le 2 flag then Some error.NoFlag else None
 
--- a term has to have a view
+-- a term must have a view
 abbrev pub terms_error : FlatSettings → Option SettingsError
 terms_error f = if f.term_length == 0 then Some error.NothingLeads else flag_error f.stalls
 
@@ -104,9 +106,10 @@ names_members members leaders = list_all (λ index. nat_lt index members) leader
 abbrev pub length_error : FlatSettings → List ℕ → Option SettingsError
 length_error f leaders = if (f.draws == 0) && not (length leaders == f.members) then Some error.OtherTable else None
 
--- the first rule that a table of leaders breaks: each entry is a member's index, and there are as many as have to be
+-- the first rule that a table of leaders breaks: each entry is a member's index, and there are as many as required
 abbrev pub table_error : FlatSettings → List ℕ → Option SettingsError
-table_error f leaders = if not (names_members f.members leaders) then Some error.NoSuchLeader else length_error f leaders
+table_error f leaders = if not (names_members f.members leaders) then Some error.NoSuchLeader
+    else length_error f leaders
 
 -- the first rule that the numbers of an elector break: there is a member, and an entry in the table of leaders
 abbrev pub elector_error : FlatSettings → List ℕ → Option SettingsError
@@ -117,7 +120,7 @@ elector_error f leaders =
     then Some error.NothingLeads
     else option_or (terms_error f) (option_or (flag_error f.draws) (table_error f leaders))
 
--- the first rule that the numbers of an engine's settings break
+-- the first rule that the numbers of a member's settings break
 abbrev pub config_error : FlatSettings → Option SettingsError
 config_error f = option_or (signer_error f) (flag_error f.is_finalized)
 
@@ -125,16 +128,17 @@ config_error f = option_or (signer_error f) (flag_error f.is_finalized)
 abbrev pub settings_error : FlatSettings → List ℕ → Option SettingsError
 settings_error f leaders = option_or (config_error f) (elector_error f leaders)
 
--- the error that is due, and where none is, want of memory
+-- the error that is due; if none is due, out of memory
 abbrev pub IsSettingsErrorDue : Option SettingsError → SettingsError → Type 0
 IsSettingsErrorDue due found = MatchOption due (found ≡ error.OutOfMemory) (λ e. found ≡ e)
 
--- the first rule of an engine that these settings and this elector break: the host's scheme accepts each certificate
+-- the first rule of a member that these settings and this elector break: the host's scheme accepts each certificate
 abbrev pub engine_error : HostConfig → HostElector → Option StartError
 engine_error c e =
-    start_error (first_broken_rule (length (host_keys c.scheme)) (λ _ _. true) c) (host_members e == length (host_keys c.scheme))
+    start_error (first_broken_rule (length (host_keys c.scheme)) (λ _ _. true) c)
+    (host_members e == length (host_keys c.scheme))
 
--- numbers that break no rule are settings and an elector that break this one of an engine
+-- the numbers break no rule, but their settings and elector break this rule of a member
 pub record IsStartRefused (f : FlatSettings) (leaders bytes : List ℕ) (broken : StartError) : Type 0 where
   pub config : HostConfig
   pub elector : HostElector
@@ -143,13 +147,13 @@ pub record IsStartRefused (f : FlatSettings) (leaders bytes : List ℕ) (broken 
   pub numbers : settings_error f leaders ≡ None
   pub first : engine_error config elector ≡ Some broken
 
--- why no member starts by these settings: memory is wanting, for those of an engine at the least, or they break this rule first
+-- why no member starts with these settings: memory ran out, at the least for those of a member, or they break this rule first
 abbrev pub IsNoStart : FlatSettings → List ℕ → List ℕ → SettingsError → Type 0
 IsNoStart f leaders bytes error.OutOfMemory = config_error f ≡ None
 IsNoStart f leaders bytes (error.Refused broken) = IsStartRefused f leaders bytes broken
 IsNoStart f leaders bytes found = settings_error f leaders ≡ Some found
 
--- a member starts by these settings, with this table, floor and moment: they break no rule
+-- a member starts with these settings, this table, floor and moment: they break no rule
 abbrev pub IsStart : FlatSettings → List ℕ → List ℕ → ℕ → HostStart → Type 0
 IsStart f leaders bytes now start =
     (config : HostConfig) × (elector : HostElector) × IsConfig f bytes config × IsElector f leaders elector

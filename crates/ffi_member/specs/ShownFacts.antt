@@ -1,4 +1,4 @@
--- What a member shows beside its replies.
+-- What the host can read of a member beside its replies.
 use Rattle.std.specs.Prelude.{◌≡◌, ◌⊎◌, ◌≤◌, slice_get, ℕ, zero, suc, List, [], ◌++◌, Option, Some, None, MatchOption, is_some, option_map, length, take, drop}
 use Rattle.std.specs.List.{All}
 use Rattle.std.specs.Option.{IsSome}
@@ -48,32 +48,32 @@ HostFacts = MemberFacts HostKey HostElector (BytesDigest 32)
 abbrev pub HostState : Type 0
 HostState = StateFacts HostKey HostElector (BytesDigest 32)
 
--- what is stored beside a member's record, with how many entries it has
+-- what is stored beside a member's record, with the number of its entries
 pub record IsStoredBeside (m : HostFacts) (f : FlatStored) : Type 0 where
   pub entries : f.entries ≡ length m.entries
   pub stored : IsFlatStored f (stored_of m)
 
--- nothing changed but what is shown
+-- nothing changed except what is loaded
 abbrev pub IsSame : Held → Held → Type 0
 IsSame old new = (new.member ≡ old.member) × (new.last ≡ old.last)
 
--- the entries behind the first of a record, the votes among them with their orders
+-- the entries after the first ones of a record, the votes among them with their orders
 pub record AreViewsAfter (m : HostMember) (count : ℕ) (entries : List HostArtifact) : Type 0 where
   pub behind : entries_of certificate_bytes entries ≡ drop count m.facts.entries
   pub votes : votes_of entries ≡ votes_since count m
 
--- they are shown as frames, which hold each of them; or there was no memory for them, or no frame holds one, and nothing is shown
+-- they are loaded as frames, which hold each of them; or there was no memory for them, or no frame holds one, and nothing is loaded
 abbrev pub AreShown : List HostArtifact → FlatEntries → List ℕ → Type 0
 AreShown entries r shown =
     ((r.status ≡ 0) × All FitsFrame entries × (shown ≡ framed entries))
     ⊎ ((r.status ≡ 1) × (shown ≡ []))
     ⊎ ((r.status ≡ 14) × HasTooLong entries × (shown ≡ []))
 
--- how the entries behind the first of a member's record are shown
+-- how the entries after the first ones of a member's record are loaded
 abbrev pub HasEntries : HostMember → ℕ → FlatEntries → List ℕ → Type 0
 HasEntries m count r shown = (entries : List HostArtifact) × AreViewsAfter m count entries × AreShown entries r shown
 
--- how the entries behind the first of a record are shown
+-- how the entries after the first ones of a record are loaded
 pub record IsEntries (old : Held) (count : ℕ) (r : FlatEntries) (new : Held) : Type 0 where
   pub same : IsSame old new
   pub entries : HasEntries old.member count r new.shown.items
@@ -102,7 +102,7 @@ pub record IsViewOf (x : HostState) (view : ℕ) (f : FlatView) : Type 0 where
   pub finalized : f.last_finalized ≡ x.finalized
   pub active : f.min_active ≡ min_active x
 
--- what a member in this state knows; nothing, where it has failed
+-- what a member in this state knows; nothing, if it has failed
 abbrev pub IsViewIn : Option HostState → ℕ → FlatView → Type 0
 IsViewIn state view f = MatchOption state (f.status ≡ 2) (λ x. IsViewOf x view f)
 
@@ -110,42 +110,47 @@ IsViewIn state view f = MatchOption state (f.status ≡ 2) (λ x. IsViewOf x vie
 abbrev pub IsView : HostFacts → ℕ → FlatView → Type 0
 IsView m view f = IsViewIn m.life view f
 
--- a view's certificate of a kind, if it is there
+-- a view's certificate of a kind, if there is one
 abbrev pub certificate_of_kind : ℕ → HostState → ℕ → Option (CertificateFacts (BytesDigest 32))
 certificate_of_kind (suc zero) x view = option_map Notarized (notarization_of x view)
 certificate_of_kind (suc (suc zero)) x view = option_map Nullified (nullification_of x view)
 certificate_of_kind (suc (suc (suc zero))) x view = option_map Finalized (finalization_of x view)
 certificate_of_kind _ x view = None
 
--- what a certificate is of, with its bytes
+-- a certificate's subject, with its bytes
 abbrev pub HasFound : Option (CertificateFacts (BytesDigest 32)) → FlatFound → List ℕ → Type 0
 HasFound None r shown = (r.has ≡ 0) × (shown ≡ [])
-HasFound (Some (Notarized c)) r shown = (r.has ≡ certificate_number certificate.Notarization) × IsFlatProposal r.proposal c.proposal × (shown ≡ c.bytes)
-HasFound (Some (Nullified c)) r shown = (r.has ≡ certificate_number certificate.Nullification) × (c.round ≡ flat_round r.proposal.round) × (shown ≡ c.bytes)
-HasFound (Some (Finalized c)) r shown = (r.has ≡ certificate_number certificate.Finalization) × IsFlatProposal r.proposal c.proposal × (shown ≡ c.bytes)
+HasFound (Some (Notarized c)) r shown =
+    (r.has ≡ certificate_number certificate.Notarization) × IsFlatProposal r.proposal c.proposal × (shown ≡ c.bytes)
+HasFound (Some (Nullified c)) r shown = (r.has ≡ certificate_number certificate.Nullification)
+    × (c.round ≡ flat_round r.proposal.round) × (shown ≡ c.bytes)
+HasFound (Some (Finalized c)) r shown =
+    (r.has ≡ certificate_number certificate.Finalization) × IsFlatProposal r.proposal c.proposal × (shown ≡ c.bytes)
 
--- a certificate is found, and its bytes are written behind others
+-- a certificate is found, and its bytes are appended to others
 abbrev pub ShowsCertificate : Option (CertificateFacts (BytesDigest 32)) → FlatFound → List ℕ → List ℕ → Type 0
-ShowsCertificate found r before after = (bytes : List ℕ) × HasFound found r bytes × (after ≡ before ++ bytes) × (r.bytes ≡ length bytes)
+ShowsCertificate found r before after =
+    (bytes : List ℕ) × HasFound found r bytes × (after ≡ before ++ bytes) × (r.bytes ≡ length bytes)
 
--- none is shown, for this status
+-- none is loaded, for this status
 abbrev pub IsUnfound : ℕ → FlatFound → List ℕ → Type 0
 IsUnfound status r shown = (r.status ≡ status) × (r.has ≡ 0) × (shown ≡ [])
 
--- a certificate is found or not; or it is there, and there was no memory for its bytes
+-- a certificate is found or not; or there is one, and there was no memory for its bytes
 abbrev pub IsFoundOr : Option (CertificateFacts (BytesDigest 32)) → FlatFound → List ℕ → Type 0
 IsFoundOr found r shown = ((r.status ≡ 0) × HasFound found r shown) ⊎ (IsSome found × IsUnfound 1 r shown)
 
--- in a state; a member that has failed has none
+-- the same in a state; a member that has failed has none
 abbrev pub IsFoundIn : Option HostState → ℕ → ℕ → FlatFound → List ℕ → Type 0
 IsFoundIn None kind view r shown = IsUnfound 2 r shown
 IsFoundIn (Some x) kind view r shown = IsFoundOr (certificate_of_kind kind x view) r shown
 
 -- how a view's certificate is asked for: no certificate has the kind, or it is looked for
 abbrev pub HasAnsweredIn : Option HostState → ℕ → ℕ → FlatFound → List ℕ → Type 0
-HasAnsweredIn state kind view r shown = (¬ (IsKind kind) × IsUnfound 6 r shown) ⊎ (IsKind kind × IsFoundIn state kind view r shown)
+HasAnsweredIn state kind view r shown =
+    (¬ (IsKind kind) × IsUnfound 6 r shown) ⊎ (IsKind kind × IsFoundIn state kind view r shown)
 
--- how a view's certificate is shown
+-- how a view's certificate is loaded
 pub record IsFound (old : Held) (kind view : ℕ) (r : FlatFound) (new : Held) : Type 0 where
   pub same : IsSame old new
   pub answered : HasAnsweredIn old.member.facts.life kind view r new.shown.items
@@ -157,9 +162,12 @@ IsItemOr r none is = (r.status ≡ 0) × (((r.has ≡ 0) × none) ⊎ ((r.has �
 
 -- an item of a reply's lists
 abbrev pub IsItem : HostReply → ℕ → ℕ → FlatItem → Type 0
-IsItem reply (suc zero) index r = IsItemOr r (length (proposals_in reply) ≤ index) (IsProposalAt (proposals_in reply) index r.proposal)
-IsItem reply (suc (suc zero)) index r = IsItemOr r (length (fetches_in reply) ≤ index) (IsFetchAt (fetches_in reply) index r.fetch)
-IsItem reply (suc (suc (suc zero))) index r = IsItemOr r (length (dropped_in reply) ≤ index) (slice_get (dropped_in reply) index ≡ Some r.view)
+IsItem reply (suc zero) index r =
+    IsItemOr r (length (proposals_in reply) ≤ index) (IsProposalAt (proposals_in reply) index r.proposal)
+IsItem reply (suc (suc zero)) index r =
+    IsItemOr r (length (fetches_in reply) ≤ index) (IsFetchAt (fetches_in reply) index r.fetch)
+IsItem reply (suc (suc (suc zero))) index r =
+    IsItemOr r (length (dropped_in reply) ≤ index) (slice_get (dropped_in reply) index ≡ Some r.view)
 IsItem reply _ index r = (r.status ≡ 0) × (r.has ≡ 0)
 
 -- a part of bytes, from one on: as many as fit
@@ -168,22 +176,22 @@ pub record IsChunk (bytes : List ℕ) (from : ℕ) (r : FlatChunk) : Type 0 wher
   pub count : r.count ≡ length (take 1024 (drop from bytes))
   pub part : take r.count r.bytes ≡ take 1024 (drop from bytes)
 
--- a part of the bytes of the last reply, or of those that were shown last
+-- a part of the bytes of the last reply, or of those that were loaded last
 abbrev pub IsChunkOf : Held → ℕ → ℕ → FlatChunk → Type 0
 IsChunkOf held zero from r = IsChunk (reply_bytes held.last) from r
 IsChunkOf held (suc _) from r = IsChunk held.shown.items from r
 
--- the text of a vote, or want of memory
+-- the text of a vote, or out of memory
 abbrev pub HasText : List ℕ → FlatText → Type 0
 HasText bytes r = (r.status ≡ 1) ⊎ ((r.status ≡ 0) × (r.count ≡ length bytes) × (take r.count r.bytes ≡ bytes))
 
--- what a vote of a kind is on
+-- the subject of a vote of a kind
 abbrev pub IsSubject : ℕ → FlatProposal → Subject (BytesDigest 32) → Type 0
 IsSubject kind f (subject.Notarize q) = (kind ≡ vote_number vote.Notarize) × IsFlatProposal f q
 IsSubject kind f (subject.Nullify round) = (kind ≡ vote_number vote.Nullify) × (round ≡ flat_round f.round)
 IsSubject kind f (subject.Finalize q) = (kind ≡ vote_number vote.Finalize) × IsFlatProposal f q
 
--- what a vote of a kind signs; nothing, where no vote has the kind
+-- the text that a vote of a kind signs; nothing, if no vote has the kind
 abbrev pub IsText : ℕ → FlatProposal → FlatText → Type 0
 IsText kind f r =
     ((r.status ≡ 6) × IsNoKind kind)

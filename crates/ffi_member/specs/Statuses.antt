@@ -1,4 +1,4 @@
--- The numbers of what refuses a start, a resume or a restart.
+-- The numbers of the errors of a start, a resume or a restart.
 use Rattle.std.specs.Prelude.{ℕ, Result, Ok, Err}
 use Rattle.simplex_types.specs.declared.config.ConfigError.{ConfigError}
 use Rattle.simplex_types.specs.declared.config.ConfigError.TheVariants as config
@@ -16,7 +16,7 @@ use Rattle.ffi_member.specs.declared.resumption.NotResumed.TheVariants as not_re
 use Rattle.ffi_member.specs.declared.settings.SettingsError.{SettingsError}
 use Rattle.ffi_member.specs.declared.settings.SettingsError.TheVariants as settings
 
--- the number of a rule of an engine's settings that is broken
+-- the number of a rule of a member's settings that is broken
 abbrev pub config_number : ConfigError → ℕ
 config_number config.NoParticipants = 20
 config_number config.LeaderTimeoutZero = 21
@@ -29,7 +29,7 @@ config_number config.FloorEpoch = 27
 config_number config.FloorAtGenesis = 28
 config_number config.FloorUnverified = 29
 
--- the number of what refuses settings
+-- the number of an error of settings
 abbrev pub settings_number : SettingsError → ℕ
 settings_number settings.OutOfMemory = 1
 settings_number settings.NoSuchMember = 8
@@ -40,7 +40,7 @@ settings_number settings.OtherTable = 32
 settings_number (settings.Refused (start.Config e)) = config_number e
 settings_number (settings.Refused start.OtherMembers) = 30
 
--- the number of what refuses a record or a floor
+-- the number of an error of a record or a floor
 abbrev pub recover_number : RecoverError → ℕ
 recover_number recover.OutOfMemory = 1
 recover_number recover.OutOfOrder = 40
@@ -68,12 +68,12 @@ abbrev pub not_written_number : NotWritten → ℕ
 not_written_number not_written.OutOfMemory = 1
 not_written_number not_written.TooLong = 14
 
--- the number of what refuses a start
+-- the number of an error of a start
 abbrev pub not_started_number : NotStarted → ℕ
 not_started_number (not_started.Settings e) = settings_number e
 not_started_number (not_started.Recover e) = recover_number e
 
--- the number of what refuses a resume
+-- the number of an error of a resume
 abbrev pub not_resumed_number : NotResumed → ℕ
 not_resumed_number (not_resumed.Settings e) = settings_number e
 not_resumed_number not_resumed.NoFlag = 10
@@ -81,7 +81,7 @@ not_resumed_number (not_resumed.Journal e) = not_read_number e
 not_resumed_number not_resumed.EntriesLost = 11
 not_resumed_number (not_resumed.Recover e) = recover_number e
 
--- what a restart is answered by
+-- the number of a restart's result
 abbrev pub restart_number : Result (Unit {0}) NotStarted → ℕ
 restart_number (Ok _) = 0
 restart_number (Err e) = not_started_number e

@@ -10,7 +10,7 @@ use Rattle.ffi_member.specs.Numbers.{IsNoKind, vote_number}
 use Rattle.ffi_member.specs.MemberHandles.{host_leader, same_host_payload}
 use Rattle.ffi_member.specs.ShownFacts.{HostFacts, HostState}
 
--- the number of a reason; 0 where the vote is not withheld
+-- the number of a reason; 0 if the vote is not withheld
 abbrev pub withheld_number : Option Withheld → ℕ
 withheld_number None = 0
 withheld_number (Some withheld.NoKey) = 1
@@ -43,7 +43,8 @@ IsWithheldIn state number view r =
     ((r.status ≡ 6) × IsNoKind number)
     ⊎ ((kind : VoteKind)
     × (vote_number kind ≡ number)
-    × MatchOption state (r.status ≡ 2) (λ x. (r.status ≡ 0) × (r.reason ≡ withheld_number (withheld_of_vote kind x view))))
+    × MatchOption state (r.status ≡ 2)
+    (λ x. (r.status ≡ 0) × (r.reason ≡ withheld_number (withheld_of_vote kind x view))))
 
 -- why a member withholds a vote
 abbrev pub IsWithheld : HostFacts → ℕ → ℕ → FlatWithheld → Type 0

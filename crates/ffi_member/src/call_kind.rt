@@ -3,7 +3,7 @@
 ghost use Rattle.std.specs.Prelude.{◌≡◌, ◌<◌, ◌≤◌, MatchOption};
 ghost use Rattle.ffi_member.specs.Numbers.{kind_number};
 
-/// Which call of a member is made: one for each of `Call`.
+/// The kind of a member's call: one for each of `Call`.
 #[derive(Clone, Copy, PartialEq, Eq, Debug)]
 pub enum CallKind {
     AddNotarization,
@@ -33,7 +33,7 @@ pub enum CallKind {
     Prune,
 }
 
-/// The kind of a number, if it is one's.
+/// Returns the kind of a number, if it is one's.
 pub fn kind_of(number: u32) -> Option<CallKind>
     ensures { MatchOption result (25 ≤ number) (λ kind. (kind_number kind ≡ number) × (number < 25)) }
 {

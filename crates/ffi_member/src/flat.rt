@@ -1,4 +1,4 @@
-//! What crosses to another language: plain structs of fixed width, with no space between their fields.
+//! The data that another language exchanges: plain structs of fixed width, with no space between their fields.
 
 /// An epoch and a view.
 #[repr(C)]
@@ -18,32 +18,32 @@ pub struct FlatProposal {
     pub payload: [u8; 32],
 }
 
-/// A call. Which fields each kind reads is said by `DenotesCall`; the others may be anything, but `reason` and `success`, which
-/// are tested in each call.
+/// A call. `IsAskedBy` says which fields each kind reads. The others may be anything, except `reason` and `success`, which are checked in
+/// each call.
 #[repr(C)]
 #[derive(Clone, Copy)]
 pub struct FlatCall {
     /// The number of a `CallKind`.
     pub kind: u32,
-    /// The number of a reason for a timeout; 0 where the call takes none.
+    /// The number of a reason for a timeout; 0 if the call takes none.
     pub reason: u32,
-    /// A verdict: 1 where the view's proposal is certified, else 0.
+    /// A verdict: 1 if the view's proposal is certified, else 0.
     pub success: u32,
-    /// Nothing; it keeps the fields behind it at multiples of eight bytes.
+    /// Unused; it keeps the fields after it at multiples of eight bytes.
     pub reserved: u32,
     /// The view that the call is about.
     pub view: u64,
     /// A moment, in milliseconds.
     pub moment: u64,
-    /// What a certification goes on under.
+    /// The token under which a certification continues.
     pub token: u64,
-    /// What a nullification is of.
+    /// The round of a nullification.
     pub round: FlatRound,
-    /// What is handed in, what a certificate is of, or of which a payload was built.
+    /// The proposal that is passed, the proposal of a certificate, or the proposal of a built payload.
     pub proposal: FlatProposal,
 }
 
-/// In what a proposal is built or verified: its round, and the parent with its payload. The leader stands in `member`.
+/// The context in which a proposal is built or verified: its round, and the parent with its payload. `member` has the leader.
 #[repr(C)]
 #[derive(Clone, Copy)]
 pub struct FlatContext {
@@ -54,40 +54,40 @@ pub struct FlatContext {
     pub payload: [u8; 32],
 }
 
-/// What a call is answered. Which fields each kind has is said by `RepresentsReply`; the others have no meaning. A certificate, what is
-/// to be signed, and lists stay behind the handle until the next call.
+/// The reply to a call. `RepresentsReply` says which fields each kind has; the others have no meaning. A certificate, the text to sign, and lists
+/// stay behind the handle until the next call.
 #[repr(C)]
 #[derive(Clone, Copy)]
 pub struct FlatReply {
-    /// 0 where the call is answered; 1 to 4 for a fault, and 5 where the call is not allowed. 6 where one of its numbers is
-    /// none of a call, and 7 where there was no memory for its certificate: then no call was made.
+    /// 0 if the call was made; 1 to 4 for a fault, and 5 if the call is not allowed. 6 if one of its numbers is not valid for a call, and 7
+    /// if there was no memory for its certificate: then no call was made.
     pub status: u32,
-    /// Which answer it is.
+    /// The kind of the reply.
     pub kind: u32,
-    /// 0 where there is no vote, certificate, request, work or reason; else 1, or which of several kinds there is.
+    /// 0 if there is no vote, certificate, request, work or reason; else 1, or which of several kinds there is.
     pub has: u32,
     /// 1 for true.
     pub flag: u32,
-    /// A leader or a signer; the greatest number of 32 bits where there is none.
+    /// A leader or a signer; the greatest number of 32 bits if there is none.
     pub member: u32,
-    /// Why a view times out, or a handoff is given up.
+    /// The reason of a view's timeout, or of an abandoned handoff.
     pub reason: u32,
-    /// When the current view times out, in milliseconds.
+    /// The moment at which the current view times out, in milliseconds.
     pub moment: u64,
     /// The view of the proposal that waits for a certificate, and the view of that certificate.
     pub waiting: u64,
     pub lacking: u64,
-    /// How many proposals are offered, or views were dropped.
+    /// How many proposals are offered, or how many views were dropped.
     pub count: u64,
     /// How many certificates are to be fetched.
     pub fetches: u64,
-    /// What a vote or a certificate is of, or what is to be verified. Of a nullification the round alone.
+    /// The proposal of a vote or a certificate, or the one to verify. Of a nullification only the round.
     pub proposal: FlatProposal,
-    /// In what is built or verified.
+    /// The context of what is built or verified.
     pub context: FlatContext,
 }
 
-/// A certificate that is to be fetched: the view of the proposal that waits for it, and its own.
+/// A certificate to fetch: the view of the proposal that waits for it, and its own.
 #[repr(C)]
 #[derive(Clone, Copy, Debug)]
 pub struct FlatFetch {
@@ -95,21 +95,21 @@ pub struct FlatFetch {
     pub view: u64,
 }
 
-/// How a member is set up. Times are milliseconds.
+/// The settings of a member. Times are milliseconds.
 #[repr(C)]
 #[derive(Clone, Copy)]
 pub struct FlatSettings {
     /// How many members there are.
     pub members: u32,
-    /// The index of the member that signs; the greatest number of 32 bits where none does.
+    /// The index of the member that signs; the greatest number of 32 bits if none does.
     pub signer: u32,
     /// How many views one leader leads.
     pub term_length: u32,
-    /// 1 where certificates name leaders, 0 where the table does alone.
+    /// 1 if certificates name leaders, 0 if only the table does.
     pub draws: u32,
-    /// 1 where terms stall after `stall_timeout`, else 0.
+    /// 1 if terms stall after `stall_timeout`, else 0.
     pub stalls: u32,
-    /// 1 where the floor is a finalized proposal, 0 where it is genesis.
+    /// 1 if the floor is a finalized proposal, 0 if it is genesis.
     pub is_finalized: u32,
     pub stall_timeout: u64,
     pub optimistic_views: u64,
@@ -118,10 +118,10 @@ pub struct FlatSettings {
     pub leader_timeout: u64,
     pub certification_timeout: u64,
     pub timeout_retry: u64,
-    /// After how long a leader counts as inactive; 0 where no view is skipped for it.
+    /// How long until a leader counts as inactive; 0 if no view is skipped for it.
     pub skip_timeout: u64,
     /// How many unfinalized terms may be skipped; 0 for as many as there are members.
     pub skip_budget: u64,
-    /// What is finalized, of genesis the payload alone.
+    /// The finalized proposal; of genesis only the payload.
     pub floor: FlatProposal,
 }

@@ -1,4 +1,4 @@
-//! The calls that flat calls stand for.
+//! The calls that flat calls represent.
 
 ghost use Rattle.std.specs.Prelude.{◌≡◌, ◌<◌, IfOk, OnErr, MatchOption};
 ghost use Rattle.ffi_scheme.specs.Host.{certificate_bytes};
@@ -21,8 +21,8 @@ use std::alloc::{AllocError, Global};
 /// A call of a member of the host.
 pub type HostCall = Call<HostScheme, HostDigest>;
 
-/// The call that a flat call stands for, with the bytes of the certificate that it hands in; none where one of its numbers
-/// is no kind's, reason's or verdict's.
+/// Returns the call that a flat call represents, with the bytes of the certificate that it passes; `None` if one of its numbers is not
+/// valid for a kind, reason or verdict.
 pub fn call_of(
     alloc: Global,
     flat: &FlatCall,
@@ -94,7 +94,7 @@ fn call_of_kind(
     })
 }
 
-/// A round.
+/// Returns a round.
 pub fn round_in(round: FlatRound) -> Round
     ensures { result ≡ flat_round round }
 {
@@ -104,7 +104,7 @@ pub fn round_in(round: FlatRound) -> Round
     }
 }
 
-/// A proposal.
+/// Returns a proposal.
 pub fn proposal_of(proposal: &FlatProposal) -> Proposal<HostDigest>
     ensures { IsFlatProposal proposal.now result }
 {
@@ -123,7 +123,7 @@ fn certificate_of(alloc: Global, bytes: &[u8]) -> Result<HostCertificate, AllocE
     })
 }
 
-/// A notarization of these bytes.
+/// Returns a notarization of these bytes.
 pub fn notarization_of(
     alloc: Global,
     proposal: &FlatProposal,
@@ -138,7 +138,7 @@ pub fn notarization_of(
     })
 }
 
-/// A nullification of these bytes.
+/// Returns a nullification of these bytes.
 pub fn nullification_of(
     alloc: Global,
     round: FlatRound,
@@ -153,7 +153,7 @@ pub fn nullification_of(
     })
 }
 
-/// A finalization of these bytes.
+/// Returns a finalization of these bytes.
 pub fn finalization_of(
     alloc: Global,
     proposal: &FlatProposal,

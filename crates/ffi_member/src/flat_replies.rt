@@ -1,5 +1,5 @@
-//! What flat replies tell of a member's replies. None of it takes memory: a certificate, a text to sign and lists stay in the
-//! reply, of which they are read.
+//! The flat form of a member's replies. None of it takes memory: a certificate, a text to sign and lists stay in the reply, and are read
+//! from it.
 
 ghost use Rattle.std.specs.Prelude.{◌≡◌, option_map};
 ghost use Rattle.simplex_types.specs.Certificates.{certificate_facts};
@@ -19,34 +19,74 @@ use simplex_member::member::Reply;
 use simplex_types::types::{Certificate, Context, Finalize, Notarize, Nullify, Proposal, Round};
 use simplex_voter::voter::{ProposalRequest, Verify};
 
+/// The kinds of replies, as the header numbers them.
+const UNIT: u32 = 0;
+
+const FLAG: u32 = 1;
+
+const ADDED: u32 = 2;
+
+const ADDED_NULLIFICATION: u32 = 3;
+
+const REQUEST: u32 = 4;
+
+const WORK: u32 = 5;
+
+const CANDIDATES: u32 = 6;
+
+const CERTIFIED: u32 = 7;
+
+const NOTARIZE: u32 = 8;
+
+const NULLIFY: u32 = 9;
+
+const FINALIZE: u32 = 10;
+
+const CERTIFICATE: u32 = 11;
+
+const TIMEOUT: u32 = 12;
+
+const VIEWS: u32 = 13;
+
+const RELEASED: u32 = 14;
+
+const TRIGGERED: u32 = 15;
+
+const ABANDONED: u32 = 16;
+
+const RESTARTED: u32 = 17;
+
+/// The status of a call that is not allowed.
+pub(crate) const STATUS_NOT_ALLOWED: u32 = 5;
+
 /// A reply of a member of the host.
 pub type HostReply = Reply<HostScheme, HostDigest>;
 
-/// What a reply tells, but for what has no fixed size.
+/// Returns the flat form of a reply, without the parts that have no fixed size.
 pub fn flat_reply(reply: &HostReply) -> FlatReply
     ensures { RepresentsReply result (told certificate_bytes reply.now) }
 {
     match reply {
-        Reply::Unit => answered(0),
-        Reply::Flag(flag) => flagged(1, *flag),
+        Reply::Unit => answered(UNIT),
+        Reply::Flag(flag) => flagged(FLAG, *flag),
         Reply::Added(is_new, leader) => FlatReply {
             member: number_of_member(leader),
-            ..flagged(2, *is_new)
+            ..flagged(ADDED, *is_new)
         },
-        Reply::AddedNullification(is_new) => flagged(3, *is_new),
+        Reply::AddedNullification(is_new) => flagged(ADDED_NULLIFICATION, *is_new),
         Reply::Request(request) => flat_request(request),
         Reply::Work(work) => flat_work(work),
         Reply::Candidates(proposals, fetches) => FlatReply {
             count: proposals.len() as u64,
             fetches: fetches.len() as u64,
-            ..answered(6)
+            ..answered(CANDIDATES)
         },
         Reply::Certified(success, Some(notarization)) => FlatReply {
             has: 1,
             proposal: flat_proposal(&notarization.proposal),
-            ..flagged(7, *success)
+            ..flagged(CERTIFIED, *success)
         },
-        Reply::Certified(success, None) => flagged(7, *success),
+        Reply::Certified(success, None) => flagged(CERTIFIED, *success),
         Reply::Notarize(vote) => flat_notarize(vote),
         Reply::Nullify(vote) => flat_nullify(vote),
         Reply::Finalize(vote) => flat_finalize(vote),
@@ -54,27 +94,27 @@ pub fn flat_reply(reply: &HostReply) -> FlatReply
         Reply::Timeout(moment, reason) => FlatReply {
             moment: *moment,
             reason: number_of_reason(*reason),
-            ..answered(12)
+            ..answered(TIMEOUT)
         },
         Reply::Views(views) => FlatReply {
             count: views.len() as u64,
-            ..answered(13)
+            ..answered(VIEWS)
         },
-        Reply::Released(was_open) => flagged(14, *was_open),
-        Reply::Triggered(is_latched) => flagged(15, *is_latched),
+        Reply::Released(was_open) => flagged(RELEASED, *was_open),
+        Reply::Triggered(is_latched) => flagged(TRIGGERED, *is_latched),
         Reply::Abandoned(Some(reason)) => FlatReply {
             has: 1,
             reason: number_of_abandoned(*reason),
-            ..answered(16)
+            ..answered(ABANDONED)
         },
-        Reply::Abandoned(None) => answered(16),
-        Reply::Restarted => answered(17),
+        Reply::Abandoned(None) => answered(ABANDONED),
+        Reply::Restarted => answered(RESTARTED),
         Reply::Fault(fault) => unanswered(number_of_fault(*fault)),
         Reply::NotAllowed => unanswered(5),
     }
 }
 
-/// An answer of a kind with nothing in it.
+/// Returns an empty reply of a kind.
 fn answered(kind: u32) -> FlatReply
     ensures answered { HasAnswer kind result }
     ensures nothing { result.has ≡ 0 }
@@ -85,7 +125,7 @@ fn answered(kind: u32) -> FlatReply
     }
 }
 
-/// A reply of a status with nothing in it.
+/// Returns an empty reply of a status.
 pub(crate) fn unanswered(status: u32) -> FlatReply
     ensures status { result.status ≡ status }
     ensures nothing { result.has ≡ 0 }
@@ -127,7 +167,7 @@ fn flagged(kind: u32, flag: bool) -> FlatReply
     }
 }
 
-/// The numbers of a round.
+/// Returns the numbers of a round.
 pub fn flat_round(round: Round) -> FlatRound
     ensures { round ≡ flat_round result }
 {
@@ -137,7 +177,7 @@ pub fn flat_round(round: Round) -> FlatRound
     }
 }
 
-/// The numbers and bytes of a proposal.
+/// Returns the numbers and bytes of a proposal.
 pub fn flat_proposal(proposal: &Proposal<HostDigest>) -> FlatProposal
     ensures { IsFlatProposal result proposal.now }
 {
@@ -148,7 +188,7 @@ pub fn flat_proposal(proposal: &Proposal<HostDigest>) -> FlatProposal
     }
 }
 
-/// The numbers and bytes of a context.
+/// Returns the numbers and bytes of a context.
 pub fn flat_context(context: &Context<HostDigest, HostKey>) -> FlatContext
     ensures { IsContext result context.now }
 {
@@ -169,15 +209,15 @@ fn flat_request(request: &Option<ProposalRequest<HostDigest, HostKey>>) -> FlatR
             has: 1,
             member: context.leader.0,
             context: flat_context(context),
-            ..answered(4)
+            ..answered(REQUEST)
         },
         Some(ProposalRequest::Prepare(context)) => FlatReply {
             has: 2,
             member: context.leader.0,
             context: flat_context(context),
-            ..answered(4)
+            ..answered(REQUEST)
         },
-        None => answered(4),
+        None => answered(REQUEST),
     }
 }
 
@@ -186,13 +226,13 @@ fn flat_work(work: &Verify<HostDigest, HostKey>) -> FlatReply
     ensures work { HasWork work.now result }
 {
     match work {
-        Verify::Wait => answered(5),
+        Verify::Wait => answered(WORK),
         Verify::Ready(context, proposal) => FlatReply {
             has: 1,
             member: context.leader.0,
             context: flat_context(context),
             proposal: flat_proposal(proposal),
-            ..answered(5)
+            ..answered(WORK)
         },
         Verify::Resolve {
             proposal,
@@ -205,7 +245,7 @@ fn flat_work(work: &Verify<HostDigest, HostKey>) -> FlatReply
             member: *leader,
             waiting: proposal.get(),
             lacking: view.get(),
-            ..answered(5)
+            ..answered(WORK)
         },
     }
 }
@@ -219,9 +259,9 @@ fn flat_notarize(vote: &Option<Notarize<HostScheme, HostDigest>>) -> FlatReply
             has: 1,
             member: vote.signer.get(),
             proposal: flat_proposal(&vote.proposal),
-            ..answered(8)
+            ..answered(NOTARIZE)
         },
-        None => answered(8),
+        None => answered(NOTARIZE),
     }
 }
 
@@ -238,9 +278,9 @@ fn flat_nullify(vote: &Option<(bool, Nullify<HostScheme>)>) -> FlatReply
                 parent: 0,
                 payload: [0; 32],
             },
-            ..flagged(9, *is_retry)
+            ..flagged(NULLIFY, *is_retry)
         },
-        None => answered(9),
+        None => answered(NULLIFY),
     }
 }
 
@@ -253,9 +293,9 @@ fn flat_finalize(vote: &Option<Finalize<HostScheme, HostDigest>>) -> FlatReply
             has: 1,
             member: vote.signer.get(),
             proposal: flat_proposal(&vote.proposal),
-            ..answered(10)
+            ..answered(FINALIZE)
         },
-        None => answered(10),
+        None => answered(FINALIZE),
     }
 }
 
@@ -267,7 +307,7 @@ fn flat_certificate(certificate: &Option<Certificate<HostScheme, HostDigest>>) -
         Some(Certificate::Notarization(it)) => FlatReply {
             has: number_of_certificate(CertificateKind::Notarization),
             proposal: flat_proposal(&it.proposal),
-            ..answered(11)
+            ..answered(CERTIFICATE)
         },
         Some(Certificate::Nullification(it)) => FlatReply {
             has: number_of_certificate(CertificateKind::Nullification),
@@ -276,13 +316,13 @@ fn flat_certificate(certificate: &Option<Certificate<HostScheme, HostDigest>>) -
                 parent: 0,
                 payload: [0; 32],
             },
-            ..answered(11)
+            ..answered(CERTIFICATE)
         },
         Some(Certificate::Finalization(it)) => FlatReply {
             has: number_of_certificate(CertificateKind::Finalization),
             proposal: flat_proposal(&it.proposal),
-            ..answered(11)
+            ..answered(CERTIFICATE)
         },
-        None => answered(11),
+        None => answered(CERTIFICATE),
     }
 }

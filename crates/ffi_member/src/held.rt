@@ -1,4 +1,4 @@
-//! A member behind a handle, with its last reply: what flat replies leave out is read of it, and never lacks memory.
+//! A member behind a handle, with its last reply: the host reads there what flat replies leave out, which never takes memory.
 
 ghost use Rattle.std.specs.Prelude.{IfOk, IfErr, ◌≡◌, ◌≤◌, MatchOption, Some, length, slice_get};
 
@@ -16,27 +16,27 @@ use std::alloc::Global;
 /// A member of the host.
 pub type HostMember = Member<HostScheme, HostElector, HostDigest>;
 
-/// A reply's status where one of the call's numbers is no kind's, reason's or verdict's: no call was made.
+/// A reply's status if one of the call's numbers is not valid for a kind, reason or verdict: no call was made.
 pub const STATUS_NO_CALL: u32 = 6;
 
-/// A reply's status where there was no memory for the call's certificate: no call was made.
+/// A reply's status if there was no memory for the call's certificate: no call was made.
 pub const STATUS_NOT_MADE: u32 = 7;
 
 /// Why no member starts.
 #[derive(Clone, Copy, PartialEq, Eq, Debug)]
 pub enum NotStarted {
     Settings(SettingsError),
-    /// The floor is refused, or memory is wanting.
+    /// The floor is refused, or memory ran out.
     Recover(RecoverError),
 }
 
-/// A member, its last reply, and what it last showed beside that.
+/// A member, its last reply, and the bytes that were last loaded beside it.
 #[derive(Drop)]
 pub struct Held {
     pub(crate) alloc: Global,
     pub(crate) member: HostMember,
     last: HostReply,
-    /// What was last shown beside a reply.
+    /// The bytes that were last loaded beside a reply.
     pub(crate) shown: BytesMut,
 }
 
@@ -44,7 +44,7 @@ impl Held {
     ghost use Rattle.ffi_member.specs.MemberStart.{IsFresh, IsNotStarted, IsStarted};
     ghost use Rattle.ffi_member.specs.MemberHandles.{IsCallServed, IsFetchAt, IsProposalAt, dropped_in, fetches_in, proposals_in, reply_bytes};
 
-    /// A member that never voted, by flat settings with a table of leaders and the bytes of the floor's certificate.
+    /// Starts a member that never voted, from flat settings, a table of leaders and the bytes of the floor's certificate.
     pub fn start(
         alloc: Global,
         flat: &FlatSettings,
@@ -65,7 +65,7 @@ impl Held {
         }
     }
 
-    /// A member that no call was made of yet.
+    /// Returns a member of which no call was made yet.
     pub fn new(alloc: Global, member: HostMember) -> Held
         ensures member { result.member ≡ member }
         ensures fresh { IsFresh result }
@@ -78,8 +78,8 @@ impl Held {
         }
     }
 
-    /// Makes a call of the member. The reply tells all but a certificate, a text to sign and lists, which are read below until
-    /// the next call is made.
+    /// Makes a call of the member. The reply has everything but a certificate, a text to sign and lists. The functions below read those
+    /// until the next call is made.
     pub fn call(&mut self, flat: &FlatCall, certificate: &[u8]) -> FlatReply
         ensures { IsCallServed self.old flat.now certificate.now result self.new }
     {
@@ -95,14 +95,14 @@ impl Held {
         }
     }
 
-    /// The member, to be asked what it shows.
+    /// Returns the member, to read its state.
     pub fn member(&self) -> &HostMember
         ensures { result.now ≡ self.now.member }
     {
         &self.member
     }
 
-    /// What the vote of the last reply is to be signed on, or the bytes of its certificate; nothing where it has neither.
+    /// Returns the text to sign for the vote of the last reply, or the bytes of its certificate; nothing if it has neither.
     pub fn bytes(&self) -> &[u8]
         ensures { result.now ≡ reply_bytes self.now.last }
     {
@@ -127,9 +127,10 @@ impl Held {
         }
     }
 
-    /// A proposal that the last reply offers for certification.
+    /// Returns a proposal that the last reply offers for certification.
     pub fn proposal_at(&self, index: usize) -> Option<FlatProposal>
-        ensures { MatchOption result (length (proposals_in self.now.last) ≤ index) (IsProposalAt (proposals_in self.now.last) index) }
+        ensures { MatchOption result (length (proposals_in self.now.last) ≤ index)
+            (IsProposalAt (proposals_in self.now.last) index) }
     {
         let proposal = self.offered(index)?;
         Some(flat_proposal(proposal))
@@ -145,9 +146,10 @@ impl Held {
         }
     }
 
-    /// A certificate that the last reply asks to be fetched.
+    /// Returns a certificate that the last reply asks to be fetched.
     pub fn fetch_at(&self, index: usize) -> Option<FlatFetch>
-        ensures { MatchOption result (length (fetches_in self.now.last) ≤ index) (IsFetchAt (fetches_in self.now.last) index) }
+        ensures { MatchOption result (length (fetches_in self.now.last) ≤ index)
+            (IsFetchAt (fetches_in self.now.last) index) }
     {
         match &self.last {
             Reply::Candidates(_, fetches) => {
@@ -161,9 +163,10 @@ impl Held {
         }
     }
 
-    /// A view that the last reply dropped.
+    /// Returns a view that the last reply dropped.
     pub fn dropped_at(&self, index: usize) -> Option<u64>
-        ensures { MatchOption result (length (dropped_in self.now.last) ≤ index) (λ view. slice_get (dropped_in self.now.last) index ≡ Some view) }
+        ensures { MatchOption result (length (dropped_in self.now.last) ≤ index)
+            (λ view. slice_get (dropped_in self.now.last) index ≡ Some view) }
     {
         match &self.last {
             Reply::Views(views) => {

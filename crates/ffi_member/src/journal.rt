@@ -1,4 +1,4 @@
-//! A record's entries in the bytes of a journal: frames, one behind the other.
+//! A record's entries in the bytes of a journal: frames, one after the other.
 
 ghost use Rattle.std.specs.Prelude.{◌≡◌, ◌++◌, ◌<◌, ◌≤◌, ◌^◌, IfOk, IfErr, OnOk, MatchOption, length};
 ghost use Rattle.std.specs.List.{All};
@@ -23,7 +23,7 @@ pub type HostArtifact = Artifact<HostScheme, HostDigest>;
 #[derive(Clone, Copy, PartialEq, Eq, Debug)]
 pub enum NotWritten {
     OutOfMemory,
-    /// An entry has 2^32 bytes or more, and no frame holds it.
+    /// An entry has 2^32 bytes or more, and no frame can hold it.
     TooLong,
 }
 
@@ -38,11 +38,11 @@ impl From<AllocError> for NotWritten {
     }
 }
 
-/// Why bytes are not read as the entries of a record, and where: how many bytes before it are whole entries.
+/// Why bytes are not the entries of a record, and where: how many bytes before that place are whole entries.
 #[derive(Clone, Copy, PartialEq, Eq, Debug)]
 pub enum NotRead {
     OutOfMemory,
-    /// No frame stands there: it was cut, or bytes of it were changed.
+    /// No frame is there: it was cut, or bytes of it were changed.
     Damaged(usize),
     /// The frame there holds no entry.
     NoEntry(usize, DecodeError),
@@ -70,7 +70,7 @@ impl<V: Drop> From<AllocFailed<V>> for NotRead {
     }
 }
 
-/// The entries are written as frames behind the bytes of `out`.
+/// Appends the entries as frames to the bytes of `out`.
 pub fn write_entries(
     alloc: Global,
     out: &mut BytesMut,
@@ -86,7 +86,7 @@ pub fn write_entries(
     Ok(())
 }
 
-/// An entry is written as a frame behind the bytes of `out`.
+/// Appends an entry as a frame to the bytes of `out`.
 fn write_entry(alloc: Global, out: &mut BytesMut, entry: &HostArtifact) -> Result<(), NotWritten>
     ensures written { OnOk result (out.new.items ≡ out.old.items ++ frame (entry_bytes entry.now)) }
     ensures fits { OnOk result (FitsFrame entry.now) }
@@ -100,7 +100,7 @@ fn write_entry(alloc: Global, out: &mut BytesMut, entry: &HostArtifact) -> Resul
     Ok(())
 }
 
-/// The entries whose frames the bytes are.
+/// Returns the entries whose frames the bytes are.
 pub fn read_entries(alloc: Global, journal: &[u8]) -> Result<Vec<HostArtifact>, NotRead>
     ensures read { IfOk result (λ entries. journal.now ≡ framed entries.items) }
     ensures refused { IfErr result (IsNotRead journal.now) }
@@ -120,7 +120,7 @@ pub fn read_entries(alloc: Global, journal: &[u8]) -> Result<Vec<HostArtifact>, 
     Ok(entries)
 }
 
-/// The entry in the frame at the front, and the bytes behind it.
+/// Returns the entry in the frame at the front, and the bytes after it.
 fn entry_at(left: &[u8], at: usize) -> Result<(&[u8], &[u8]), NotRead>
     requires { 0 < length left.now }
     ensures read { IfOk result (λ x. left.now ≡ frame x.0.now ++ x.1.now) }
@@ -132,7 +132,7 @@ fn entry_at(left: &[u8], at: usize) -> Result<(&[u8], &[u8]), NotRead>
     }
 }
 
-/// What the bytes of a journal are.
+/// Returns how many whole frames a journal has, and how it ends.
 pub fn scan(journal: &[u8]) -> FlatScan
     ensures { IsScan journal.now result }
 {
@@ -150,7 +150,7 @@ pub fn scan(journal: &[u8]) -> FlatScan
     }
 }
 
-/// The bytes behind the frame at the front, if one stands there.
+/// Returns the bytes after the frame at the front, if one is there.
 fn behind_frame(bytes: &[u8]) -> Option<&[u8]>
     ensures { MatchOption result (StandsAlone bytes.now) (λ rest. BeginsWithFrame bytes.now rest.now) }
 {
@@ -160,7 +160,7 @@ fn behind_frame(bytes: &[u8]) -> Option<&[u8]>
     }
 }
 
-/// How a journal ends, by the bytes behind its whole frames.
+/// Returns how a journal ends, from the bytes after its whole frames.
 fn ending_of(left: &[u8]) -> u32
     requires { StandsAlone left.now }
     ensures { IsEnding left.now result }

@@ -5,7 +5,7 @@ ghost use Rattle.ffi_member.specs.Numbers.{IsKind, IsNoKind, certificate_number,
 
 use simplex_types::reasons::Kind;
 
-/// Which certificate it is.
+/// The kind of a certificate.
 #[derive(Clone, Copy, PartialEq, Eq, Debug)]
 pub enum CertificateKind {
     Notarization,
@@ -13,7 +13,7 @@ pub enum CertificateKind {
     Finalization,
 }
 
-/// Which vote it is.
+/// The kind of a vote.
 #[derive(Clone, Copy, PartialEq, Eq, Debug)]
 pub enum VoteKind {
     Notarize,
@@ -21,7 +21,7 @@ pub enum VoteKind {
     Finalize,
 }
 
-/// The certificate's kind of a number, if it is one's.
+/// Returns the certificate's kind of a number, if it is one's.
 pub fn certificate_kind_of(number: u32) -> Option<CertificateKind>
     ensures { MatchOption result (IsNoKind number) (λ kind. (certificate_number kind ≡ number) × IsKind number) }
 {
@@ -33,7 +33,7 @@ pub fn certificate_kind_of(number: u32) -> Option<CertificateKind>
     }
 }
 
-/// The vote's kind of a number, if it is one's.
+/// Returns the vote's kind of a number, if it is one's.
 pub fn vote_kind_of(number: u32) -> Option<VoteKind>
     ensures { MatchOption result (IsNoKind number) (λ kind. (vote_number kind ≡ number) × IsKind number) }
 {
@@ -45,7 +45,7 @@ pub fn vote_kind_of(number: u32) -> Option<VoteKind>
     }
 }
 
-/// The number of a certificate's kind.
+/// Returns the number of a certificate's kind.
 pub fn number_of_certificate(kind: CertificateKind) -> u32
     ensures { result ≡ certificate_number kind }
 {
@@ -56,7 +56,7 @@ pub fn number_of_certificate(kind: CertificateKind) -> u32
     }
 }
 
-/// The number of a certificate that is lacking.
+/// Returns the number of a missing certificate's kind.
 pub fn number_of_missing(kind: Kind) -> u32
     ensures { result ≡ missing_number kind }
 {

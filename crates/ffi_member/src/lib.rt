@@ -1,4 +1,4 @@
-//! The calls of a member as plain structs of numbers and bytes, for engines in other languages.
+//! The calls of a member as plain structs of numbers and bytes, for hosts in other languages.
 #![tactic(auto)]
 
 pub mod call_kind;

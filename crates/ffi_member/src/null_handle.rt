@@ -1,4 +1,4 @@
-//! What is answered of a handle that is null.
+//! The results for a handle that is null.
 
 ghost use Rattle.std.specs.Prelude.{◌≡◌};
 
@@ -12,24 +12,24 @@ use crate::view_types::{
 use crate::views::{no_item, no_view, unfound};
 use crate::withheld::no_reason;
 
-/// The status where a handle is null: nothing was done.
+/// The status for a null handle: nothing was done.
 pub const STATUS_NO_HANDLE: u32 = 15;
 
-/// That number.
+/// Returns the status for a null handle.
 pub fn status() -> u32
     ensures { result ≡ 15 }
 {
     STATUS_NO_HANDLE
 }
 
-/// The reply to a call.
+/// Returns the reply to a call.
 pub fn reply() -> FlatReply
     ensures { result.status ≡ 15 }
 {
     unanswered(STATUS_NO_HANDLE)
 }
 
-/// A part of bytes.
+/// Returns a part of bytes.
 pub fn chunk() -> FlatChunk
     ensures { result.status ≡ 15 }
 {
@@ -41,7 +41,7 @@ pub fn chunk() -> FlatChunk
     }
 }
 
-/// An item of a reply's lists.
+/// Returns an item of a reply's lists.
 pub fn item() -> FlatItem
     ensures { result.status ≡ 15 }
 {
@@ -51,14 +51,14 @@ pub fn item() -> FlatItem
     }
 }
 
-/// A certificate.
+/// Returns a certificate.
 pub fn found() -> FlatFound
     ensures { result.status ≡ 15 }
 {
     unfound(STATUS_NO_HANDLE)
 }
 
-/// The entries of a record.
+/// Returns the entries of a record.
 pub fn entries() -> FlatEntries
     ensures { result.status ≡ 15 }
 {
@@ -77,7 +77,7 @@ pub fn entries() -> FlatEntries
     }
 }
 
-/// What a member knows.
+/// Returns what a member knows.
 pub fn view() -> FlatView
     ensures { result.status ≡ 15 }
 {
@@ -87,21 +87,21 @@ pub fn view() -> FlatView
     }
 }
 
-/// Why a vote is withheld.
+/// Returns why a vote is withheld.
 pub fn withheld() -> FlatWithheld
     ensures { result.status ≡ 15 }
 {
     no_reason(STATUS_NO_HANDLE)
 }
 
-/// What follows of what a resolver was told.
+/// Returns the effects of a resolver's input.
 pub fn effects() -> FlatEffects
     ensures { result.status ≡ 15 }
 {
     no_effects(STATUS_NO_HANDLE)
 }
 
-/// An effect.
+/// Returns an effect.
 pub fn effect() -> FlatEffect
     ensures { result.status ≡ 15 }
 {
@@ -111,7 +111,7 @@ pub fn effect() -> FlatEffect
     }
 }
 
-/// What a resolver knows of a view.
+/// Returns what a resolver knows of a view.
 pub fn settled() -> FlatSettled
     ensures { result.status ≡ 15 }
 {
@@ -126,14 +126,14 @@ pub fn settled() -> FlatSettled
     }
 }
 
-/// What a peer is served.
+/// Returns what a peer is served.
 pub fn served() -> FlatServed
     ensures { result.status ≡ 15 }
 {
     unserved(0, STATUS_NO_HANDLE)
 }
 
-/// The open fetches.
+/// Returns the open fetches.
 pub fn outstanding() -> FlatOutstanding
     ensures { result.status ≡ 15 }
 {

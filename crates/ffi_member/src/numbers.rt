@@ -7,7 +7,7 @@ use ffi_scheme::scheme::HostKey;
 use simplex_types::reasons::{HandoffAbandonedReason, TimeoutReason};
 use simplex_types::types::Fault;
 
-/// The reason of a number, if it is one's.
+/// Returns the reason of a number, if it is one's.
 pub fn reason_of(number: u32) -> Option<TimeoutReason>
     ensures { MatchOption result (10 ≤ number) (λ reason. (reason_number reason ≡ number) × (number < 10)) }
 {
@@ -26,7 +26,7 @@ pub fn reason_of(number: u32) -> Option<TimeoutReason>
     }
 }
 
-/// What 0 and 1 say.
+/// Returns the flag of 0 and of 1.
 pub fn flag_of(number: u32) -> Option<bool>
     ensures { MatchOption result (2 ≤ number) (λ flag. (flag_number flag ≡ number) × (number < 2)) }
 {
@@ -37,7 +37,7 @@ pub fn flag_of(number: u32) -> Option<bool>
     }
 }
 
-/// The number of a reason for a timeout.
+/// Returns the number of a reason for a timeout.
 pub fn number_of_reason(it: TimeoutReason) -> u32
     ensures { result ≡ reason_number it }
 {
@@ -55,7 +55,7 @@ pub fn number_of_reason(it: TimeoutReason) -> u32
     }
 }
 
-/// The number of a reason to give up a handoff.
+/// Returns the number of a reason to abandon a handoff.
 pub fn number_of_abandoned(it: HandoffAbandonedReason) -> u32
     ensures { result ≡ abandoned_number it }
 {
@@ -70,7 +70,7 @@ pub fn number_of_abandoned(it: HandoffAbandonedReason) -> u32
     }
 }
 
-/// The number of a fault: a reply's status.
+/// Returns the number of a fault: a reply's status.
 pub fn number_of_fault(it: Fault) -> u32
     ensures { result ≡ fault_status it }
 {
@@ -82,14 +82,14 @@ pub fn number_of_fault(it: Fault) -> u32
     }
 }
 
-/// 1 for true.
+/// Returns 1 for true, and 0 for false.
 pub fn number_of_flag(flag: bool) -> u32
     ensures { result ≡ flag_number flag }
 {
     if flag { 1 } else { 0 }
 }
 
-/// The index of a member, or the greatest number where there is none.
+/// Returns the index of a member, or the greatest number if there is none.
 pub fn number_of_member(member: &Option<HostKey>) -> u32
     ensures { result ≡ member_number member.now }
 {

@@ -1,4 +1,4 @@
-//! How a member's record is made short within its life.
+//! How a member's record is pruned within its lifetime.
 
 use crate::held::Held;
 use crate::view_types::FlatEntries;
@@ -6,10 +6,10 @@ use crate::view_types::FlatEntries;
 impl Held {
     ghost use Rattle.ffi_member.specs.Pruning.{IsPruned};
 
-    /// Takes away from the record what a restart would prune, but for views that the state still tracks, and shows all that is
-    /// left as frames, to be stored in place of the journal; also of a member that has failed. The life goes on as it is.
+    /// Removes from the record what a restart would prune, except for views that the state still tracks, and loads all that is left as
+    /// frames, to be stored in place of the journal. This works also for a member that has failed. The lifetime continues unchanged.
     ///
-    /// The record is pruned also where there was no memory to show it: then it is shown by `entries`.
+    /// The record is pruned also if there was no memory to load it: then `entries` loads it.
     pub fn prune_record(&mut self) -> FlatEntries
         ensures { IsPruned self.old result self.new }
     {

@@ -1,4 +1,4 @@
-//! A resolver behind a handle, with the effects of what it was told last, and what it last served.
+//! A resolver behind a handle, with the effects of its last input, and what it last served.
 
 ghost use Rattle.std.specs.Prelude.{◌≡◌, ◌⊎◌, ◌<◌, ◌≤◌, ◌++◌, [], Some, OnOk, OnErr, IfOk, IfErr, IfSome, MatchOption, length};
 ghost use Rattle.simplex_types.specs.Certificates.{certificate_facts, notarization_facts};
@@ -11,6 +11,8 @@ ghost use Rattle.ffi_member.specs.ResolverHandles.{HasNoEffects, HasServed, HasS
 ghost use Rattle.ffi_member.specs.ShownFacts.{IsChunk};
 
 use crate::flat_calls::{finalization_of, notarization_of, nullification_of};
+use crate::flat_replies::STATUS_NOT_ALLOWED;
+use crate::held::{STATUS_NO_CALL, STATUS_NOT_MADE};
 use crate::journal::{NotRead, read_entries};
 use crate::kinds::{CertificateKind, certificate_kind_of, number_of_missing};
 use crate::numbers::{flag_of, number_of_fault, number_of_flag};
@@ -29,6 +31,9 @@ use std::alloc::{AllocError, Global};
 use std::collections::BTreeSet;
 use std::num::NonZeroU32;
 
+/// The kind of a verdict among a resolver's inputs: the others have the numbers of certificates.
+const VERDICT: u32 = 4;
+
 /// A certificate of a member of the host.
 type HostCertified = Certificate<HostScheme, HostDigest>;
 
@@ -39,11 +44,11 @@ pub enum NotReplayed {
     NoTerm,
     /// The journal is no record.
     Journal(NotRead),
-    /// The record is refused, or memory is wanting.
+    /// The record is refused, or memory ran out.
     Replay(ReplayError),
 }
 
-/// A resolver, the effects of what it was told last, and what it last served.
+/// A resolver, the effects of its last input, and what it last served.
 #[derive(Drop)]
 pub struct HeldResolver {
     alloc: Global,
@@ -55,7 +60,7 @@ pub struct HeldResolver {
 impl HeldResolver {
     ghost use Rattle.ffi_member.specs.ResolverHandles.{AreOutstanding, IsReplayedFrom, IsEffectAt, IsHeard, IsHeardAs, IsNotReplayedFrom, IsServedFor, IsSettledAt};
 
-    /// A resolver that starts from the bytes of a journal, with its first fetches open.
+    /// Starts a resolver from the bytes of a journal, with its first fetches open.
     pub fn start(
         alloc: Global,
         term_length: u32,
@@ -82,23 +87,23 @@ impl HeldResolver {
         }
     }
 
-    /// Tells of a certificate that was newly accepted, or of a verdict. The effects are read below until it is told again.
+    /// Passes a newly accepted certificate, or a verdict, to the resolver. The functions below read the effects until the next input.
     pub fn told(&mut self, flat: &FlatResolverReply, certificate: &[u8]) -> FlatEffects
         ensures { IsHeard self.old flat.now certificate.now result self.new }
     {
         let Some(success) = flag_of(flat.success) else {
-            return no_effects(6);
+            return no_effects(STATUS_NO_CALL);
         };
         if flat.proposal.round.view == 0 {
-            return no_effects(5);
+            return no_effects(STATUS_NOT_ALLOWED);
         }
-        if flat.kind == 4 {
+        if flat.kind == VERDICT {
             return self.judged(flat, success, certificate);
         }
         match certificate_in(self.alloc, flat, certificate) {
             Ok(Some(it)) => self.updated(&it),
-            Ok(None) => no_effects(6),
-            Err(_) => no_effects(7),
+            Ok(None) => no_effects(STATUS_NO_CALL),
+            Err(_) => no_effects(STATUS_NOT_MADE),
         }
     }
 
@@ -111,7 +116,7 @@ impl HeldResolver {
     {
         match notarization_of(self.alloc, &flat.proposal, certificate) {
             Ok(it) => self.certified(it, success),
-            Err(_) => no_effects(7),
+            Err(_) => no_effects(STATUS_NOT_MADE),
         }
     }
 
@@ -141,9 +146,10 @@ impl HeldResolver {
         }
     }
 
-    /// Keeps the effects of what was told.
+    /// Stores the effects of an input.
     fn keep(&mut self, effects: Vec<Effect>) -> FlatEffects
-        ensures told { (result.status ≡ 0) × (result.count ≡ length effects.items) × (result.fetches ≡ length self.old.resolver.open_fetches) }
+        ensures told { (result.status ≡ 0) × (result.count ≡ length effects.items)
+            × (result.fetches ≡ length self.old.resolver.open_fetches) }
         ensures kept { self.new ≡ record self.old { last = effects } }
     {
         let count = effects.len() as u64;
@@ -156,7 +162,7 @@ impl HeldResolver {
         }
     }
 
-    /// Keeps that nothing was told.
+    /// Clears the effects after an input that failed.
     fn lose(&mut self, fault: Fault) -> FlatEffects
         ensures told { HasNoEffects (fault_status fault) result }
         ensures kept { (self.new.resolver ≡ self.old.resolver) × (self.new.served ≡ self.old.served) }
@@ -166,7 +172,7 @@ impl HeldResolver {
         no_effects(number_of_fault(fault))
     }
 
-    /// An effect of what was told last.
+    /// Returns an effect of the last input.
     pub fn effect(&self, index: u64) -> FlatEffect
         ensures { IsEffectAt self.now.last.items index result }
     {
@@ -176,7 +182,7 @@ impl HeldResolver {
         }
     }
 
-    /// What the resolver knows of a view.
+    /// Returns what the resolver knows of a view.
     pub fn settled(&self, view: u64) -> FlatSettled
         ensures { IsSettledAt self.now.resolver view result }
     {
@@ -193,7 +199,7 @@ impl HeldResolver {
         }
     }
 
-    /// Shows the views whose fetch is open, rising.
+    /// Loads the views with an open fetch, rising.
     pub fn outstanding(&mut self) -> FlatOutstanding
         ensures { AreOutstanding self.old result self.new }
     {
@@ -215,14 +221,14 @@ impl HeldResolver {
         }
     }
 
-    /// Shows what a peer is served for a view.
+    /// Loads what a peer is served for a view.
     pub fn produce(&mut self, view: u64) -> FlatServed
         ensures { IsServedFor self.old view result self.new }
     {
         serve_in(&self.resolver, view, &mut self.served)
     }
 
-    /// A part of what was served last.
+    /// Returns a part of what was served last.
     pub fn chunk(&self, from: u64) -> FlatChunk
         ensures { IsChunk self.now.served.items from result }
     {
@@ -230,7 +236,7 @@ impl HeldResolver {
     }
 }
 
-/// Shows what a resolver serves a peer for a view, in place of what was shown.
+/// Loads what a resolver serves a peer for a view, in place of what was loaded before.
 pub fn serve_in(resolver: &LawfulResolver, view: u64, served: &mut BytesMut) -> FlatServed
     ensures view { result.view ≡ view }
     ensures served { HasServedOf resolver.now.state view result served.new.items }
@@ -260,7 +266,7 @@ fn serve(view: u64, bytes: &[u8], served: &mut BytesMut) -> FlatServed
     }
 }
 
-/// Views are written behind the bytes of `out`, eight bytes each.
+/// Appends views to the bytes of `out`, eight bytes each.
 fn put_views(out: &mut BytesMut, views: &BTreeSet<View>) -> Result<(), AllocError>
     ensures { OnOk result (out.new.items ≡ out.old.items ++ view_bytes views.now.keys) }
 {
@@ -271,7 +277,7 @@ fn put_views(out: &mut BytesMut, views: &BTreeSet<View>) -> Result<(), AllocErro
     Ok(())
 }
 
-/// The certificate that is handed in; none where no certificate has the kind.
+/// Returns the certificate that is passed; `None` if no certificate has the kind.
 fn certificate_in(
     alloc: Global,
     flat: &FlatResolverReply,
@@ -311,7 +317,7 @@ pub(crate) fn no_effects(status: u32) -> FlatEffects
     }
 }
 
-/// That a peer is served nothing.
+/// Returns the result that a peer is served nothing.
 pub fn unserved(view: u64, status: u32) -> FlatServed
     ensures status { result.status ≡ status }
     ensures view { result.view ≡ view }
@@ -325,6 +331,16 @@ pub fn unserved(view: u64, status: u32) -> FlatServed
     }
 }
 
+/// The kinds of effects, as the header numbers them.
+const FETCH: u32 = 1;
+
+const SETTLED: u32 = 2;
+
+const FINALIZED: u32 = 3;
+
+const RAISED: u32 = 4;
+
+/// Returns the flat form of an effect.
 fn flat_effect(effect: Effect) -> FlatEffect
     ensures effect { IsEffect effect result }
     ensures status { result.status ≡ 0 }
@@ -335,7 +351,7 @@ fn flat_effect(effect: Effect) -> FlatEffect
             cause,
             reason,
         } => FlatEffect {
-            kind: 1,
+            kind: FETCH,
             reason: match reason {
                 FetchReason::MissingNullification => 0,
                 FetchReason::CertificationFailed => 1,
@@ -345,26 +361,26 @@ fn flat_effect(effect: Effect) -> FlatEffect
             ..no_effect()
         },
         Effect::Settled { kind, start, end } => FlatEffect {
-            kind: 2,
+            kind: SETTLED,
             reason: number_of_missing(kind),
             view: start.get(),
             end: end.get(),
             ..no_effect()
         },
         Effect::Finalized(view) => FlatEffect {
-            kind: 3,
+            kind: FINALIZED,
             view: view.get(),
             ..no_effect()
         },
         Effect::Raised(view) => FlatEffect {
-            kind: 4,
+            kind: RAISED,
             view: view.get(),
             ..no_effect()
         },
     }
 }
 
-/// That there is no effect.
+/// Returns the result that there is no effect.
 pub(crate) fn no_effect() -> FlatEffect
     ensures { (result.status ≡ 0) × (result.kind ≡ 0) }
 {
@@ -379,7 +395,7 @@ pub(crate) fn no_effect() -> FlatEffect
     }
 }
 
-/// The number of what refuses the start of a resolver.
+/// Returns the number of an error of a resolver's start.
 pub fn number_of_not_replayed(error: NotReplayed) -> u32
     ensures { result ≡ not_replayed_number error }
 {

@@ -1,4 +1,4 @@
-//! How a member goes on: from a journal in another process, or restarted in this one.
+//! How a member resumes from a journal in another process, or restarts in this one.
 
 ghost use Rattle.std.specs.Prelude.{◌≡◌, ◌≤◌, nat_lt, length, IfOk, IfErr, MatchOption};
 ghost use Rattle.ffi_scheme.specs.HostLeaders.{host_members};
@@ -15,26 +15,26 @@ use simplex_member::member::{Member, RecoverError, Restart, ResumeError, Stored}
 use simplex_types::types::ViewDelta;
 use std::alloc::Global;
 
-/// Why no member goes on from a journal.
+/// Why no member resumes from a journal.
 #[derive(Clone, Copy, PartialEq, Eq, Debug)]
 pub enum NotResumed {
-    /// The settings are none of a member.
+    /// No member has these settings.
     Settings(SettingsError),
-    /// What was stored beside the journal has a number that has to be 0 or 1, and is another.
+    /// One of the numbers stored beside the journal must be 0 or 1, and is neither.
     NoFlag,
     /// The journal is no record.
     Journal(NotRead),
-    /// There are fewer entries than were stored, or than were closed: votes may be among those that are lost.
+    /// There are fewer entries than were stored, or than were closed: votes may be among the lost ones.
     EntriesLost,
-    /// The record is refused, or memory is wanting.
+    /// The record is refused, or memory ran out.
     Recover(RecoverError),
 }
 
 impl Held {
     ghost use Rattle.ffi_member.specs.Resumption.{IsRestartedBy, IsResumedBy};
 
-    /// A member that goes on from its journal: the bytes that its entries were as frames, and what was stored beside them last.
-    /// Nothing is dropped or pruned.
+    /// Resumes a member from its journal: the bytes of its entries as frames, and what was last stored beside them. Nothing is dropped or
+    /// pruned.
     pub fn resume(
         alloc: Global,
         flat: &FlatSettings,
@@ -45,9 +45,10 @@ impl Held {
         journal: &[u8],
     ) -> Result<Held, NotResumed>
         ensures resumed { IfOk result (IsResumedBy flat.now leaders.now certificate.now now stored.now journal.now) }
-        ensures refused { IfErr result (IsNotResumedBy flat.now leaders.now certificate.now now stored.now journal.now) }
+        ensures refused { IfErr result
+            (IsNotResumedBy flat.now leaders.now certificate.now now stored.now journal.now) }
     {
-        let from = resumption(alloc, flat, leaders, certificate, now, stored, journal)?;
+        let from = read_resumption(alloc, flat, leaders, certificate, now, stored, journal)?;
         match Member::resume(alloc, from.start, from.stored, from.entries) {
             Ok(member) => Ok(Held::new(alloc, member)),
             Err(refusal) => match refusal.error {
@@ -57,10 +58,10 @@ impl Held {
         }
     }
 
-    /// Ends the member's life, also one that has failed, and begins another from its record, with these settings. The last entries
-    /// are dropped and the record is pruned first, as asked.
+    /// Ends the member's lifetime, also one that has failed, and begins another from its record, with these settings. Before that it drops
+    /// the last entries and prunes the record, as asked.
     ///
-    /// Where the settings are refused nothing changes.
+    /// If the settings are refused, nothing changes.
     pub fn restart(
         &mut self,
         flat: &FlatRestart,
@@ -94,7 +95,7 @@ impl Held {
     }
 }
 
-/// With what a member goes on: its settings, what is stored beside its record, and the record.
+/// The input of a resume: the member's settings, what is stored beside its record, and the record.
 #[derive(Drop)]
 pub struct Resumption {
     pub start: HostStart,
@@ -102,8 +103,8 @@ pub struct Resumption {
     pub entries: Vec<HostArtifact>,
 }
 
-/// With what a member goes on, by flat settings and the bytes of a journal, which has all entries that were counted.
-pub fn resumption(
+/// Returns the input of a resume, from flat settings and the bytes of a journal, which has all entries that were counted.
+pub fn read_resumption(
     alloc: Global,
     flat: &FlatSettings,
     leaders: &[u32],
@@ -112,9 +113,12 @@ pub fn resumption(
     stored: &FlatStored,
     journal: &[u8],
 ) -> Result<Resumption, NotResumed>
-    ensures from { IfOk result (λ it. IsResumption flat.now leaders.now certificate.now now stored.now journal.now it.start it.stored it.entries.items) }
+    ensures from { IfOk result
+        (λ it. IsResumption flat.now leaders.now certificate.now now stored.now journal.now it.start it.stored
+        it.entries.items) }
     ensures whole { IfOk result (λ it. stored.now.entries ≤ length it.entries.items) }
-    ensures fits { IfOk result (λ it. host_members it.start.settings.elector ≡ length (host_keys it.start.settings.scheme)) }
+    ensures fits { IfOk result
+        (λ it. host_members it.start.settings.elector ≡ length (host_keys it.start.settings.scheme)) }
     ensures refused { IfErr result (IsNotResumedBy flat.now leaders.now certificate.now now stored.now journal.now) }
 {
     let start = match start_of(alloc, flat, leaders, certificate, now) {
@@ -138,7 +142,7 @@ pub fn resumption(
     })
 }
 
-/// What was stored beside a journal; none where its flag is none.
+/// Returns what was stored beside a journal; `None` if its flag is not valid.
 fn stored_of(flat: &FlatStored) -> Option<Stored>
     ensures { MatchOption result (2 ≤ flat.now.is_pruned) (IsFlatStored flat.now) }
 {
@@ -151,7 +155,7 @@ fn stored_of(flat: &FlatStored) -> Option<Stored>
     })
 }
 
-/// Whether there are fewer entries than this.
+/// Returns whether there are fewer entries than this.
 fn has_fewer(entries: &[HostArtifact], count: u64) -> bool
     ensures { result ≡ nat_lt (length entries.now) count }
 {

@@ -1,4 +1,4 @@
-//! How a member starts, by flat settings.
+//! How a member starts from flat settings.
 
 ghost use Rattle.std.specs.Prelude.{◌≡◌, ◌<◌, Some, None, IfOk, IfErr, OnOk, MatchOption, length};
 ghost use Rattle.std.specs.Option.{ForSome, option_or};
@@ -23,21 +23,21 @@ use std::num::{NonZeroU32, NonZeroU64};
 /// The settings of a member of the host.
 pub type HostConfig = Config<HostScheme, HostDigest>;
 
-/// Why flat settings are none of a member.
+/// Why no member has these flat settings.
 #[derive(Clone, Copy, PartialEq, Eq, Debug)]
 pub enum SettingsError {
     OutOfMemory,
-    /// There is no member, or the one that signs is none of them.
+    /// There is no member, or the one that signs is not among them.
     NoSuchMember,
     /// A term has no view, or the table of leaders no entry.
     NothingLeads,
-    /// A number that has to be 0 or 1 is another.
+    /// A number that must be 0 or 1 is neither.
     NoFlag,
-    /// An entry of the table of leaders is no member's index.
+    /// An entry of the table of leaders is not a member's index.
     NoSuchLeader,
-    /// The table of leaders has another number of entries than there are members, and no certificate names leaders.
+    /// The table of leaders does not have one entry a member, and no certificate names leaders.
     OtherTable,
-    /// They break a rule of an engine's settings.
+    /// They break a rule of a member's settings.
     Refused(StartError),
 }
 
@@ -55,7 +55,7 @@ impl From<AllocError> for SettingsError {
 /// How a member of the host starts.
 pub type HostStart = Start<HostScheme, HostElector, HostDigest>;
 
-/// How a member starts by flat settings, which are tested: with a table of leaders and the bytes of the floor's certificate, at a
+/// Checks flat settings, and returns how a member starts from them, with a table of leaders and the bytes of the floor's certificate, at a
 /// moment in milliseconds.
 pub fn start_of(
     alloc: Global,
@@ -66,7 +66,8 @@ pub fn start_of(
 ) -> Result<HostStart, SettingsError>
     ensures made { IfOk result (IsStart flat.now leaders.now certificate.now now) }
     ensures refused { IfErr result (IsNoStart flat.now leaders.now certificate.now) }
-    ensures fits { IfOk result (λ start. host_members start.settings.elector ≡ length (host_keys start.settings.scheme)) }
+    ensures fits { IfOk result
+        (λ start. host_members start.settings.elector ≡ length (host_keys start.settings.scheme)) }
 {
     let config = config_of(alloc, flat, certificate)?;
     let elector = elector_of(alloc, flat, leaders)?;
@@ -76,7 +77,7 @@ pub fn start_of(
     }
 }
 
-/// The settings that flat ones are, with the bytes of the floor's certificate.
+/// Returns the settings of a flat struct, with the bytes of the floor's certificate.
 pub fn config_of(
     alloc: Global,
     flat: &FlatSettings,
@@ -101,7 +102,7 @@ pub fn config_of(
     })
 }
 
-/// The elector that flat settings name, with a table of leaders.
+/// Returns the elector that flat settings name, with a table of leaders.
 pub fn elector_of(
     alloc: Global,
     flat: &FlatSettings,
@@ -127,11 +128,12 @@ pub fn elector_of(
     })
 }
 
-/// Whether leaders are drawn from certificates; the table of leaders is tested for that.
+/// Returns whether leaders are drawn from certificates; it checks the table of leaders for that.
 fn draws_in(flat: &FlatSettings, leaders: &[u32]) -> Result<bool, SettingsError>
     ensures draws { IfOk result (λ draws. flat.now.draws ≡ flag_number draws) }
     ensures accepted { OnOk result (option_or (flag_error flat.now.draws) (table_error flat.now leaders.now) ≡ None) }
-    ensures refused { IfErr result (λ error. option_or (flag_error flat.now.draws) (table_error flat.now leaders.now) ≡ Some error) }
+    ensures refused { IfErr result
+        (λ error. option_or (flag_error flat.now.draws) (table_error flat.now leaders.now) ≡ Some error) }
 {
     let Some(draws) = flag_of(flat.draws) else {
         return Err(SettingsError::NoFlag);
@@ -145,7 +147,7 @@ fn draws_in(flat: &FlatSettings, leaders: &[u32]) -> Result<bool, SettingsError>
     Ok(draws)
 }
 
-/// Whether each entry of a table is a member's index.
+/// Returns whether each entry of a table is a member's index.
 fn names_members(leaders: &[u32], members: u32) -> bool
     ensures { result ≡ names_members members leaders.now }
 {

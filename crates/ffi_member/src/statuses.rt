@@ -1,4 +1,4 @@
-//! Why there is no member, or a record is not shown, as numbers: 0 says that there is one, or that it is.
+//! Why there is no member, or why a record is not loaded, as numbers: 0 is success.
 
 ghost use Rattle.std.specs.Prelude.{◌≡◌};
 ghost use Rattle.ffi_member.specs.Statuses.{config_number, not_read_number, not_resumed_number, not_started_number, not_written_number, recover_number};
@@ -12,7 +12,7 @@ use simplex_member::member::RecoverError;
 use simplex_record::record::StartError;
 use simplex_types::config::ConfigError;
 
-/// The number of what refuses a start.
+/// Returns the number of an error of a start.
 pub fn number_of_not_started(error: NotStarted) -> u32
     ensures { result ≡ not_started_number error }
 {
@@ -22,7 +22,7 @@ pub fn number_of_not_started(error: NotStarted) -> u32
     }
 }
 
-/// The number of what refuses a resume.
+/// Returns the number of an error of a resume.
 pub fn number_of_not_resumed(error: NotResumed) -> u32
     ensures { result ≡ not_resumed_number error }
 {
@@ -35,7 +35,7 @@ pub fn number_of_not_resumed(error: NotResumed) -> u32
     }
 }
 
-/// The number of what a restart answers: 0 where it succeeds.
+/// Returns the number of a restart's result: 0 if it succeeds.
 pub fn number_of_restart(answer: Result<(), NotStarted>) -> u32
     ensures { result ≡ restart_number answer }
 {
@@ -87,7 +87,7 @@ fn number_of_config(error: ConfigError) -> u32
     }
 }
 
-/// The number of why a record's entries are not shown.
+/// Returns the number of why a record's entries are not loaded.
 pub fn number_of_not_written(error: NotWritten) -> u32
     ensures { result ≡ not_written_number error }
 {

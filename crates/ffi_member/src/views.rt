@@ -1,4 +1,4 @@
-//! What a member shows beside its replies.
+//! The data that the host can read of a member beside its replies.
 
 ghost use Rattle.std.specs.Prelude.{◌≡◌, ◌≤◌, ◌++◌, true, IfOk, IfSome, OnOk, OnErr, MatchOption, length, take, drop};
 ghost use Rattle.std.specs.Option.{IsSome, option_copied};
@@ -30,7 +30,7 @@ use std::alloc::{AllocError, Global};
 /// The state of a member of the host.
 pub type HostState = State<HostScheme, HostElector, HostDigest>;
 
-/// A proposal with nothing in it.
+/// An empty proposal.
 const NO_PROPOSAL: FlatProposal = FlatProposal {
     round: FlatRound { epoch: 0, view: 0 },
     parent: 0,
@@ -40,7 +40,7 @@ const NO_PROPOSAL: FlatProposal = FlatProposal {
 impl Held {
     ghost use Rattle.ffi_member.specs.ShownFacts.{IsChunkOf, IsEntries, IsFound, IsItem, IsStoredBeside, IsView};
 
-    /// What a journal stores beside the record; also of a member that has failed.
+    /// Returns what a journal stores beside the record; also of a member that has failed.
     pub fn stored(&self) -> FlatStored
         ensures { IsStoredBeside self.now.member.facts result }
     {
@@ -55,7 +55,7 @@ impl Held {
         }
     }
 
-    /// Shows what was recorded after the first `count` entries, as frames; also of a member that has failed.
+    /// Loads what was recorded after the first `count` entries, as frames; also of a member that has failed.
     pub fn entries(&mut self, count: u64) -> FlatEntries
         ensures { IsEntries self.old count result self.new }
     {
@@ -85,14 +85,14 @@ impl Held {
         }
     }
 
-    /// What the member knows, and what it knows of a view.
+    /// Returns what the member knows, and what it knows of a view.
     pub fn view(&self, view: u64) -> FlatView
         ensures { IsView self.now.member.facts view result }
     {
         view_in(self.member.state(), view)
     }
 
-    /// Shows the bytes of a view's certificate, and answers what it is of: 1 asks for a notarization, 2 for a nullification, 3 for a
+    /// Loads the bytes of a view's certificate, and returns its subject: 1 asks for a notarization, 2 for a nullification, 3 for a
     /// finalization.
     pub fn certificate(&mut self, kind: u32, view: u64) -> FlatFound
         ensures { IsFound self.old kind view result self.new }
@@ -100,14 +100,14 @@ impl Held {
         certificate_in(self.member.state(), kind, view, &mut self.shown)
     }
 
-    /// The bytes that were shown last.
+    /// Returns the bytes that were loaded last.
     pub fn shown(&self) -> &[u8]
         ensures { result.now ≡ self.now.shown.items }
     {
         self.shown.as_slice()
     }
 
-    /// A part of the bytes of the last reply, where `which` is 0, and else of those that were shown last.
+    /// Returns a part of the bytes of the last reply, if `which` is 0, and otherwise of those that were loaded last.
     pub fn chunk(&self, which: u32, from: u64) -> FlatChunk
         ensures { IsChunkOf self.now which from result }
     {
@@ -117,7 +117,7 @@ impl Held {
         chunk_of(self.shown(), from)
     }
 
-    /// An item of the last reply's lists: 1 asks for a proposal to certify, 2 for a certificate to fetch, 3 for a view that was
+    /// Returns an item of the last reply's lists: 1 asks for a proposal to certify, 2 for a certificate to fetch, 3 for a view that was
     /// dropped.
     pub fn item(&self, which: u32, index: u64) -> FlatItem
         ensures { IsItem self.now.last which index result }
@@ -132,7 +132,7 @@ impl Held {
     }
 }
 
-/// What a member in this state knows, and what it knows of a view; one that has failed has none.
+/// Returns what a member in this state knows, and what it knows of a view; a member that has failed has no state.
 pub fn view_in(state: Option<&HostState>, view: u64) -> FlatView
     requires { IfSome (option_copied state) (λ x. is_started x ≡ true) }
     ensures { IsViewIn (option_copied state.entry) view result }
@@ -146,7 +146,7 @@ pub fn view_in(state: Option<&HostState>, view: u64) -> FlatView
     }
 }
 
-/// Shows the bytes of a view's certificate in a state, in place of what was shown, and answers what it is of.
+/// Loads the bytes of a view's certificate in a state, in place of what was loaded before, and returns its subject.
 pub fn certificate_in(
     state: Option<&HostState>,
     kind: u32,
@@ -172,7 +172,7 @@ pub fn certificate_in(
     }
 }
 
-/// What a state knows, and what it knows of a view.
+/// Returns what a state knows, and what it knows of a view.
 fn view_of(state: &HostState, view: View) -> FlatView
     requires { is_started state.now ≡ true }
     ensures { IsViewOf state.now view result }
@@ -197,7 +197,7 @@ fn view_of(state: &HostState, view: View) -> FlatView
     }
 }
 
-/// The proposal of a view that may be forwarded, with 1 where there is one.
+/// Returns the proposal of a view that may be forwarded, with 1 if there is one.
 fn forwardable_of(state: &HostState, view: View) -> (u32, FlatProposal)
     ensures { HasForwardable (forwardable_of state.now view) result.0 result.1 }
 {
@@ -207,7 +207,7 @@ fn forwardable_of(state: &HostState, view: View) -> (u32, FlatProposal)
     }
 }
 
-/// The index of a member, or the greatest number where there is none.
+/// Returns the index of a member, or the greatest number if there is none.
 fn number_of_index(index: Option<Participant>) -> u32
     ensures { result ≡ index_number index }
 {
@@ -217,7 +217,7 @@ fn number_of_index(index: Option<Participant>) -> u32
     }
 }
 
-/// What stands in the place of what is known, where nothing is.
+/// Returns an empty view, for a member that knows nothing.
 pub(crate) fn no_view() -> FlatView {
     FlatView {
         status: 0,
@@ -238,7 +238,7 @@ pub(crate) fn no_view() -> FlatView {
     }
 }
 
-/// The bytes of a view's certificate are written behind those of `out`.
+/// Appends the bytes of a view's certificate to those of `out`.
 fn show_certificate(
     state: &HostState,
     kind: CertificateKind,
@@ -246,7 +246,8 @@ fn show_certificate(
     out: &mut BytesMut,
 ) -> Result<FlatFound, AllocError>
     ensures found { IfOk result (λ r. (r.status ≡ 0)
-        × ShowsCertificate (certificate_of_kind (certificate_number kind) state.now view) r out.old.items out.new.items) }
+        × ShowsCertificate (certificate_of_kind (certificate_number kind) state.now view) r
+        out.old.items out.new.items) }
     ensures wanting { OnErr result (IsSome (certificate_of_kind (certificate_number kind) state.now view)) }
 {
     match kind {
@@ -280,14 +281,16 @@ fn show_certificate(
     }
 }
 
-/// Bytes are written behind those of `out`.
+/// Appends bytes to those of `out`.
 fn show(
     out: &mut BytesMut,
     kind: CertificateKind,
     proposal: FlatProposal,
     bytes: &[u8],
 ) -> Result<FlatFound, AllocError>
-    ensures found { IfOk result (λ r. (r.status ≡ 0) × (r.has ≡ certificate_number kind) × (r.proposal ≡ proposal) × (r.bytes ≡ length bytes.now)) }
+    ensures found { IfOk result
+        (λ r. (r.status ≡ 0) × (r.has ≡ certificate_number kind) × (r.proposal ≡ proposal)
+        × (r.bytes ≡ length bytes.now)) }
     ensures written { OnOk result (out.new.items ≡ out.old.items ++ bytes.now) }
 {
     out.put_slice(bytes)?;
@@ -299,7 +302,7 @@ fn show(
     })
 }
 
-/// What a nullification of a round is of.
+/// Returns the subject of a nullification of a round.
 fn of_round(round: FlatRound) -> FlatProposal
     ensures { result.round ≡ round }
 {
@@ -309,7 +312,7 @@ fn of_round(round: FlatRound) -> FlatProposal
     }
 }
 
-/// That no certificate is found.
+/// Returns the result that no certificate is found.
 pub(crate) fn unfound(status: u32) -> FlatFound
     ensures status { result.status ≡ status }
     ensures nothing { (result.has ≡ 0) × (result.bytes ≡ 0) }
@@ -364,7 +367,7 @@ fn view_item(view: Option<u64>) -> FlatItem
     }
 }
 
-/// That there is no item.
+/// Returns the result that there is no item.
 pub(crate) fn no_item() -> FlatItem
     ensures { (result.status ≡ 0) × (result.has ≡ 0) }
 {
@@ -380,7 +383,7 @@ pub(crate) fn no_item() -> FlatItem
     }
 }
 
-/// A part of bytes as a chunk.
+/// Returns a part of bytes as a chunk.
 pub fn chunk_of(bytes: &[u8], from: u64) -> FlatChunk
     ensures { IsChunk bytes.now from result }
 {
@@ -395,7 +398,7 @@ pub fn chunk_of(bytes: &[u8], from: u64) -> FlatChunk
     }
 }
 
-/// A part of bytes, from the byte `from` on, as many as a chunk has room for.
+/// Returns a part of bytes, from the byte `from` on, as many as a chunk has room for.
 fn part_of(bytes: &[u8], from: u64) -> &[u8]
     ensures part { result.now ≡ take 1024 (drop from bytes.now) }
     ensures room { length result.now ≤ 1024 }
@@ -406,7 +409,7 @@ fn part_of(bytes: &[u8], from: u64) -> &[u8]
     front_of(left)
 }
 
-/// As many bytes as a chunk has room for.
+/// Returns the first bytes, as many as a chunk has room for.
 fn front_of(bytes: &[u8]) -> &[u8]
     ensures part { result.now ≡ take 1024 bytes.now }
     ensures room { length result.now ≤ 1024 }
@@ -417,7 +420,7 @@ fn front_of(bytes: &[u8]) -> &[u8]
     }
 }
 
-/// What a vote of a kind signs; of one to nullify the round alone counts.
+/// Returns the text that a vote of a kind signs; for a vote to nullify only the round counts.
 pub fn subject_text(alloc: Global, kind: u32, proposal: &FlatProposal) -> FlatText
     ensures { IsText kind proposal.now result }
 {
@@ -430,7 +433,7 @@ pub fn subject_text(alloc: Global, kind: u32, proposal: &FlatProposal) -> FlatTe
     }
 }
 
-/// What a vote of a kind is on; none where no vote has the kind.
+/// Returns the subject of a vote of a kind; `None` if no vote has the kind.
 fn subject_of(kind: u32, proposal: &FlatProposal) -> Option<Subject<HostDigest>>
     ensures { MatchOption result (IsNoKind kind) (IsSubject kind proposal.now) }
 {
@@ -441,7 +444,7 @@ fn subject_of(kind: u32, proposal: &FlatProposal) -> Option<Subject<HostDigest>>
     })
 }
 
-/// The text of a vote.
+/// Returns the text of a vote.
 fn text_of(text: &[u8]) -> FlatText
     requires { length text.now ≤ 64 }
     ensures status { result.status ≡ 0 }
@@ -457,7 +460,7 @@ fn text_of(text: &[u8]) -> FlatText
     }
 }
 
-/// That there is no text.
+/// Returns the result that there is no text.
 fn no_text(status: u32) -> FlatText
     ensures { result.status ≡ status }
 {

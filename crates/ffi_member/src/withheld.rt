@@ -14,7 +14,7 @@ use simplex_voter::voter::Withheld;
 impl Held {
     ghost use Rattle.ffi_member.specs.Withheld.{IsWithheld};
 
-    /// Why the member withholds its vote of a kind on a view: 1 asks for a vote to notarize, 2 to nullify, 3 to finalize.
+    /// Returns why the member withholds its vote of a kind on a view: 1 asks for a vote to notarize, 2 to nullify, 3 to finalize.
     pub fn withheld(&self, kind: u32, view: u64) -> FlatWithheld
         ensures { IsWithheld self.now.member.facts kind view result }
     {
@@ -22,7 +22,7 @@ impl Held {
     }
 }
 
-/// Why a member in this state withholds its vote of a kind on a view; one that has failed has none.
+/// Returns why a member in this state withholds its vote of a kind on a view; a member that has failed has no state.
 pub fn withheld_in(state: Option<&HostState>, kind: u32, view: u64) -> FlatWithheld
     ensures { IsWithheldIn (option_copied state.entry) kind view result }
 {
@@ -38,7 +38,7 @@ pub fn withheld_in(state: Option<&HostState>, kind: u32, view: u64) -> FlatWithh
     }
 }
 
-/// Why a vote of a kind is withheld.
+/// Returns why a vote of a kind is withheld.
 fn withheld_of(state: &HostState, kind: VoteKind, view: View) -> Option<Withheld>
     ensures { result ≡ withheld_of_vote kind state.now view }
 {
@@ -49,7 +49,7 @@ fn withheld_of(state: &HostState, kind: VoteKind, view: View) -> Option<Withheld
     }
 }
 
-/// The number of a reason; 0 where the vote is not withheld.
+/// Returns the number of a reason; 0 if the vote is not withheld.
 fn number_of_withheld(withheld: Option<Withheld>) -> u32
     ensures { result ≡ withheld_number withheld }
 {
@@ -75,7 +75,7 @@ fn number_of_withheld(withheld: Option<Withheld>) -> u32
     }
 }
 
-/// That there is no reason, for this status.
+/// Returns the result that there is no reason, for this status.
 pub(crate) fn no_reason(status: u32) -> FlatWithheld
     ensures { result.status ≡ status }
 {

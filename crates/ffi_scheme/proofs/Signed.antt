@@ -1,4 +1,4 @@
--- Bytes that are put behind others, and signatures that are put one by one.
+-- Bytes that are written after others, and signatures that are written one by one.
 use Rattle.std.proofs.Common.{◌≡◌, ◌<◌, ◌+◌, ℕ, suc, List, [], ◌∷◌, ◌++◌, length, take, get_or, arith, ap, sym, subst, ◌∙◌}
 use Rattle.std.specs.List.{flat_map}
 use Rattle.std.proofs.Math.Seq.{take-suc}
@@ -6,7 +6,7 @@ use Rattle.std.proofs.lemmas.Grind.{common_steps, flat_map-append}
 use Rattle.ffi_scheme.specs.declared.scheme.Order.{Order}
 use Rattle.ffi_scheme.specs.HostCertificates.{signature_bytes, signed_bytes}
 
--- three parts, one behind the other
+-- three parts, one after another
 pub three_behind : (old one two three first second : List ℕ) → first ≡ old ++ one → second ≡ first ++ two
     → second ++ three ≡ old ++ (one ++ (two ++ three))
 three_behind old one two three first second put more = grind (arith, common_steps, put, more)
@@ -22,7 +22,7 @@ more_taken signatures i signed low is =
 one_signed : (signed : ℕ × Order) → signed_bytes (signed ∷ []) ≡ signature_bytes signed.0 signed.1
 one_signed signed = grind (arith, common_steps)
 
--- stands behind those before it
+-- comes after those before it
 pub signed_more : (signatures : List (ℕ × Order)) (i : ℕ) (signed : ℕ × Order) (out new : List ℕ) → i < length signatures
     → get_or signatures i signed ≡ signed → out ≡ signed_bytes (take i signatures) → new ≡ out ++ signature_bytes signed.0 signed.1
     → new ≡ signed_bytes (take (i + 1) signatures)

@@ -1,4 +1,4 @@
--- The scheme of an engine that is written elsewhere, as contracts see it.
+-- The scheme of a host that is written in another language, as contracts see it.
 use Rattle.std.specs.Prelude.{◌≡◌, ℕ, List, map, length, Option, Some, None, nat_lt, if◌then◌else◌, take, drop, ◌++◌}
 use Rattle.std.specs.Int.{w32, to_be_bytes, from_be_bytes}
 use Rattle.std.specs.List.{range_with_len}
@@ -21,7 +21,7 @@ host_keys s = s.keys.items
 abbrev pub certificate_bytes : HostCertificate → List ℕ
 certificate_bytes c = c.bytes
 
--- what is ordered is to sign, with this key, the bytes of just this subject
+-- the order is to sign, with this key, the bytes of exactly this subject
 abbrev pub IsOrder : {D : Type 0} → (D → List ℕ) → HostKey → Subject D → Order → Type 0
 IsOrder payload_bytes key subject order = (order.key ≡ key) × (order.text ≡ subject_bytes payload_bytes subject)
 
@@ -33,6 +33,7 @@ host_keys_below n = map (λ i. record { 0 = i }) (range_with_len 0 n)
 abbrev pub order_bytes : Order → List ℕ
 order_bytes s = to_be_bytes w32 s.key.0 ++ s.text
 
--- an order read back: its key in four bytes, and what is to be signed
+-- an order read back: its key in four bytes, and what to sign
 abbrev pub order_of : List ℕ → Option Order
-order_of bytes = if nat_lt (length bytes) 4 then None else Some (record { key = record { 0 = from_be_bytes w32 (take 4 bytes) }; text = drop 4 bytes })
+order_of bytes = if nat_lt (length bytes) 4 then None
+    else Some (record { key = record { 0 = from_be_bytes w32 (take 4 bytes) }; text = drop 4 bytes })

@@ -1,4 +1,4 @@
-//! Certificates of the host's votes: their signatures, one behind the other.
+//! Certificates of the host's votes: their signatures, one after another.
 
 ghost use Rattle.std.specs.Prelude.{◌≡◌, refl, true, OnOk, ◌++◌};
 ghost use Rattle.ffi_scheme.specs.Host.{certificate_bytes};
@@ -31,7 +31,7 @@ impl Assembly<HostDigest> for HostScheme {
     ghost made_is_good = { λ _ _ _ _ _ _. refl };
 }
 
-/// A member's signature is written behind the bytes of `out`.
+/// Writes a member's signature after the bytes of `out`.
 fn put_signature(out: &mut BytesMut, member: Participant, order: &Order) -> Result<(), AllocError>
     ensures { OnOk result (out.new.items ≡ out.old.items ++ signature_bytes member order.now) }
 {

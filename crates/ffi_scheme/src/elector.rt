@@ -1,13 +1,13 @@
-//! Leaders by a table, or drawn by the engine.
+//! Leaders by a table, or drawn by the host.
 
 ghost use Rattle.std.specs.Prelude.{◌≡◌, ◌<◌, ◌^◌, true, false, length};
 
 use simplex_types::types::{CertificateScheme, Elector, Participant, Round, Terms, View};
 
-/// The table's members lead in turn, one each term, from its start again after its end; or the certificate that leads to a
-/// term names its leader in its first four bytes, and the table serves where there is none.
+/// The table's members lead round-robin, one each term. Or the certificate that leads to a term names its leader in its
+/// first four bytes, and the table is used if there is none.
 ///
-/// A number that is no member's index stands for its rest by the number of members.
+/// A number that is no member's index counts as its remainder by the number of members.
 #[derive(Drop)]
 pub struct HostElector {
     leaders: Vec<u32>,
@@ -22,7 +22,7 @@ pub struct HostElector {
 impl HostElector {
     ghost use Rattle.ffi_scheme.specs.HostLeaders.{host_members, host_terms, table_of, is_early, in_table, number_in};
 
-    /// The elector of this many members, who lead as the table says, whatever the certificates are.
+    /// Returns the elector of this many members, who lead as the table says, whatever the certificates are.
     pub fn by_table(leaders: Vec<u32>, count: u32, terms: Terms) -> HostElector
         requires leaders { 0 < length leaders.items }
         requires members { 0 < count }
@@ -39,7 +39,7 @@ impl HostElector {
         }
     }
 
-    /// The elector of this many members, who lead as the certificates say, and without one as the table does.
+    /// Returns the elector of this many members, who lead as the certificates say, and without one as the table does.
     pub fn drawn(leaders: Vec<u32>, count: u32, terms: Terms) -> HostElector
         requires leaders { 0 < length leaders.items }
         requires members { 0 < count }
@@ -65,7 +65,7 @@ impl HostElector {
         self.leaders[place as usize]
     }
 
-    /// The number in a certificate's first four bytes, big-endian; none where it has fewer.
+    /// The number in a certificate's first four bytes, big-endian; `None` if it has fewer.
     fn number_in(bytes: &[u8]) -> Option<u32>
         ensures { result ≡ number_in bytes.now }
     {

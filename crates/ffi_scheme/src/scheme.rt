@@ -1,7 +1,7 @@
-//! Who signs, and what certificates are, where an engine in another language signs and verifies.
+//! Signing and certificates where a host in another language signs and verifies.
 //!
-//! The core's signature of a vote is an order: the member's index and the very bytes that the engine is to sign. So what is
-//! proved of signatures is proved of what is ordered; that the engine signs nothing else is its own duty.
+//! The core's signature of a vote is an order: the member's index and the very bytes that the host must sign. So what is
+//! proved of signatures is proved of orders; the host itself must sign nothing else.
 
 ghost use Rattle.std.specs.Prelude.{◌≡◌, ◌<◌, ℕ, true, List, Option, Some, None, length, IfOk, OnOk};
 ghost use Rattle.std.specs.Option.{ForSome};
@@ -21,7 +21,7 @@ pub struct HostKey(pub u32);
 
 impl PublicKey for HostKey {}
 
-/// What the engine is to sign: the text, under the key of the member.
+/// An order to the host: sign the text, under the key of the member.
 #[derive(Drop)]
 pub struct Order {
     pub key: HostKey,
@@ -31,7 +31,7 @@ pub struct Order {
 impl Order {
     ghost use Rattle.ffi_scheme.specs.Host.{IsOrder};
 
-    /// The order to sign a subject.
+    /// Returns the order to sign a subject.
     pub fn new<D: Digest>(
         alloc: Global,
         key: HostKey,
@@ -44,7 +44,7 @@ impl Order {
     }
 }
 
-/// A certificate's bytes, which the engine made and verified.
+/// A certificate's bytes, which the host made and verified.
 #[derive(Drop)]
 pub struct HostCertificate {
     pub bytes: Bytes,
@@ -149,7 +149,7 @@ impl<D: Digest> Scheme<D> for HostScheme {
         Ok(Some(Order::new(alloc, key, subject)?))
     }
 
-    /// The engine verified it before it handed it in.
+    /// The host verified it before it passed it in.
     fn verify(&self, _subject: &Subject<D>, _certificate: &HostCertificate) -> bool {
         true
     }

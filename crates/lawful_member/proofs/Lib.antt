@@ -1,3 +1,3 @@
--- What the code of lawful members rests on: evidence, and what a journal holds.
+-- Lemmas for the code of lawful members: evidence, and the contents of a journal.
 mod Evidence
 mod Stored

@@ -1,5 +1,5 @@
 -- For `LawfulMember::call`.
--- What is stored beside a record stays where a call is made.
+-- A call keeps what is stored beside a record.
 use Rattle.std.proofs.Common.{◌≡◌, refl, ap, ◌∙◌, Bool, true, false, cond, inl, inr, Option, Some, None}
 use Rattle.simplex_types.specs.declared.types.fault.Fault.{Fault}
 use Rattle.simplex_voter.specs.Facts.{StateFacts, Elect}

@@ -8,7 +8,7 @@ use Rattle.laws_safety.specs.Accountability.{IsEvidence}
 use Rattle.laws_safety.specs.Traces.{TraceEvent}
 use Rattle.laws_safety.specs.Lawful.{HasSigned, IsLawful}
 
--- the vote that an artifact is, with the member that signed it
+-- the vote in an artifact, with the member that signed it
 abbrev pub signed_vote_in : {S D K G C : Type 0} → Artifact S D K G C → Option (ℕ × Subject D)
 signed_vote_in (artifact.Notarize vote) = Some (vote.signer, subject.Notarize vote.proposal)
 signed_vote_in (artifact.Nullify vote) = Some (vote.signer, subject.Nullify vote.round)
@@ -16,7 +16,7 @@ signed_vote_in (artifact.Finalize vote) = Some (vote.signer, subject.Finalize vo
 signed_vote_in _ = None
 
 module _ {D : Type 0} where
-  -- the epoch that a vote is of
+  -- the epoch of a vote
   abbrev pub epoch_of : Subject D → ℕ
   epoch_of (subject.Notarize p) = p.round.epoch
   epoch_of (subject.Nullify round) = round.epoch
@@ -27,8 +27,9 @@ module _ {D : Type 0} where
   AreEvidence (Some (i, a)) (Some (j, b)) = (i ≡ j) × (epoch_of a ≡ epoch_of b) × IsEvidence a b
   AreEvidence _ _ = ⊥
 
-  -- who signed both did not keep the voting rules, whatever else it did
+  -- a member that signed both did not keep the voting rules, whatever else it did
   abbrev pub ShowsABrokenRule : Option (ℕ × Subject D) → Option (ℕ × Subject D) → Type 0
   ShowsABrokenRule (Some (i, a)) (Some (j, b)) =
-      (term_length : ℕ) (trace : List (TraceEvent D)) → HasSigned trace a → HasSigned trace b → IsLawful term_length trace → ⊥
+      (term_length : ℕ) (trace : List (TraceEvent D)) → HasSigned trace a → HasSigned trace b
+      → IsLawful term_length trace → ⊥
   ShowsABrokenRule _ _ = ⊥

@@ -1,4 +1,4 @@
-//! Runs and members by the code's own steps and replies, with the laws of votes over all that they did so far.
+//! Runs and members by the code's own steps and replies, with the laws of votes over everything they did so far.
 
 mod evidence;
 mod journaled;

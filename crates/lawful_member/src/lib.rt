@@ -1,4 +1,4 @@
-//! Members whose contracts carry the laws: a whole run, and a member that a driver keeps.
+//! Members whose contracts carry the laws: a whole run, and a member for a host.
 #![tactic(auto)]
 
 pub mod lawful;

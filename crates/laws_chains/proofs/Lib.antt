@@ -1,4 +1,4 @@
--- From the set-up of lives and the state at a vote or an offer, by what its rule says of the parent, to a network.
+-- From the set-up of lifetimes and the state at a vote or an offer, by what its rule says of the parent, to a network.
 pub mod Setups
 pub mod StatesAtVotes
 pub mod StatesAtOffers

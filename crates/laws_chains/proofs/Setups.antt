@@ -1,4 +1,4 @@
--- What each set-up of a run's lives begins with, and each event keeps, holds of each state of the run.
+-- What the set-up of each lifetime of a run begins with, and each event preserves, is true of each state of the run.
 use Rattle.std.proofs.Common.{◌≡◌, refl, ap, ◌∙◌, sym, subst, ℕ, inl, inr, Bool, true, false, List, [], ◌∷◌, Contains, Option, Some, None, Result, Ok, Err, arith}
 use Rattle.std.specs.Prelude.{MatchOption}
 use Rattle.simplex_voter.specs.Facts.{StateFacts, Elect}
@@ -56,12 +56,12 @@ module _ {K L D : Type 0} (same : D → D → Bool) (elect : Elect L) (P : State
   run_keeps (Restarts q ∷ steps) (told ∷ replies) m end later holds (next, is_step, rest) =
       run_keeps steps replies next end (λ r h. later r (Contains-cons_rest (Restarts q) steps (Restarts r) h)) (restart_keeps m q is_step.0 next (later q (0, omega arith, refl)) holds is_step.1) rest
 
-  -- of a state that an execution lives with
+  -- of a state that an execution has
   pub state_kept : (s : Execution K L D) (x : StateFacts K L D) → RunsWith same elect s x → P (new_state s.start.setup) → ((r : RestartFacts K L D) → Contains s.steps (Restarts r) → P (new_state r.start.setup)) → P x
   state_kept s x (m, run, alive) first later =
       subst (HoldsIn P) alive (run_keeps s.steps s.replies (new_member same elect s.start) m later (keeps (new_state s.start.setup) (SetFloor s.start.floor s.start.now) first) run)
 
--- how the life was set up stays
+-- the set-up of the lifetime stays
 module _ {K L D : Type 0} (same : D → D → Bool) (elect : Elect L) (x : StateFacts K L D) (e : Event K D) where
   pub early_kept : x.elects_early ≡ false → (after_event same elect x e).elects_early ≡ false
   early_kept is = (event_goes same elect x e).elects_early ∙ is

@@ -1,4 +1,4 @@
--- The state of a member where it signed a vote: the execution up to there, and the rule that held.
+-- The state of a member when it signed a vote: the execution up to there, and the rule that was true.
 use Rattle.std.proofs.Common.{◌≡◌, refl, ap, sym, ◌∙◌, subst, ℕ, inl, inr, Bool, List, [], ◌∷◌, ◌++◌, Contains, Option, Some, None, is_some, arith}
 use Rattle.std.specs.Prelude.{option_map}
 use Rattle.std.proofs.lemmas.Bool.{false≢true}
@@ -168,7 +168,7 @@ module _ {K L D : Type 0} (same : D → D → Bool) (elect : Elect L) where
 -- the execution up to there
 
 module _ {K L D : Type 0} (same : D → D → Bool) (elect : Elect L) (term_length member : ℕ) (s : Execution K L D) where
-  -- a state that the execution lives with on its way
+  -- a state that the execution has on its way
   pub record StateWhere (Holds : StateFacts K L D → Type 0) : Type 0 where
     pub steps : List (StepFacts K L D)
     pub replies : List (ReplyFacts K D)

@@ -1,4 +1,4 @@
--- The network whose members are told verdicts on what none offered: it keeps the premises of agreement, and has no chain.
+-- The network whose members receive verdicts on what none offered: it keeps the premises of agreement, and has no chain.
 use Rattle.std.proofs.Common.{◌≡◌, refl, sym, ◌∙◌, ap, ℕ, ◌+◌, inl, inr, Bool, true, false, not, ◌||◌, ◌==◌, List, [], ◌∷◌, Contains, nat_eq, arith}
 use Rattle.std.proofs.lemmas.Bool.{eqb-true, eq-eqb, false≢true}
 use Rattle.simplex_types.specs.declared.types.messages.Proposal.{Proposal}

@@ -20,17 +20,19 @@ module _ {K L D : Type 0} where
   -- the member offered the proposal to be certified
   abbrev pub WasOffered : Proposal D → Execution K L D → Type 0
   WasOffered q s =
-      (offers : List (Proposal D)) × (fetches : List CertificateFetch) × Contains s.replies (Candidates offers fetches) × Contains offers q
+      (offers : List (Proposal D)) × (fetches : List CertificateFetch) × Contains s.replies (Candidates offers fetches)
+      × Contains offers q
 
-  -- an honest member receives the verdict that a proposal is good only where it offered the proposal
+  -- an honest member receives the verdict that a proposal is good only if it offered the proposal
   abbrev pub VerdictsAreOnOffers : List (Replica K L D) → Type 0
-  VerdictsAreOnOffers network = EachHonest network (λ i s. (q : Proposal D) → Contains (judged_of s) (true, q) → WasOffered q s)
+  VerdictsAreOnOffers network =
+      EachHonest network (λ i s. (q : Proposal D) → Contains (judged_of s) (true, q) → WasOffered q s)
 
   -- no honest member votes ahead
   abbrev pub NoneVotesAhead : List (Replica K L D) → Type 0
   NoneVotesAhead network = EachHonest network (λ i s. EachLifetime (λ setup. setup.terms.optimistic_views ≡ 0) s)
 
-  -- a vote within a term, or a verdict, is given only once the parent is certified
+  -- a member votes within a term, or receives a verdict, only once the parent is certified
   abbrev pub ParentsAreAwaited : List (Replica K L D) → Type 0
   ParentsAreAwaited network = NoneVotesAhead network ⊎ VerdictsAreOnOffers network
 
@@ -39,7 +41,8 @@ module _ {K L D : Type 0} where
     pub below : List (Proposal D)
     pub chain : Chain network (tip ∷ below)
     pub genesis : lowest_parent tip below ≡ 0
-    pub holds : (final : Proposal D) → Backed network (subject.Finalize final) → final.round.view ≤ tip.round.view → Contains (tip ∷ below) final
+    pub holds : (final : Proposal D) → Backed network (subject.Finalize final) → final.round.view ≤ tip.round.view
+        → Contains (tip ∷ below) final
 
   -- one leads from each finalized proposal
   abbrev pub FinalizedReachGenesis : List (Replica K L D) → Type 0
@@ -51,4 +54,5 @@ module _ {K L D : Type 0} where
   abbrev pub CertifiedReachGenesis : List (Replica K L D) → Type 0
   CertifiedReachGenesis network =
       HandoffsAreWitnessed network → ParentsAreAwaited network
-      → (q : Proposal D) → Backed network (subject.Notarize q) → IsCertifiedByHonest network q → ReachesGenesis network q
+      → (q : Proposal D) → Backed network (subject.Notarize q) → IsCertifiedByHonest network q
+      → ReachesGenesis network q

@@ -16,7 +16,10 @@ use Rattle.laws_chains.specs.Parents.{HasCertifiedProposal}
 -- a start by this elector; one view is voted for ahead
 abbrev pub elects_by : ℕ → ℕ → StartFacts ℕ ℕ ℕ
 elects_by elector me = record (begin_at 2 me) {
-  setup = record (begin_at 2 me).setup { elector = elector; terms = record { term_length = 2; optimistic_views = 1; stall_timeout = None } };
+  setup = record (begin_at 2 me).setup {
+    elector = elector;
+    terms = record { term_length = 2; optimistic_views = 1; stall_timeout = None };
+  };
 }
 
 -- the proposal of view 2 that a member receives

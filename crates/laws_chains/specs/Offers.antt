@@ -1,4 +1,4 @@
--- A member that receives verdicts on its offers alone, step by step.
+-- A member that receives verdicts only on its offers, step by step.
 use Rattle.std.specs.Prelude.{◌≡◌, Bool, true, List, [], ◌∷◌}
 use Rattle.simplex_voter.specs.Facts.{Elect}
 use Rattle.simplex_member.specs.Calls.{Certified, ReplyFacts}
@@ -17,17 +17,19 @@ IsStepOnOffer m _ = Unit {0}
 
 module _ {K L D : Type 0} (same : D → D → Bool) (elect : Elect L) where
   -- a member takes these steps, each with its reply, and each verdict is on an offer
-  abbrev pub IsRunOnOffers : MemberFacts K L D → List (StepFacts K L D) → List (ReplyFacts K D) → MemberFacts K L D → Type 0
+  abbrev pub IsRunOnOffers : MemberFacts K L D → List (StepFacts K L D) → List (ReplyFacts K D)
+      → MemberFacts K L D → Type 0
   IsRunOnOffers m [] [] end = m ≡ end
   IsRunOnOffers m [] (told ∷ rest) end = ⊥
   IsRunOnOffers m (step ∷ steps) [] end = ⊥
   IsRunOnOffers m (step ∷ steps) (told ∷ rest) end =
-      IsStepOnOffer m step × (next : MemberFacts K L D) × IsStep same elect m step told next × IsRunOnOffers next steps rest end
+      IsStepOnOffer m step × (next : MemberFacts K L D) × IsStep same elect m step told next
+      × IsRunOnOffers next steps rest end
 
-  -- so it is in all its lifetimes
+  -- the same in all its lifetimes
   abbrev pub RunsOnOffers : Execution K L D → Type 0
   RunsOnOffers s = (end : MemberFacts K L D) × IsRunOnOffers (new_member same elect s.start) s.steps s.replies end
 
-  -- where it is so of each honest member, these judge only what they offered
+  -- if this is so of each honest member, they judge only what they offered
   abbrev pub OffersAreAwaited : List (Replica K L D) → Type 0
   OffersAreAwaited network = EachHonest network (λ i s. RunsOnOffers s) → VerdictsAreOnOffers network

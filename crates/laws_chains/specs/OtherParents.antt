@@ -25,7 +25,7 @@ verifies_on payload me =
     ∷ (Calls (ConstructNotarize 2), notarize_reply me two)
     ∷ []
 
--- it hears of the notarization of another proposal than its own, and of the leader's fault
+-- it receives the notarization of another proposal than its own, and learns of the leader's fault
 abbrev pub certifies_other : Proposal ℕ → List (StepFacts ℕ ℕ ℕ × ReplyFacts ℕ ℕ)
 certifies_other p =
     (Calls (AddNotarization (certificate p)), Added true (Some 3))
@@ -63,7 +63,8 @@ verified_apart = Honest misled ∷ Honest (led 1) ∷ Honest (led 2) ∷ Faulty 
 
 -- the parent of view 2 has payload 12
 abbrev pub ParentIsTwelve : Type 0
-ParentIsTwelve = (q : Proposal ℕ) → q.round.view ≡ two.parent → Backed verified_apart (subject.Notarize q) → q.payload ≡ 12
+ParentIsTwelve = (q : Proposal ℕ) → q.round.view ≡ two.parent
+    → Backed verified_apart (subject.Notarize q) → q.payload ≡ 12
 
 -- a member that finalizes view 2 verified it on payload 11 alone
 abbrev pub VerifiedOnEleven : Type 0

@@ -23,7 +23,8 @@ module _ {K L D : Type 0} where
   -- all lifetimes of all honest members have one elector and one epoch
   abbrev pub HaveOneElector : List (Replica K L D) → Type 0
   HaveOneElector network =
-      (elector : L) × (epoch : ℕ) × EachHonest network (λ i s. EachLifetime (λ setup. (setup.elector ≡ elector) × (setup.settings.epoch ≡ epoch)) s)
+      (elector : L) × (epoch : ℕ)
+      × EachHonest network (λ i s. EachLifetime (λ setup. (setup.elector ≡ elector) × (setup.settings.epoch ≡ epoch)) s)
 
   -- each quorum has two honest members
   abbrev pub TwoHonest : List (Replica K L D) → Type 0
@@ -62,4 +63,5 @@ module _ {K L D : Type 0} where
 -- of two or more members, at most f of which are faulty, two in each quorum are honest
 abbrev pub FewFaultyLeaveTwo : (K L D : Type 0) → Type 0
 FewFaultyLeaveTwo K L D =
-    (network : List (Replica K L D)) → 2 ≤ length network → faults network ≤ max_faults (length network) → TwoHonest network
+    (network : List (Replica K L D)) → 2 ≤ length network → faults network ≤ max_faults (length network)
+    → TwoHonest network

@@ -16,7 +16,9 @@ use Rattle.laws_chains.specs.Chains.{ReachesGenesis}
 -- terms of three views, one of which is voted for ahead
 abbrev pub long_start : ℕ → StartFacts ℕ ℕ ℕ
 long_start me = record (begin_at 3 me) {
-  setup = record (begin_at 3 me).setup { terms = record { term_length = 3; optimistic_views = 1; stall_timeout = None } };
+  setup = record (begin_at 3 me).setup {
+    terms = record { term_length = 3; optimistic_views = 1; stall_timeout = None };
+  };
 }
 
 -- the proposal of view 1 that a member receives

@@ -48,16 +48,16 @@ pub fn finalized_chains_reach_genesis<S: Scheme<D>, L: Elector<S>, D: Digest>()
     ensures certified { OfEachNetwork S.PublicKey D.eq L.elect (λ term_length. CertifiedReachGenesis) }
 {}
 
-/// A network keeps `VerdictsAreOnOffers`, and so `ParentsAreAwaited`, where each honest member receives a verdict only on a view whose
+/// A network keeps `VerdictsAreOnOffers`, and so `ParentsAreAwaited`, if each honest member receives a verdict only on a view whose
 /// proposal it offered and that has no verdict.
 ///
 /// - Each such member runs by `RunsOnOffers`: whenever it receives a verdict, the offer of the view is open (`Member::awaits_verdict`).
-/// - The premises of `agreement` hold besides: they tell that the offered and the judged proposal of a view are one.
+/// - It also takes the premises of `agreement`: they imply that the offered and the judged proposal of a view are one.
 pub fn verdicts_on_offers_await_parents<S: Scheme<D>, L: Elector<S>, D: Digest>()
     ensures { OfEachNetwork S.PublicKey D.eq L.elect (λ term_length. OffersAreAwaited D.eq L.elect) }
 {}
 
-/// The premises of `finalized_chains_reach_genesis` hold of the network of `views_ahead_are_agreed_on`, in which a leader proposes
+/// The premises of `finalized_chains_reach_genesis` are true of the network of `views_ahead_are_agreed_on`, in which a leader proposes
 /// early and a member starts at a finalized floor. The chain of its finalized proposal reaches genesis.
 pub fn views_ahead_reach_genesis()
     ensures premises { KeepsPremises }

@@ -1,5 +1,5 @@
--- Cases of the definitions that an engine's contracts cite, computed: what is asked of peers, what a resolver is told, what all
--- comes of, how high fetches lie. Terms have five views, 10 views are kept; keys, payloads, signatures and certificates are numbers.
+-- Cases of the definitions that an engine's contracts cite, computed: what is asked of peers, what a resolver receives, what causes
+-- everything, how high fetches lie. Terms have five views, 10 views are retained; keys, payloads, signatures and certificates are numbers.
 use Rattle.std.proofs.Common.{◌≡◌, refl, ℕ, ◌^◌, ◌-◌, true, false, List, [], ◌∷◌, map, Some, None}
 use Rattle.simplex_types.specs.Certificates.{ProposalFacts, NullificationFacts}
 use Rattle.simplex_types.specs.declared.reasons.Kind.TheVariants.{Notarization as OfNotarization}
@@ -69,7 +69,7 @@ over = refl
 settled_between : settled Nullification 3 5 (map (λ view. fresh Nullification view 0 10) (2 ∷ 3 ∷ 5 ∷ 6 ∷ [])) ≡ fresh Nullification 2 0 10 ∷ fresh Nullification 6 0 10 ∷ []
 settled_between = refl
 
--- what a resolver is told, and which fetches it ends by that
+-- what a resolver receives, and which fetches it ends by that
 
 abbrev Answer : Type 0
 Answer = Reply ℕ ℕ ℕ ℕ ℕ
@@ -101,7 +101,7 @@ genesis = refl
 no_verdict : heard (reply.Certified true None) (Certified 3 true 5) ≡ []
 no_verdict = refl
 
--- of steps it is told in their order; a pruning tells it nothing
+-- it receives the steps' calls in their order; a pruning passes it nothing
 in_order :
     heard_by_steps
     ((Calls (AddNotarization (notarized 3)), reply.Added true None) ∷ (Prunes, reply.Unit) ∷ (Calls (AddNotarization (notarized 5)), reply.Added true None) ∷ [])
@@ -182,7 +182,7 @@ beyond = refl
 above : map (λ view. resolves_above {S = ℕ} {D = ℕ} {K = ℕ} {G = ℕ} {C = ℕ} 31 (Resolve Notarization view 33)) (31 ∷ 32 ∷ []) ≡ false ∷ true ∷ []
 above = refl
 
--- ten views below the last finalized one are kept, and what lies below them may be forgotten; by a failed member nothing may
+-- ten views below the last finalized one are retained, and what lies below them may be forgotten; with a failed member nothing may
 kept : forgettable {S = ℕ} {G = ℕ} {C = ℕ} (member []) ≡ WorkItem (Forget 10) ∷ []
 kept = refl
 
@@ -196,7 +196,7 @@ final = refl
 final_by_failure : is_final failed 21 ≡ true
 final_by_failure = refl
 
--- one that had failed tells that, and else want of memory
+-- one that had failed returns that, and otherwise out of memory
 failed_before : IsFailure true Failed
 failed_before = refl
 

@@ -1,4 +1,4 @@
--- A vote to nullify comes of a timeout whose moment has come: it was at hand before, or a reply said so.
+-- A vote to nullify is caused by a timeout whose moment has come: it was at hand before, or a reply said so.
 use Rattle.std.proofs.Common.{◌≡◌, refl, ap, sym, subst, ◌∙◌, ℕ, ◌⊎◌, inl, inr, arith, Bool, true, false, List, [], ◌∷◌, ◌++◌, Contains, nat_le, Some, None, if◌then◌else◌}
 use Rattle.std.specs.List.{list_any}
 use Rattle.std.proofs.lemmas.Bool.{false≢true, or_cases}
@@ -69,7 +69,7 @@ module _ {S D K G C : Type 0} (now : ℕ) where
   reply_says (reply.Added is_new None) call some = absurd (false≢true some)
   reply_says answer call some = absurd (false≢true some)
 
--- no certificate is handed in by it
+-- it passes no certificate
 no_certificate : {D : Type 0} (now view : ℕ) (certificate : CertificateFacts D) → ConstructNullify view ≡ certificate_call certificate now → ⊥
 no_certificate now view (Notarized c) is = cc
 no_certificate now view (Nullified c) is = cc

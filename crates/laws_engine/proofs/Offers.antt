@@ -15,7 +15,7 @@ use Rattle.simplex_engine.specs.declared.engine.Engine.{Engine}
 use Rattle.laws_chains.specs.Offers.{IsStepOnOffer, IsRunOnOffers}
 use Rattle.laws_engine.specs.Offers.{CallOf, ContinuesBy}
 
--- no certificate is handed in by a verdict
+-- a verdict passes no certificate
 no_certificate : {D : Type 0} (now view : ℕ) (success : Bool) (at : ℕ) (certificate : CertificateFacts D) → Certified view success at ≡ certificate_call certificate now → ⊥
 no_certificate now view success at (Notarized c) is = cc
 no_certificate now view success at (Nullified c) is = cc

@@ -1,4 +1,4 @@
--- What steps come of that come of what is at hand: what a member is told comes from outside, since no reply gives it.
+-- What causes steps whose cause is at hand: what a member receives comes from outside, since no reply brings it.
 use Rattle.std.proofs.Common.{◌≡◌, ap, sym, subst, ◌∙◌, refl, ℕ, ◌⊎◌, inl, inr, Bool, true, false, ◌&&◌, List, [], ◌∷◌, ◌++◌, append_assoc, Contains, map, nat_le, Some, None, arith, if◌then◌else◌}
 use Rattle.std.specs.List.{list_any}
 use Rattle.std.proofs.lemmas.Bool.{and_parts, false≢true, or_cases, or_left, or_right}
@@ -113,7 +113,7 @@ module _ {S D K G C : Type 0} where
   told_before causes given inside (AddFinalization c now) is = outside_before causes given inside (Quorum (certificate_subject (Finalized c))) refl is
   told_before causes given inside call is = tt
 
-  -- what a task or a certificate comes of
+  -- what causes a task or a certificate
 
   task_told : (causes : List (Cause S D K G C)) (now : ℕ) (asked : Task D) → AreAmong (of_task asked) causes → IsToldBy causes (call_of asked now)
   task_told causes now (task.Verified view) is = is
@@ -142,7 +142,7 @@ module _ {S L D K G C : Type 0} (now : ℕ) where
   steps_inside (Restarts restart) answer = refl
 
 module _ {S L D K G C : Type 0} (same : D → D → Bool) (elect : Elect L) (bytes_of : C → List ℕ) (now : ℕ) (asks_now over : FetchKind → ℕ → Bool) where
-  -- a call of one of these steps was told by what was at hand before all of them
+  -- a call of one of these steps was received with what was at hand before all of them
   pub calls_told : (steps : List (StepFacts K L D × Reply S D K G C)) (causes left : List (Cause S D K G C)) (asked : FetchKind → ℕ → Bool) (m end : MemberFacts K L D)
       → IsCausedBy same elect bytes_of now asks_now over steps causes asked m left end → (call : CallFacts D) (answer : Reply S D K G C) → Contains steps (Calls call, answer)
       → IsToldBy causes call

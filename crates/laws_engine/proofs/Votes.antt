@@ -39,6 +39,6 @@ signed = refl
 signed_by_members : signatures_on nat_eq (Notarize (proposal 3 2 7)) 3 votes ≡ (0, 100) ∷ []
 signed_by_members = refl
 
--- nothing is held of who has not voted
+-- nothing is stored of a member that has not voted
 no_vote : map (ballot_of votes) (2 ∷ 4 ∷ []) ≡ None ∷ None ∷ []
 no_vote = refl

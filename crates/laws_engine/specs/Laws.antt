@@ -17,8 +17,8 @@ use Rattle.simplex_engine.specs.Provenance.{pending_causes, step_causes, IsCause
 use Rattle.simplex_engine.specs.declared.engine.Engine.{Engine}
 
 module _ {S D K G C : Type 0} where
-  -- what was told before such a call: just this answer of the application, that the leader gave the view up, the proposal by its
-  -- leader, or a certificate on the same; any other call is the engine's own
+  -- what was received before such a call: exactly this reply of the application, the leader's timeout, the proposal by its leader, or a
+  -- certificate on the same; any other call is the engine's own
   abbrev pub IsToldBy : List (Cause S D K G C) → CallFacts D → Type 0
   IsToldBy causes (Verified view) = IsIn (Message (task.Verified view)) causes
   IsToldBy causes (VerificationFailed view _ _) = IsIn (Message (task.VerificationFailed view)) causes
@@ -32,26 +32,29 @@ module _ {S D K G C : Type 0} where
   IsToldBy causes (AddFinalization c _) = IsIn (Quorum (certificate_subject (Finalized c))) causes
   IsToldBy causes _ = Unit {0}
 
--- what all replies to some steps gave
+-- what all replies to some steps brought
 abbrev pub given_by_all : {S L D K G C : Type 0} → ℕ → List (StepFacts K L D × Reply S D K G C) → List (Cause S D K G C)
 given_by_all now [] = []
 given_by_all {L} now ((step, reply) ∷ rest) = step_causes {L = L} now step reply ++ given_by_all now rest
 
--- a law of each way in which an engine goes on, whatever came in, is given out, and need not be asked for
+-- a law of each change of an engine that `provenance` allows, whatever came in, is returned, and need not be asked for
 abbrev pub OfEachWay : (S L D K G C : Type 0)
-    → (ℕ → List (Cause S D K G C) → List (Work S D K G C) → Engine S L D K G C → Engine S L D K G C → List (StepFacts K L D × Reply S D K G C) → Type 0)
+    → (ℕ → List (Cause S D K G C) → List (Work S D K G C) → Engine S L D K G C → Engine S L D K G C
+    → List (StepFacts K L D × Reply S D K G C) → Type 0)
     → Type 0
 OfEachWay S L D K G C law =
-    (same : D → D → Bool) (elect : Elect L) (bytes : D → List ℕ) (bytes_of : C → List ℕ) (now : ℕ) (came : List (Cause S D K G C))
+    (same : D → D → Bool) (elect : Elect L) (bytes : D → List ℕ) (bytes_of : C → List ℕ) (now : ℕ)
+    (came : List (Cause S D K G C))
     (out : List (Work S D K G C)) (held : FetchKind → ℕ → Bool) (old new : Engine S L D K G C)
     (it : IsCaused same elect bytes bytes_of now came out held old new) → law now came out old new it.steps
 
--- each call was told before: by what came in, or was at hand
+-- each call was received before: it came in, or was at hand
 abbrev pub CallsWereReceivedBefore : (S L D K G C : Type 0) → Type 0
-CallsWereReceivedBefore S L D K G C = OfEachWay S L D K G C (λ now came out old new steps. (call : CallFacts D) (reply : Reply S D K G C)
+CallsWereReceivedBefore S L D K G C =
+    OfEachWay S L D K G C (λ now came out old new steps. (call : CallFacts D) (reply : Reply S D K G C)
     → Contains steps (Calls call, reply) → IsToldBy (came ++ pending_causes old) call)
 
--- what is given out, queued and planned in the end, but what is asked of peers, came in, was at hand, or was given by a reply
+-- what is returned, queued and planned in the end, except what is asked of peers, came in, was at hand, or was brought by a reply
 abbrev pub WorkWasGiven : (S L D K G C : Type 0) → Type 0
 WorkWasGiven S L D K G C = OfEachWay S L D K G C (λ now came out old new steps.
     AreAmong (of_works out ++ pending_causes new) ((came ++ pending_causes old) ++ given_by_all now steps))
@@ -63,8 +66,9 @@ pub record SaysDue {S D K G C : Type 0} (now : ℕ) (reply : Reply S D K G C) : 
   pub says : reply ≡ Timeout moment reason
   pub due : moment ≤ now
 
--- no view is voted to be nullified, unless a reply said so, or it was planned before
+-- no vote to nullify a view is made, unless a reply said so, or it was planned before
 abbrev pub NullifiesOnceDue : (S L D K G C : Type 0) → Type 0
 NullifiesOnceDue S L D K G C = OfEachWay S L D K G C (λ now came out old new steps. (view : ℕ) (reply : Reply S D K G C)
     → Contains steps (Calls (ConstructNullify view), reply)
-    → IsIn Expiry (came ++ pending_causes old) ⊎ ((call : CallFacts D) × (said : Reply S D K G C) × Contains steps (Calls call, said) × SaysDue now said))
+    → IsIn Expiry (came ++ pending_causes old)
+    ⊎ ((call : CallFacts D) × (said : Reply S D K G C) × Contains steps (Calls call, said) × SaysDue now said))

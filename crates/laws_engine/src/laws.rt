@@ -4,14 +4,14 @@
 ghost use Rattle.laws_engine.specs.Laws.{CallsWereReceivedBefore, NullifiesOnceDue, WorkWasGiven};
 ghost use Rattle.laws_engine.specs.Offers.{EnginesRunOnOffers, LifetimesRunOnOffers, RunsOnOffersJoin};
 
-/// An engine that goes on as `provenance` says tells its member no verdict, block, proposal or certificate, and gives no leader up,
-/// but what came in, or was at hand before.
+/// An engine that changes as `provenance` says passes its member no verdict, block, proposal or certificate, and abandons no leader, except for
+/// what came in or was there before.
 pub fn calls_were_received_before<S, L, D, K, G, C>()
     ensures { CallsWereReceivedBefore S L D K G C }
 {}
 
-/// All work that it gives out, queues or plans came in, was at hand before, or was given by a reply of its member; but what it asks
-/// of peers, which is not followed.
+/// All work that it returns, queues or plans came in, was there before, or was in a reply of its member. The exception is what it asks of
+/// peers, which is not followed.
 pub fn work_was_given<S, L, D, K, G, C>()
     ensures { WorkWasGiven S L D K G C }
 {}
@@ -24,9 +24,9 @@ pub fn nullifies_once_due<S, L, D, K, G, C>()
 /// Each verdict that it passes to its member is on a proposal that the member offered and that has no verdict.
 ///
 /// - `runs`: the steps of a call that returns `Ok`, as `provenance` says them, are a run on offers.
-/// - `lifetimes`: so are the steps of all calls of a lifetime that return `Ok`, one after another.
-/// - `join`: where one such run ends, another may go on, as after a restart. `verdicts_on_offers_await_parents` of `laws_chains` says
-///   what follows for a network.
+/// - `lifetimes`: the same for the steps of all calls of a lifetime that return `Ok`, one after another.
+/// - `join`: after one such run another may follow, as after a restart. `verdicts_on_offers_await_parents` of `laws_chains` says what
+///   follows for a network.
 pub fn engines_run_on_offers<S, L, D, K, G, C>()
     ensures runs { EnginesRunOnOffers S L D K G C }
     ensures lifetimes { LifetimesRunOnOffers S L D K G C }

@@ -81,7 +81,7 @@ module _ {K D : Type 0} where
   moment_follows (Some now) history = refl
 
 module _ {K L D : Type 0} (same : D → D → Bool) (elect : Elect L) (history : History K L D) (x : StateFacts K L D) (shows : DeterminesState same elect history x) where
-  -- a view for which a verdict may be given is tracked where a notarization was handed in
+  -- a view for which a verdict may be passed is tracked where a notarization was passed in
   tracked_notarized : (v : ℕ) (success : Bool) → takes_verdict x v success ≡ true → kept_of history ≤ v → is_tracked x v ≡ is_notarized_in history.events v
   tracked_notarized v success takes kept = notarized (round_at x v) refl ∙ ap (λ (r : RoundFacts K D). is_some r.notarization) (shows.rounds v kept)
     where

@@ -134,7 +134,7 @@ module _ {K L D : Type 0} (same : D → D → Bool) (elect : Elect L) (x : State
     rounds = λ v _. nothing_added same elect x e v (silent v) (round_of x v) (round_of y v) (leaves.rounds v);
   }
 
-  -- a certificate is handed out where its view is tracked; where it isn't, there is none
+  -- a certificate is returned where its view is tracked; where it isn't, there is none
   pub handed_follows : (v : ℕ) (r : RoundFacts K D) → moment_by e ≡ None → known_of_round r ≡ adds same elect x e v (known_of_round (round_of x v)) → ((w : ℕ) → eqb w v ≡ false → IsElsewhere same elect x e w) → (round_of x v ≡ new_round x.me x.members (round_number x v) → (w : ℕ) → IsElsewhere same elect x e w) → FollowsEvent same elect e x (if is_tracked x v then with_round x v r else x)
   handed_follows v r timeless added elsewhere never = by_round (round_at x v) refl
     where

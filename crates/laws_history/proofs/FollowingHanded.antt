@@ -47,7 +47,7 @@ module _ {D : Type 0} (same : D → D → Bool) (decides : (d e : D) → same d 
       by_held None = refl
       by_held (Some h) = by_same (same_proposal same h p)
 
--- the first of its kind is kept
+-- the first of its kind is stored
 
 module _ {K L D : Type 0} (same : D → D → Bool) (decides : (d e : D) → same d e ≡ true → d ≡ e) (elect : Elect L) (x : StateFacts K L D) (c : ProposalFacts D) (r : RoundFacts K D) where
   notarization_added : r.notarization ≡ (round_of x c.proposal.round.view).notarization → known_of_round (with_notarization (same_proposal same) r c) ≡ adds same elect x (AddNotarization c) c.proposal.round.view (known_of_round r)
@@ -124,7 +124,7 @@ module _ {K L D : Type 0} (same : D → D → Bool) (decides : (d e : D) → sam
         rounds = λ w _. put_between same elect x (AddFinalization c now) d y v (with_finalization (same_proposal same) (round_of d v) c) before.rounds (finalization_added same decides elect x c (round_of d v) now (ap (λ k. k.finalization) (before.rounds v))) (λ u apart k. rw apart refl) after.rounds w;
       }
 
-  -- the floor's finalization says what a finalization says, and is handed out
+  -- the floor's finalization says what a finalization says, and is returned
   pub floor_finalization_follows : (now : ℕ) → FollowsEvent same elect (SetFloor (Finalized c) now) x (after_set_floor same elect x (Finalized c) now)
   floor_finalization_follows now =
       let f = finalization_follows now in
@@ -206,7 +206,7 @@ module _ {K L D : Type 0} (same : D → D → Bool) (elect : Elect L) (x : State
 
 -- verdicts
 
--- a verdict that contradicts none that stands
+-- a verdict that contradicts no stored one
 pub verdict_first : (c : Certification) (success : Bool) → is_judged (not success) c ≡ false → Some success ≡ option_or (verdict_of c) (Some success)
 verdict_first certification.Ready success none = refl
 verdict_first (certification.Outstanding _) success none = refl

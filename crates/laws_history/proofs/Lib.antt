@@ -1,4 +1,4 @@
--- What each event adds to a history and to the state, field by field; and so each call and each life.
+-- What each event adds to a history and to the state, field by field; and so each call and each lifetime.
 pub mod UnchangedHistories
 pub mod Following
 pub mod FollowingHanded

@@ -77,7 +77,7 @@ module _ {K L D : Type 0} (same : D → D → Bool) (elect : Elect L) where
     rounds = λ v kept. refl;
   }
 
-  -- what is answered is not refused
+  -- what returns is not refused
   told_events : (history : History K L D) (x : StateFacts K L D) (o : OutstandingWork K D) (call : CallFacts D) → with_call_events history o call (answer same elect x o call) ≡ with_events history (events_of o call)
   told_events history x o calls.GetBestCertificate = refl
   told_events history x o _ = refl

@@ -14,7 +14,7 @@ use Rattle.laws_history.specs.OwnWork.{facts_after, was_done, first_said, last_s
 use Rattle.laws_history.specs.HistoryFolds.{or_new}
 use Rattle.laws_history.proofs.Worked.{timed}
 
--- a decision that is told by what was said so far
+-- a decision that follows from what was said so far
 abbrev pub told_decision : Settings → (finalize nullify : Bool) → Option ℕ → Option (ℕ × TimeoutReason) → Option ℕ → Decision
 told_decision settings finalize nullify entry latch retry =
     if finalize
@@ -23,7 +23,7 @@ told_decision settings finalize nullify entry latch retry =
     then Nullify retry
     else Pending (option_map (λ at. at + settings.leader_timeout) entry) (option_map (λ at. at + settings.certification_timeout) entry) latch)
 
--- it is to finalize where that vote is told
+-- it is to finalize where that vote is recorded
 pub reply_finalize : (settings : Settings) (finalize nullify : Bool) (entry : Option ℕ) (latch : Option (ℕ × TimeoutReason)) (retry : Option ℕ) → is_finalize (told_decision settings finalize nullify entry latch retry) ≡ finalize
 reply_finalize s true nullify entry latch retry = refl
 reply_finalize s false true entry latch retry = refl

@@ -129,7 +129,7 @@ module _ {K L D : Type 0} where
       either true = refl
       either false = refl
 
-  -- the work on a view after another round stands there, and elsewhere
+  -- the work on a view after another round is put there, and elsewhere
   pub work_put : (x : StateFacts K L D) (v : ℕ) (r : RoundFacts K D) → work_of (with_round x v r) v ≡ work_in true r
   work_put x v r = rw (is_tracked-put x v v r, eq-eqb v v refl, round_of-same x v r) refl
 

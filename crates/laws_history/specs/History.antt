@@ -1,4 +1,4 @@
--- Histories: lists of the events of a life (`Rattle.simplex_record.specs.Events`), whose latest stands first.
+-- Histories: lists of the events of a lifetime (`Rattle.simplex_record.specs.Events`), the latest first.
 use Rattle.std.specs.Prelude.{List, ◌∷◌}
 use Rattle.simplex_voter.specs.Facts.{StateFacts}
 use Rattle.simplex_record.specs.Events.{Event}

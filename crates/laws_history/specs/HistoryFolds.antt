@@ -1,4 +1,4 @@
--- What a list of events says: numbers, and what was handed in for each view. The latest event stands first.
+-- What a list of events says: numbers, and what was passed in for each view. The latest event comes first.
 use Rattle.std.specs.Prelude.{ℕ, ◌+◌, ◌-◌, max, Bool, true, ◌&&◌, ◌==◌, List, [], ◌∷◌, Option, Some, None, is_some, unwrap_or, if◌then◌else◌}
 use Rattle.std.specs.List.{list_any}
 use Rattle.std.specs.Option.{option_or}
@@ -27,7 +27,7 @@ abbrev pub highest : {A : Type 0} → (A → ℕ) → List A → ℕ
 highest f [] = 0
 highest f (e ∷ before) = max (highest f before) (f e)
 
--- the thing, where it is of this view
+-- the thing, if it is of this view
 abbrev pub at : {A : Type 0} → ℕ → ℕ → A → Option A
 at v w a = if v == w then Some a else None
 
@@ -36,7 +36,7 @@ at v w a = if v == w then Some a else None
 module _ {K D : Type 0} where
   -- of a view
 
-  -- the notarization that an event hands in, of this view
+  -- the notarization that an event passes, of this view
   abbrev pub brings_notarization : ℕ → Event K D → Option (ProposalFacts D)
   brings_notarization v (AddNotarization c) = at v c.proposal.round.view c
   brings_notarization v _ = None
@@ -52,7 +52,7 @@ module _ {K D : Type 0} where
   brings_finalization v (SetFloor (Finalized c) _) = at v c.proposal.round.view c
   brings_finalization v _ = None
 
-  -- a verdict, unless it is given for a view without a notarization
+  -- a verdict, unless it is passed for a view without a notarization
   abbrev pub verdict_of_event : (ℕ → Bool) → ℕ → Event K D → Option Bool
   verdict_of_event is_notarized v (Certified w success _) = if v == w && is_notarized w then Some success else None
   verdict_of_event is_notarized v (Replay (Verdict round success)) = at v round.view success
@@ -65,7 +65,7 @@ module _ {K D : Type 0} where
   sets_genesis (SetFloor (Genesis payload) _) = Some payload
   sets_genesis _ = None
 
-  -- a true verdict enters the next view, unless it is given for a view without a notarization
+  -- a true verdict enters the next view, unless it is passed for a view without a notarization
   abbrev pub entered_by : ℕ → (ℕ → Bool) → Event K D → ℕ
   entered_by term_length is_notarized (SetFloor (Genesis _) _) = 1
   entered_by term_length is_notarized (SetFloor (Finalized c) _) = c.proposal.round.view + 1
@@ -110,7 +110,7 @@ module _ {K D : Type 0} where
   verdict_in v [] = None
   verdict_in v (e ∷ before) = or_new (verdict_in v before) (verdict_of_event (is_notarized_in before) v e)
 
-  -- a nullification of the view was handed in or replayed
+  -- a nullification of the view was passed in or replayed
   abbrev pub is_nullified_in : ℕ → List (Event K D) → Bool
   is_nullified_in v history = list_any (covers_from v) history
 
@@ -129,9 +129,11 @@ module _ {K D : Type 0} where
   -- the highest view that was entered, in terms of this length
   abbrev pub current_in : ℕ → List (Event K D) → ℕ
   current_in term_length [] = 0
-  current_in term_length (e ∷ before) = max (current_in term_length before) (entered_by term_length (is_notarized_in before) e)
+  current_in term_length (e ∷ before) =
+      max (current_in term_length before) (entered_by term_length (is_notarized_in before) e)
 
-  -- the lowest view that the prunes left, where so many views below the last finalized one are kept
+  -- the lowest view that the prunes left, if this number of views below the last finalized one are retained
   abbrev pub kept_in : ℕ → List (Event K D) → ℕ
   kept_in retention [] = 0
-  kept_in retention (e ∷ before) = max (kept_in retention before) (if is_prune e then finalized_by_events before - retention else 0)
+  kept_in retention (e ∷ before) =
+      max (kept_in retention before) (if is_prune e then finalized_by_events before - retention else 0)

@@ -21,12 +21,12 @@ module _ {K L D : Type 0} where
   abbrev pub same_member : StateFacts K L D → Option (Leader K) → Option (Leader K)
   same_member x leader = option_and_then (λ l. leader_at x.members l.idx) leader
 
-  -- the leader of the nearest view that has one, from so many views above another one back to that
+  -- the leader of the nearest view that has one, from this number of views above another one back to that
   abbrev pub nearest_leader : StateFacts K L D → ℕ → ℕ → Option (Leader K)
   nearest_leader x u zero = (round_of x u).leader
   nearest_leader x u (suc k) = option_or (round_of x (u + suc k)).leader (same_member x (nearest_leader x u k))
 
-  -- the leader behind a view whose window a certificate of u opens
+  -- the leader after a view whose window a certificate of u opens
   abbrev pub window_leader : StateFacts K L D → ℕ → ℕ → Option (Leader K)
   window_leader x u v = if is_among v (opened_views x u) then nearest_leader x u (v - 1 - u) else None
 
@@ -64,31 +64,39 @@ module _ {K L D : Type 0} (elect : Elect L) where
       then (if v == w + 1 then same_member x (round_of x w).leader else None)
       else (if takes_view_over x voted (w + 1) then elected_leader x v (w + 1) None else None)
 
-  -- a proposal or an own vote of w has the next view tracked, where it gets a leader
+  -- a proposal or an own vote of w has the next view tracked, if it gets a leader
   abbrev pub tracks_after : StateFacts K L D → Bool → ℕ → ℕ → Bool
   tracks_after x voted w v =
-      v == w + 1 && (if in_issuance_window x (w + 1) then is_some (round_of x w).leader else takes_view_over x voted (w + 1))
+      v == w + 1 && (if in_issuance_window x (w + 1) then is_some (round_of x w).leader
+      else takes_view_over x voted (w + 1))
 
 module _ {K L D : Type 0} (same : D → D → Bool) (elect : Elect L) where
   -- the leader that an event gives a view that has none
   abbrev pub leader_by_event : ℕ → StateFacts K L D → Event K D → Option (Leader K)
   leader_by_event v x (SetFloor (Genesis _) _) = elected_leader elect x v 1 None
-  leader_by_event v x (SetFloor (Finalized c) _) = leads_by elect x (is_none (round_of x c.proposal.round.view).finalization) v c
-  leader_by_event v x (AddNotarization c) = leads_by elect x (is_none (round_of x c.proposal.round.view).notarization) v c
-  leader_by_event v x (AddNullification c _) = elected_leader elect x v (next_term_start x.terms.term_length c.round.view) (Some c.bytes)
-  leader_by_event v x (AddFinalization c _) = leads_by elect x (is_none (round_of x c.proposal.round.view).finalization) v c
+  leader_by_event v x (SetFloor (Finalized c) _) =
+      leads_by elect x (is_none (round_of x c.proposal.round.view).finalization) v c
+  leader_by_event v x (AddNotarization c) =
+      leads_by elect x (is_none (round_of x c.proposal.round.view).notarization) v c
+  leader_by_event v x (AddNullification c _) =
+      elected_leader elect x v (next_term_start x.terms.term_length c.round.view) (Some c.bytes)
+  leader_by_event v x (AddFinalization c _) =
+      leads_by elect x (is_none (round_of x c.proposal.round.view).finalization) v c
   leader_by_event v x (ConstructNotarize w) = if may_notarize same elect x w then leads_after elect x true w v else None
   leader_by_event v x (SetProposal w _) = leads_after elect x (round_of x w).notarize_decided w v
   leader_by_event v x (Replay (NotarizeVote p _)) = leads_after elect x true p.round.view v
   leader_by_event v x _ = None
 
-  -- an event speaks of a view: a certificate, a proposal, a vote, or one that stands in the record; or it readies or leads it
+  -- an event is about a view: a certificate, a proposal, a vote, or an entry of the record; or it readies or leads it
   abbrev pub comes_to_track : ℕ → StateFacts K L D → Event K D → Bool
   comes_to_track v x (SetFloor (Genesis _) _) = v == 1
-  comes_to_track v x (SetFloor (Finalized c) _) = tracks_by elect x (is_none (round_of x c.proposal.round.view).finalization) v c
-  comes_to_track v x (AddNotarization c) = tracks_by elect x (is_none (round_of x c.proposal.round.view).notarization) v c
+  comes_to_track v x (SetFloor (Finalized c) _) =
+      tracks_by elect x (is_none (round_of x c.proposal.round.view).finalization) v c
+  comes_to_track v x (AddNotarization c) =
+      tracks_by elect x (is_none (round_of x c.proposal.round.view).notarization) v c
   comes_to_track v x (AddNullification c _) = v == c.round.view || v == next_term_start x.terms.term_length c.round.view
-  comes_to_track v x (AddFinalization c _) = tracks_by elect x (is_none (round_of x c.proposal.round.view).finalization) v c
+  comes_to_track v x (AddFinalization c _) =
+      tracks_by elect x (is_none (round_of x c.proposal.round.view).finalization) v c
   comes_to_track v x (ConstructNotarize w) = may_notarize same elect x w && (v == w || tracks_after elect x true w v)
   comes_to_track v x (ConstructNullify w) = v == w && may_nullify x w
   comes_to_track v x (ConstructFinalize w) = v == w && may_finalize elect x w

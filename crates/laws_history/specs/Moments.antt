@@ -27,7 +27,7 @@ module _ {K L D : Type 0} where
   enters v x e =
       if v == entered_by x.terms.term_length (is_tracked x) e && nat_lt x.current v then moment_by e else None
 
-  -- the moment at which a vote to nullify the view is to be repeated: so long after the first poll that finds it decided
+  -- the moment at which the vote to nullify the view is to be repeated: the retry interval after the first poll that finds it decided
   abbrev pub retries : ℕ → StateFacts K L D → Event K D → Option ℕ
   retries v x (NextTimeout now) =
       if is_at x v x.current && awaits_retry (round_of x v) then Some (now + x.settings.timeout_retry) else None
@@ -44,7 +44,8 @@ module _ {K L D : Type 0} (same : D → D → Bool) (elect : Elect L) where
   abbrev pub latches : ℕ → StateFacts K L D → Event K D → Option (ℕ × TimeoutReason)
   latches v x (Certified w false now) =
       if is_at x v w && nat_le x.current w then Some (now, FailedCertification) else None
-  latches v x TryVerify = if is_invalid (standing_by_event same elect v x TryVerify) then Some (x.moment, InvalidProposal) else None
+  latches v x TryVerify = if is_invalid (standing_by_event same elect v x TryVerify)
+      then Some (x.moment, InvalidProposal) else None
   latches v x (VerificationFailed w reason now) =
       if v == w && verification_matches same elect x w && triggers x w reason then Some (now, reason) else None
   latches v x (TriggerTimeout w reason now) = if v == w && triggers x w reason then Some (now, reason) else None

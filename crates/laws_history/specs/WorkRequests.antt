@@ -64,31 +64,34 @@ module _ {K L D : Type 0} where
   sets_certification v x (SetFloor (Finalized c) _) = ends_certification v x c.proposal.round.view
   sets_certification v x (AddFinalization c _) = ends_certification v x c.proposal.round.view
   sets_certification v x (Certified w success _) = if is_at x v w then Some (certification.Judged success) else None
-  sets_certification v x (SetCertifyHandle w token) = if is_at x v w then Some (certification.Outstanding token) else None
-  sets_certification v x (Replay (Verdict round success)) = if v == round.view then Some (certification.Judged success) else None
+  sets_certification v x (SetCertifyHandle w token) =
+      if is_at x v w then Some (certification.Outstanding token) else None
+  sets_certification v x (Replay (Verdict round success)) =
+      if v == round.view then Some (certification.Judged success) else None
   sets_certification v x _ = None
 
--- what a proposal is given out with
+-- the parent's payload that a proposal is returned with
 abbrev pub bound_by : {D : Type 0} → Option (Proposal D) → Standing D → Option (Option (Proposal D × D))
 bound_by held (Ready d) = Some (option_map (λ p. (p, d)) held)
 bound_by held _ = None
 
 module _ {K L D : Type 0} (same : D → D → Bool) (elect : Elect L) where
-  -- how the proposal of the view stands where a scan for proposals to verify comes to it
+  -- the state of the view's proposal when a scan for proposals to verify reaches it
   abbrev pub standing_by_event : ℕ → StateFacts K L D → Event K D → Standing D
   standing_by_event v x TryVerify =
       if was_scanned same elect x v then standing same elect x (v, round_of x v) else NothingToDo
   standing_by_event v x _ = NothingToDo
 
-  -- this member's own proposal is taken: nothing else is held
+  -- this member's own proposal is taken: nothing else is stored
   abbrev pub takes_own : ℕ → StateFacts K L D → Event K D → Bool
-  takes_own v x e = option_map_or (holds_or_empty (same_proposal same) (round_of x v).slot) (owns same elect v x e) false
+  takes_own v x e = option_map_or (holds_or_empty (same_proposal same) (round_of x v).slot)
+      (owns same elect v x e) false
 
-  -- a certificate settles the view against what is held
+  -- a certificate settles the view against what is stored
   abbrev pub overrules : ℕ → StateFacts K L D → Event K D → Bool
   overrules v x e = contradicts same (round_of x v).slot.held (first_certificate_by v x e)
 
-  -- the held proposal is marked as verified
+  -- the stored proposal is marked as verified
   abbrev pub marks : ℕ → StateFacts K L D → Event K D → Option Bool
   marks v x (Verified w) =
       if is_at x v w && verification_matches same elect x w && not (is_nullify (round_of x w).decision)
@@ -96,7 +99,7 @@ module _ {K L D : Type 0} (same : D → D → Bool) (elect : Elect L) where
       else None
   marks v x _ = None
 
-  -- whether the held proposal is verified from then on: not where another one was seen; one's own is
+  -- whether the stored proposal is verified from then on: not if another one was seen; the member's own is
   abbrev pub sets_verified : ℕ → StateFacts K L D → Event K D → Option Bool
   sets_verified v x e =
       if contradicts same (round_of x v).slot.held (option_or (first_certificate_by v x e) (hears_of v x e))
@@ -106,7 +109,8 @@ module _ {K L D : Type 0} (same : D → D → Bool) (elect : Elect L) where
   -- whether a proposal is asked for
   abbrev pub asks_to_build : ℕ → StateFacts K L D → Event K D → Option Bool
   asks_to_build v x TryPropose =
-      option_map_or (λ request. if is_at x v (request_context request).round.view then Some true else None) (propose_answer same elect x) None
+      option_map_or (λ request. if is_at x v (request_context request).round.view then Some true else None)
+      (propose_answer same elect x) None
   asks_to_build v x (Supersede context) =
       if is_at x v context.round.view && supersede_answer same elect x context then Some false else None
   asks_to_build v x (Release w) = if is_at x v w then Some false else None
@@ -120,14 +124,15 @@ module _ {K L D : Type 0} (same : D → D → Bool) (elect : Elect L) where
   abbrev pub asks_for : ℕ → StateFacts K L D → Event K D → Option ℕ
   asks_for v x e = lacked_view (standing_by_event v x e)
 
-  -- the held proposal is bound to its parent's payload where it is built, given out or replayed, until that no longer holds
+  -- the stored proposal is bound to its parent's payload where it is built, returned or replayed, until that is no longer true
   abbrev pub binds : ℕ → StateFacts K L D → Event K D → Option (Option (Proposal D × D))
   binds v x (Proposed context payload _) =
       if v == context.round.view && proposed_answer same elect x context payload
       then Some (Some (proposal_of context payload, context.parent.1))
       else None
   binds v x (Verified w) = if is_at x v w && not (verification_matches same elect x w) then Some None else None
-  binds v x (VerificationFailed w _ _) = if is_at x v w && not (verification_matches same elect x w) then Some None else None
+  binds v x (VerificationFailed w _ _) =
+      if is_at x v w && not (verification_matches same elect x w) then Some None else None
   binds v x (Replay (NotarizeVote p _)) =
       if v == p.round.view then option_map (λ bound. Some bound) (restored_binding x p) else None
   binds v x e = bound_by (round_of x v).slot.held (standing_by_event v x e)

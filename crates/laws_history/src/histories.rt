@@ -4,15 +4,15 @@ ghost use Rattle.laws_history.specs.Histories.{NothingSaid, EventsDetermineState
 
 use simplex_types::types::{Digest, Elector, Scheme};
 
-/// What a state knows is what the events of its life say, `DeterminesState`. It does nothing: its contract is the law.
+/// Does nothing: its contract is the law. The knowledge of a state is a function of the events of its lifetime, `DeterminesState`.
 ///
-/// - `begun`: of a new state nothing was said.
-/// - `kept`: each event that its state allows keeps it, with the event as the last of the history.
-/// - `called`: so does each call of a member where it is answered; one that is refused is no event.
+/// - `begun`: a new state has no event.
+/// - `kept`: each event that its state allows preserves this, with the event as the last of the history.
+/// - `called`: so does each call of a member that returns; a refused call is no event.
 /// - `recovered`: a state that is made from a floor and a record knows what their events say.
 /// - `restarted`: so does the state that a restart makes, from an order by view of what is left of the record.
-/// - `ran`: and so, whatever the calls and restarts of a run, does the state at its end; its history goes by what the member
-///   itself has open at each call, and at each restart by what is left of its own record.
+/// - `ran`: and so, whatever the calls and restarts of a run, does the state at its end. Its history uses what the member itself has open
+///   at each call, and at each restart what is left of its own record.
 pub fn histories_are_shown<S: Scheme<D>, L: Elector<S>, D: Digest>()
     ensures begun { NothingSaid S.PublicKey D.eq L.elect }
     ensures kept { EventsDetermineStates S.PublicKey D.eq L.elect }

@@ -1,4 +1,4 @@
-//! What a state knows, told by the list of events of its life alone.
+//! The knowledge of a state as a function of the events of its lifetime alone.
 #![tactic(auto)]
 
 pub mod histories;

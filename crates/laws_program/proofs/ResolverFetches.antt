@@ -1,4 +1,4 @@
--- What a resolver behind lines was told, line by line.
+-- What a resolver that lines call received, line by line.
 use Rattle.std.proofs.Common.{◌≡◌, inl, inr, refl, sym, subst, ℕ, ◌<◌, ◌≤◌, zero, suc, List, [], ◌∷◌, ◌++◌, append_assoc, arith}
 use Rattle.std.proofs.lemmas.List.{append-nil}
 use Rattle.std.specs.Io.KnownBytes.{Appends}
@@ -28,7 +28,7 @@ of_parts x fetching = record { state = x; open_fetches = fetching }
 -- ---- a line
 
 module _ (t : ℕ) (calls : List Call) (x y : ResolverFacts) (fetching left : List ℕ) (told : HasReceivedCalls t calls (of_parts x fetching)) where
-  -- nothing is told, and nothing changes
+  -- nothing is received, and nothing changes
   kept : IsUnchanged x fetching y left → HasReceivedCalls t calls (of_parts y left)
   kept (same, same_left) = subst (λ z. HasReceivedCalls t calls (of_parts z left)) (sym same) (subst (λ views. HasReceivedCalls t calls (of_parts x views)) (sym same_left) told)
 
@@ -39,7 +39,7 @@ module _ (t : ℕ) (calls : List Call) (x y : ResolverFacts) (fetching left : Li
   refused v fault.ViewTooLarge other is = is.2
   refused v fault.TimeOverflow other is = absurd is
 
-  -- a call that is answered with effects is told
+  -- a call that returns effects is received
   called : (v : ℕ) (call : Call) (a : Answer) → NamesAView call → Calls x fetching v call a y left → HasReceivedCalls t (answered_by a (call ∷ []) ++ calls) (of_parts y left)
   called v call (answer.Effects es) names (live, effects, after, applied) =
       still_told t calls call (of_parts x fetching) (of_parts y left) es.items told names (record { state = after; answered = effects; applied = applied })
@@ -49,13 +49,13 @@ module _ (t : ℕ) (calls : List Call) (x y : ResolverFacts) (fetching left : Li
   called v call (answer.Outstanding views) names is = absurd is
   called v call answer.NotAllowed names is = absurd is
 
-  -- a report of view 0 is not told
+  -- a report of view 0 is not received
   reported : (v : ℕ) (call : Call) (a : Answer) → (1 ≤ v → NamesAView call) → Reports x fetching v call a y left → HasReceivedCalls t (answered_by a (call ∷ []) ++ calls) (of_parts y left)
   reported zero call a names (below, above) =
       subst (λ b. HasReceivedCalls t (answered_by b (call ∷ []) ++ calls) (of_parts y left)) (sym (below refl).0) (kept (below refl).1)
   reported (suc v) call a names (below, above) = called (suc v) call a (names (omega arith)) (above (omega arith))
 
-  -- a line that hands nothing in tells nothing
+  -- a line that passes nothing makes no call
   shown : (a : Answer) → IsUnchanged x fetching y left → HasReceivedCalls t (answered_by a [] ++ calls) (of_parts y left)
   shown (answer.Effects es) is = kept is
   shown (answer.Fault f) is = kept is
@@ -78,7 +78,7 @@ module _ (t : ℕ) (calls : List Call) (x y : ResolverFacts) (fetching left : Li
 
 -- ---- the lines in order
 
--- the lines between two points, asked of a resolver that was told these calls
+-- the lines between two points, sent to a resolver that received these calls
 record FetchesFrom (t : ℕ) (calls : List Call) (lines : List (List ℕ)) (p q : Point) : Type 0 where
   pub turns : List ResolverTurn
   pub end : ResolverFacts

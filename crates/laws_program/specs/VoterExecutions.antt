@@ -1,4 +1,4 @@
--- What a voter's transcript tells of its member: the steps that its lines stand for, and what they are told.
+-- What a voter's transcript says of its member: the steps of its lines, and their replies.
 use Rattle.std.specs.Prelude.{◌≡◌, ◌⊎◌, ℕ, ◌+◌, ⊤, Bool, true, false, List, [], ◌∷◌, ◌++◌, length, Option, Some, None, MatchOption, Result, Err}
 use Rattle.std.specs.Io.KnownBytes.{Keeps, Appends}
 use Rattle.simplex_types.specs.declared.types.plain.PlainDigest.{PlainDigest}
@@ -35,11 +35,11 @@ use Rattle.simplex_program.specs.Words.{words_in}
 abbrev pub PlainStep : Type 0
 PlainStep = StepFacts PlainKey PlainElector PlainDigest
 
--- what it is told
+-- the reply to it
 abbrev pub PlainReplyFacts : Type 0
 PlainReplyFacts = ReplyFacts PlainKey PlainDigest
 
--- a line with its answer
+-- a line with its reply
 pub record VoterTurn : Type 0 where
   pub line : VoterLine
   pub answer : VoterAnswer
@@ -53,15 +53,16 @@ restart_in _ = None
 -- a restart of the network's member at genesis, as a line asks for it
 abbrev pub IsRestartAsked : Network → VoterLine → RestartFacts PlainKey PlainElector PlainDigest → Type 0
 IsRestartAsked n line r =
-    MatchOption (restart_in line) ⊥ (λ asked. IsGenesisStart n asked.1 r.start × (r.drop ≡ asked.0) × (r.prune ≡ asked.2))
+    MatchOption (restart_in line) ⊥
+    (λ asked. IsGenesisStart n asked.1 r.start × (r.drop ≡ asked.0) × (r.prune ≡ asked.2))
 
--- the step that a line stands for; no line prunes the record within a life
+-- the step of a line; no line prunes the record within a lifetime
 abbrev pub IsStepOf : Network → VoterLine → PlainStep → Type 0
 IsStepOf n line (Calls call) = DenotesCall line call
 IsStepOf n line Prunes = ⊥
 IsStepOf n line (Restarts r) = IsRestartAsked n line r
 
--- it is told what the line is answered
+-- the step's reply is the line's
 abbrev pub TellsAnswer : VoterAnswer → PlainReplyFacts → Type 0
 TellsAnswer (answer.Reply reply) t = t ≡ told plain_bytes reply
 TellsAnswer (answer.Restarted result) t = t ≡ restart_reply result
@@ -73,7 +74,7 @@ only_shows Record = true
 only_shows Views = true
 only_shows _ = false
 
--- the steps of the lines in order, and what they are told
+-- the steps of the lines in order, and their replies
 abbrev pub AreSteps : Network → List VoterTurn → List PlainStep → List PlainReplyFacts → Type 0
 AreSteps n [] steps replies = (steps ≡ []) × (replies ≡ [])
 AreSteps n (turn ∷ turns) steps replies =
@@ -85,7 +86,8 @@ AreSteps n (turn ∷ turns) steps replies =
 -- the bytes of each line have the words of its turn
 abbrev pub AreVoterLines : List (List ℕ) → List VoterTurn → Type 0
 AreVoterLines [] [] = ⊤
-AreVoterLines (bytes ∷ lines) (turn ∷ turns) = (words_in (without_feed bytes) ≡ voter_words turn.line) × AreVoterLines lines turns
+AreVoterLines (bytes ∷ lines) (turn ∷ turns) =
+    (words_in (without_feed bytes) ≡ voter_words turn.line) × AreVoterLines lines turns
 AreVoterLines _ _ = ⊥
 
 -- the replies as they are written
@@ -93,8 +95,9 @@ abbrev pub voter_replies : List VoterTurn → List ℕ
 voter_replies [] = []
 voter_replies (turn ∷ turns) = reply_line (text_of (voter_reply_words turn.answer)) ++ voter_replies turns
 
--- the lines, and the replies that a writer holds besides, are this execution of the network's member
-pub record IsTranscribed (n : Network) (lines : List (List ℕ)) (old new : Option (List ℕ)) (s : PlainExecution) : Type 0 where
+-- the lines, and the replies that a writer has besides, are this execution of the network's member
+pub record IsTranscribed (n : Network) (lines : List (List ℕ)) (old new : Option (List ℕ))
+    (s : PlainExecution) : Type 0 where
   pub start : IsGenesisStart n 0 s.start
   pub turns : List VoterTurn
   pub spelled : AreVoterLines lines turns
@@ -106,18 +109,21 @@ pub record IsLawfulOf (n : Network) (s : PlainExecution) : Type 0 where
   pub ran : (i : ℕ) → (n.me ≡ Some i) ⊎ (n.me ≡ None) → IsExecution same_payload plain_leader n.term_length i s
   pub lawful : IsLawful n.term_length (trace_of s)
 
--- a network's member answered lines as this execution, from its start on, and then serving ended
-pub record IsServedAs (n : Network) (held : Option (List ℕ)) (r : Result (Unit {0}) ServeError) (after : Option (List ℕ)) (s : PlainExecution) : Type 0 where
+-- a network's member replied to lines as this execution, from its start on, and then serving ended
+pub record IsServedAs (n : Network) (held : Option (List ℕ)) (r : Result (Unit {0}) ServeError)
+    (after : Option (List ℕ)) (s : PlainExecution) : Type 0 where
   pub lines : List (List ℕ)
   pub last : Point
   pub transcribed : IsTranscribed n lines held last.held s
   pub ended : EndsServing last (length lines + 1) r after
 
--- whatever a voter's lines are, and however serving ends: but for want of memory at the start there is a lawful execution
+-- whatever a voter's lines are, and however serving ends: unless memory runs out at the start, there is a lawful execution
 abbrev pub VoterTranscriptsAreLawful : Type 0
 VoterTranscriptsAreLawful =
-    (members : ℕ) (me : Option ℕ) (term_length optimistic : ℕ) (left held : Option (List ℕ)) (r : Result (Unit {0}) ServeError) (after : Option (List ℕ))
+    (members : ℕ) (me : Option ℕ) (term_length optimistic : ℕ) (left held : Option (List ℕ))
+    (r : Result (Unit {0}) ServeError) (after : Option (List ℕ))
     → IsServed (Voter members me term_length optimistic)
     → Transcribes (Voter members me term_length optimistic) left held r after
     → ((r ≡ Err OutOfMemory) × Keeps held after)
-    ⊎ ((n : Network) × (s : PlainExecution) × IsNamed members me term_length optimistic n × IsServedAs n held r after s × IsLawfulOf n s)
+    ⊎ ((n : Network) × (s : PlainExecution) × IsNamed members me term_length optimistic n × IsServedAs n held r after s
+    × IsLawfulOf n s)

@@ -1,4 +1,4 @@
-//! What holds of the program's transcripts.
+//! The laws of the program's transcripts.
 #![tactic(auto)]
 
 mod resolvers;

@@ -1,4 +1,4 @@
--- A network: its honest members go on together.
+-- A network: its honest members continue together.
 pub mod Followed
 pub mod Replicas
 pub mod Continued

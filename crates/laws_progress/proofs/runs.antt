@@ -1,4 +1,4 @@
--- One member: what its run leads to, and how it goes on.
+-- One member: what its run leads to, and how it continues.
 pub mod Owned
 pub mod Ends
 pub mod Starts

@@ -1,4 +1,4 @@
--- What it is to go on, in words that a driver can check, and how little one exchange of messages brings.
+-- What a continuation of a network is, in words that a host can check, and how little one exchange of messages brings.
 use Rattle.std.specs.Prelude.{◌≡◌, ℕ, ◌≤◌, ◌<◌, ◌⊎◌, Bool, List, length, slice_get, Contains, Some}
 use Rattle.simplex_types.specs.declared.types.messages.Proposal.{Proposal}
 use Rattle.simplex_types.specs.declared.types.messages.Subject.{Subject}
@@ -13,7 +13,7 @@ use Rattle.laws_safety.specs.Executions.{Execution, trace_of}
 use Rattle.laws_progress.specs.MessageExchanges.{Exchanges}
 
 module _ {K L D : Type 0} where
-  -- an honest member accepted the certificate, was handed the proposal as one of the view, gave its payload as built, or voted for it
+  -- an honest member accepted the certificate, received the proposal as one of the view, passed its payload as built, or voted for it
   abbrev pub IsAccepted : Subject D → List (Replica K L D) → Type 0
   IsAccepted c network = SomeHonest network (λ i s. Contains (trace_of s) (Accepts c))
 
@@ -21,23 +21,26 @@ module _ {K L D : Type 0} where
   IsReceivedByOne v p network = SomeHonest network (λ i s. Contains s.steps (Calls (SetProposal v p)))
 
   abbrev pub IsGiven : Proposal D → List (Replica K L D) → Type 0
-  IsGiven p network = SomeHonest network (λ i s. (now : ℕ) × Contains s.steps (Calls (Proposed p.round.view p.payload now)))
+  IsGiven p network = SomeHonest network
+      (λ i s. (now : ℕ) × Contains s.steps (Calls (Proposed p.round.view p.payload now)))
 
   abbrev pub IsVotedFor : Proposal D → List (Replica K L D) → Type 0
   IsVotedFor p network = SomeHonest network (λ i s. Contains (trace_of s) (Signs i (Notarize p)))
 
-  -- what no honest member had accepted before, and the honest ones of this network don't make alone, none accepted later
+  -- no honest member accepted later what none had accepted before and the honest ones of this network don't make alone
   abbrev pub AcceptsNoForged : (before voting later : List (Replica K L D)) → Type 0
-  AcceptsNoForged before voting later = (c : Subject D) → (IsAccepted c before → ⊥) → (HonestlyBacked voting c → ⊥) → IsAccepted c later → ⊥
+  AcceptsNoForged before voting later =
+      (c : Subject D) → (IsAccepted c before → ⊥) → (HonestlyBacked voting c → ⊥) → IsAccepted c later → ⊥
 
-  -- what none had been handed before, and none of this network voted for, or none gave as built, none was handed later
+  -- none received later what none had received before and none of this network voted for, or none passed as built
   abbrev pub ReceivesNoForged : (before building later : List (Replica K L D)) → Type 0
   ReceivesNoForged before building later =
-      (v : ℕ) (p : Proposal D) → (IsReceivedByOne v p before → ⊥) → (IsVotedFor p building → ⊥) ⊎ (IsGiven p building → ⊥) → IsReceivedByOne v p later → ⊥
+      (v : ℕ) (p : Proposal D) → (IsReceivedByOne v p before → ⊥) → (IsVotedFor p building → ⊥)
+      ⊎ (IsGiven p building → ⊥) → IsReceivedByOne v p later → ⊥
 
 module _ (K : Type 0) {L D : Type 0} (same : D → D → Bool) (elect : Elect L) where
-  -- where a network goes on to finalize, the later one keeps the premises of agreement, its members are the same ones, and the
-  -- honest ones have done what they had done
+  -- if a network can finalize, the later one keeps the premises of agreement, its members are the same ones, and the honest ones have done
+  -- what they had done
   abbrev pub MembersContinue : Type 0
   MembersContinue =
       (term_length : ℕ) (network later : List (Replica K L D)) (final : Proposal D)
@@ -55,17 +58,18 @@ module _ (K : Type 0) {L D : Type 0} (same : D → D → Bool) (elect : Elect L)
       → IsNetworkOf same elect term_length network
       → ContinuesToFinalize same elect term_length network later final
       → ((p : Proposal D) → final.round.view ≤ p.round.view → Backed network (Finalize p) → ⊥)
-      × EachHonest later (λ i t. Contains (trace_of t) (Signs i (Finalize final)) × Contains (trace_of t) (Accepts (Finalize final))
+      × EachHonest later (λ i t. Contains (trace_of t) (Signs i (Finalize final))
+      × Contains (trace_of t) (Accepts (Finalize final))
       × HonestlyBacked later (Finalize final))
 
-  -- and nothing came that faulty members made
+  -- and nothing that faulty members made arrived
   abbrev pub NothingIsForged : Type 0
   NothingIsForged =
       (term_length : ℕ) (network later : List (Replica K L D)) (final : Proposal D)
       → ContinuesToFinalize same elect term_length network later final
       → AcceptsNoForged network later later × ReceivesNoForged network later later
 
-  -- so where more than f are faulty, and any member is honest, no network goes on to finalize
+  -- so if more than f are faulty, and any member is honest, no network can finalize
   abbrev pub TooManyAreFaulty : Type 0
   TooManyAreFaulty =
       (term_length : ℕ) (network later : List (Replica K L D)) (final : Proposal D)
@@ -73,18 +77,21 @@ module _ (K : Type 0) {L D : Type 0} (same : D → D → Bool) (elect : Elect L)
       → max_faults (length network) < faults network
       → EachHonest network (λ i s. ContinuesToFinalize same elect term_length network later final → ⊥)
 
-  -- by exchanges of messages a network goes on
+  -- exchanges of messages continue a network
   abbrev pub ExchangesContinue : Type 0
-  ExchangesContinue = (count : ℕ) (network later : List (Replica K L D)) → Exchanges count network later → ReplicasContinue network later
+  ExchangesContinue = (count : ℕ) (network later : List (Replica K L D)) → Exchanges count network later
+      → ReplicasContinue network later
 
-  -- one brings what had been signed or built before it
+  -- one exchange brings what had been signed or built before it
   abbrev pub ExchangesBringWhatWas : Type 0
   ExchangesBringWhatWas =
-      (network later : List (Replica K L D)) → Exchanges 1 network later → AcceptsNoForged network network later × ReceivesNoForged network network later
+      (network later : List (Replica K L D)) → Exchanges 1 network later → AcceptsNoForged network network later
+      × ReceivesNoForged network network later
 
-  -- so no view is finalized within one, where any member is honest
+  -- so no view is finalized within one, if any member is honest
   abbrev pub OneExchangeIsTooFew : Type 0
   OneExchangeIsTooFew =
       (term_length : ℕ) (network later : List (Replica K L D)) (final : Proposal D)
       → IsNetworkOf same elect term_length network
-      → EachHonest later (λ i t. Exchanges 1 network later → ContinuesToFinalize same elect term_length network later final → ⊥)
+      → EachHonest later (λ i t.
+      Exchanges 1 network later → ContinuesToFinalize same elect term_length network later final → ⊥)

@@ -9,7 +9,7 @@ use Rattle.laws_progress.specs.NetworkStates.{IsSetUpAs, RunsWith, EachRuns}
 use Rattle.laws_progress.specs.ViewPositions.{IsFreshStart, CanStandOn, BuildsOn, proposal_in}
 
 module _ (K : Type 0) {L D : Type 0} (same : D → D → Bool) (elect : Elect L) where
-  -- where each honest member stands at it on one parent, the honest ones alone go on to finalize what its leader builds
+  -- if each honest member is at it on one parent, the honest ones alone can finalize what its leader builds
   abbrev pub FreshStartsAreFinalized : Type 0
   FreshStartsAreFinalized =
       (term_length epoch leader parent start : ℕ) (elector : L) (network : List (Replica K L D)) (payload : D)
@@ -17,6 +17,9 @@ module _ (K : Type 0) {L D : Type 0} (same : D → D → Bool) (elect : Elect L)
       → faults network ≤ max_faults (length network)
       → is_too_large start ≡ false
       → (s : Execution K L D) × (slice_get network leader ≡ Some (Honest s))
-      → EachRuns same elect network (λ i x. IsSetUpAs epoch (length network) elector i x × IsFreshStart leader start x × CanStandOn parent start x)
-      → ((s : Execution K L D) → slice_get network leader ≡ Some (Honest s) → (x : StateFacts K L D) → RunsWith same elect s x → BuildsOn parent start x)
-      → (later : List (Replica K L D)) × ContinuesToFinalize same elect term_length network later (proposal_in epoch start parent payload)
+      → EachRuns same elect network
+      (λ i x. IsSetUpAs epoch (length network) elector i x × IsFreshStart leader start x × CanStandOn parent start x)
+      → ((s : Execution K L D) → slice_get network leader ≡ Some (Honest s) → (x : StateFacts K L D)
+      → RunsWith same elect s x → BuildsOn parent start x)
+      → (later : List (Replica K L D))
+      × ContinuesToFinalize same elect term_length network later (proposal_in epoch start parent payload)

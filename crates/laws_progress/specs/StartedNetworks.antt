@@ -20,14 +20,15 @@ with_first_leader = Faulty ∷ Honest (idle 1) ∷ Honest (idle 2) ∷ Honest (i
 abbrev pub with_second_leader : List (Replica ℕ ℕ ℕ)
 with_second_leader = Honest (idle 0) ∷ Honest (idle 1) ∷ Honest (idle 2) ∷ Faulty ∷ []
 
--- what each knows: it stands at view 1, which nobody touched, on genesis
+-- what each knows: it is at view 1, which nobody touched, on genesis
 abbrev pub StandsFirst : ℕ → StateFacts ℕ ℕ ℕ → Type 0
 StandsFirst i x = IsSetUpAs 1 4 1 i x × IsFreshStart 3 1 x × CanStandOn 0 1 x
 
--- what each knows: it stands at view 1 on genesis, and knows nothing of view 2
+-- what each knows: it is at view 1 on genesis, and knows nothing of view 2
 abbrev pub StandsBeforeSecond : ℕ → StateFacts ℕ ℕ ℕ → Type 0
 StandsBeforeSecond i x = IsSetUpAs 1 4 1 i x × StandsBefore 0 1 2 x
 
--- the network goes on to finalize this view, on genesis
+-- the network can finalize this view, on genesis
 abbrev pub Finalizes : List (Replica ℕ ℕ ℕ) → ℕ → Type 0
-Finalizes network view = (later : List (Replica ℕ ℕ ℕ)) × ContinuesToFinalize nat_eq in_turn 1 network later (proposal_in 1 view 0 7)
+Finalizes network view =
+    (later : List (Replica ℕ ℕ ℕ)) × ContinuesToFinalize nat_eq in_turn 1 network later (proposal_in 1 view 0 7)

@@ -1,4 +1,4 @@
--- Where a member stands, and on which parent.
+-- Which view a member is at, and on which parent.
 use Rattle.std.specs.Prelude.{◌≡◌, ℕ, ◌≤◌, ◌<◌, true, false, Some, None, option_map}
 use Rattle.simplex_types.specs.Terms.{term_start}
 use Rattle.simplex_types.specs.declared.types.messages.Proposal.{Proposal}
@@ -12,10 +12,11 @@ use Rattle.simplex_voter.specs.Payloads.{explicit_ancestry_payload}
 
 -- the proposal of a view in an epoch
 abbrev pub proposal_in : {D : Type 0} → ℕ → ℕ → ℕ → D → Proposal D
-proposal_in epoch view parent payload = record { round = record { epoch = epoch; view = view }; parent = parent; payload = payload }
+proposal_in epoch view parent payload =
+    record { round = record { epoch = epoch; view = view }; parent = parent; payload = payload }
 
 module _ {K L D : Type 0} where
-  -- nothing was proposed, accepted or voted in the term start that the member stands at, and it knows who leads it
+  -- nothing was proposed, accepted or voted in the term start that the member is at, and it knows its leader
   pub record IsFreshStart (leader view : ℕ) (x : StateFacts K L D) : Type 0 where
     pub current : x.current ≡ view
     pub start : view ≡ term_start x.terms.term_length view
@@ -42,7 +43,7 @@ module _ {K L D : Type 0} where
   abbrev pub BuildsOn : ℕ → ℕ → StateFacts K L D → Type 0
   BuildsOn parent view x = (payload : D) × (highest_explicit x view ≡ Some (parent, payload))
 
-  -- the member stands at the view, on the parent, and knows nothing of the start
+  -- the member is at the view, on the parent, and knows nothing of the start
   pub record StandsBefore (parent view start : ℕ) (x : StateFacts K L D) : Type 0 where
     pub current : x.current ≡ view
     pub stands : CanStandOn parent view x

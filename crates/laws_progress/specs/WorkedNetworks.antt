@@ -1,4 +1,4 @@
--- How the worked networks go on, which look stuck: of `Rattle.laws_safety.specs.DividedNetwork`, `LackingNetwork`, `HandoffNetwork`.
+-- How the worked networks continue, which look stuck: of `Rattle.laws_safety.specs.DividedNetwork`, `LackingNetwork`, `HandoffNetwork`.
 use Rattle.std.specs.Prelude.{ℕ, List, nat_eq}
 use Rattle.laws_safety.specs.Continuations.{ContinuesToFinalize}
 use Rattle.laws_safety.specs.Replicas.{Replica}
@@ -14,9 +14,10 @@ MayReach term_length network start = MayContinue nat_eq in_turn term_length netw
 -- and this start is finalized, on some parent
 abbrev pub Reaches : ℕ → List (Replica ℕ ℕ ℕ) → ℕ → Type 0
 Reaches term_length network start =
-    (later : List (Replica ℕ ℕ ℕ)) × (parent : ℕ) × ContinuesToFinalize nat_eq in_turn term_length network later (proposal_in 1 start parent 7)
+    (later : List (Replica ℕ ℕ ℕ)) × (parent : ℕ)
+    × ContinuesToFinalize nat_eq in_turn term_length network later (proposal_in 1 start parent 7)
 
--- within so many exchanges of messages a start is finalized, on some parent
+-- within this number of exchanges of messages a start is finalized, on some parent
 abbrev pub ReachesWithin : ℕ → ℕ → List (Replica ℕ ℕ ℕ) → Type 0
 ReachesWithin count term_length network =
     (later : List (Replica ℕ ℕ ℕ)) × (parent : ℕ) × (start : ℕ)

@@ -1,4 +1,4 @@
-//! From where the honest members of a network go on to finalize a new view.
+//! The networks whose honest members can finalize a new view on their own.
 #![tactic(auto)]
 
 pub mod progress;

@@ -1,5 +1,4 @@
-//! The laws of going on: what the honest members of a network can do alone. Nothing here does anything: the contracts are the
-//! laws.
+//! The laws of progress: what the honest members of a network can do alone. The functions do nothing: their contracts are the laws.
 
 mod continuations;
 mod exchanges;

@@ -1,4 +1,4 @@
--- The lemmas of the laws, by what they are for; each law's own answers stand at its path.
+-- The lemmas of the laws, by their purpose; each law's own answers are at its path.
 pub mod lists
 pub mod frames
 pub mod lives

@@ -1,4 +1,4 @@
--- From the voting rules of each member to what a network agrees on, and who answers where it doesn't.
+-- From the voting rules of each member to the agreement of a network, and who is accountable if it fails.
 pub mod VoteOrder
 pub mod Lawful
 pub mod Quorums

@@ -1,4 +1,4 @@
--- For the laws by steps: what each event keeps, and what a run keeps by it.
+-- For the laws by steps: the invariants of each event, and those of a run by them.
 pub mod Fresh
 pub mod InOrder
 pub mod Rising

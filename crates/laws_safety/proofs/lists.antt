@@ -1,4 +1,4 @@
--- For all laws over runs: where elements stand in lists.
+-- For all laws over runs: the places of elements in lists.
 pub mod Splits
 pub mod Signed
 pub mod Filters

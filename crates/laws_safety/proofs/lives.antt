@@ -1,4 +1,4 @@
--- What each life keeps, and each state of a run.
+-- The laws of each lifetime, and of each state of a run.
 pub mod WithinLives
 pub mod Lasting
 pub mod Conflicts

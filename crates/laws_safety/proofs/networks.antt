@@ -1,4 +1,4 @@
--- The worked networks: what their members do is computed, and is what the rules ask for.
+-- The worked networks: the actions of their members are computed, and are those that the rules require.
 pub mod ComputedRuns
 pub mod Scripts
 pub mod Continuations

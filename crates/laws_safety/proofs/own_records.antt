@@ -1,4 +1,4 @@
--- For `own_record_is_taken`: what a member records is taken again, but for what comes from outside.
+-- For `own_record_is_taken`: a member's own record is accepted again, except for what comes from outside.
 pub mod BrokenRules
 pub mod BrokenParents
 pub mod SmallViews

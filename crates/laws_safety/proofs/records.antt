@@ -1,4 +1,4 @@
--- What a member's record remembers of its trace, over all its lives.
+-- What a member's record remembers of its trace, over all its lifetimes.
 pub mod EntryTraces
 pub mod ShownVotesByEntries
 pub mod TracesShown

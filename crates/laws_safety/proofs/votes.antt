@@ -1,4 +1,4 @@
--- For `votes_are_lawful`: what the facts of a life show of its votes, and that each call keeps it.
+-- For `votes_are_lawful`: what the facts of a lifetime show of its votes, and that each call keeps it.
 pub mod ShownVotes
 pub mod ShownVotesInRounds
 pub mod NullifyVotes

@@ -1,4 +1,4 @@
--- Who answers for two certificates that contradict each other: for any number of faulty members, by what is known of each.
+-- Who is accountable for two certificates that contradict each other: for any number of faulty members, by what is known of each.
 use Rattle.std.specs.Prelude.{◌≡◌, ◌≢◌, ℕ, ◌+◌, ◌-◌, ◌*◌, ◌<◌, ◌≤◌, ◌⊎◌, ⊤, Bool, true, List, map, length, slice_get, Option, Some, None, Contains, is_some, not}
 use Rattle.std.specs.List.{count_by}
 use Rattle.simplex_types.specs.Terms.{covers}
@@ -17,16 +17,18 @@ module _ {D : Type 0} where
   abbrev pub AreRivals : Proposal D → Proposal D → Type 0
   AreRivals p q = (p.round.view ≡ q.round.view) × (p ≢ q)
 
-  -- two certificates contradict: they are of two proposals of a view; or a proposal above a finalized view names a parent
-  -- below that view; or a finalized view is covered by a nullification
+  -- two certificates contradict: they are of two proposals of a view; or a proposal above a finalized view names a parent below
+  -- that view; or a finalized view is covered by a nullification
   abbrev pub Contradicts : ℕ → Subject D → Subject D → Type 0
   Contradicts term_length (Notarize p) (Notarize q) = AreRivals p q
-  Contradicts term_length (Notarize p) (Finalize final) = AreRivals p final ⊎ ((p.parent < final.round.view) × (final.round.view < p.round.view))
+  Contradicts term_length (Notarize p) (Finalize final) =
+      AreRivals p final ⊎ ((p.parent < final.round.view) × (final.round.view < p.round.view))
   Contradicts term_length (Notarize p) (Nullify round) = ⊥
   Contradicts term_length (Nullify round) (Notarize p) = ⊥
   Contradicts term_length (Nullify round) (Nullify other) = ⊥
   Contradicts term_length (Nullify round) (Finalize final) = covers term_length round.view final.round.view ≡ true
-  Contradicts term_length (Finalize final) (Notarize p) = AreRivals p final ⊎ ((p.parent < final.round.view) × (final.round.view < p.round.view))
+  Contradicts term_length (Finalize final) (Notarize p) =
+      AreRivals p final ⊎ ((p.parent < final.round.view) × (final.round.view < p.round.view))
   Contradicts term_length (Finalize final) (Nullify round) = covers term_length round.view final.round.view ≡ true
   Contradicts term_length (Finalize p) (Finalize q) = AreRivals p q
 
@@ -39,9 +41,9 @@ module _ {D : Type 0} where
   IsEvidence (Finalize p) (Nullify round) = round.view ≡ p.round.view
   IsEvidence a b = ⊥
 
-  -- how far two certificates that contradict are from such evidence. A nullification and a finalization: by how much the
-  -- finalized view lies above the nullified one; a notarization and a finalization: farther than each nullification that
-  -- covers the finalized view
+  -- how far two certificates that contradict are from such evidence. A nullification and a finalization: the distance of the
+  -- finalized view above the nullified one; a notarization and a finalization: farther than each nullification that covers the
+  -- finalized view
   abbrev pub distance : Subject D → Subject D → ℕ
   distance (Notarize p) (Finalize final) = final.round.view + 1
   distance (Finalize final) (Notarize p) = final.round.view + 1
@@ -54,7 +56,8 @@ module _ {D : Type 0} where
   -- it voted to finalize a proposal, and had accepted no notarization of it
   abbrev pub FinalizesUnnotarized : List (TraceEvent D) → Proposal D → Type 0
   FinalizesUnnotarized trace p =
-      (before : List (TraceEvent D)) × SignsAfter trace before (Finalize p) × (Contains before (Accepts (Notarize p)) → ⊥)
+      (before : List (TraceEvent D)) × SignsAfter trace before (Finalize p)
+      × (Contains before (Accepts (Notarize p)) → ⊥)
 
   -- it voted for a proposal that skips a view, and had accepted no nullification that covers it
   abbrev pub SkipsUncovered : ℕ → List (TraceEvent D) → Proposal D → ℕ → Type 0
@@ -84,10 +87,11 @@ module _ {D : Type 0} where
       × (covers term_length round.view p.round.view ≡ true)
       × (HasFinalizedBetween before round.view p.round.view → ⊥)
 
-  -- which rule is broken by a vote for a proposal and one to finalize another, and by a vote to nullify and one to finalize
+  -- the rule broken by a vote for a proposal and one to finalize another, and by a vote to nullify and one to finalize
 
   abbrev pub BreaksByFinal : ℕ → List (TraceEvent D) → Proposal D → Proposal D → Type 0
-  BreaksByFinal term_length trace p final = FinalizesUnnotarized trace final ⊎ SkipsUncovered term_length trace p final.round.view
+  BreaksByFinal term_length trace p final =
+      FinalizesUnnotarized trace final ⊎ SkipsUncovered term_length trace p final.round.view
 
   abbrev pub BreaksByNullify : ℕ → List (TraceEvent D) → Round → Proposal D → Type 0
   BreaksByNullify term_length trace round final =
@@ -95,8 +99,8 @@ module _ {D : Type 0} where
       ⊎ NullifiesFinalized term_length trace round final
       ⊎ FinalizesPastNullify term_length trace round final
 
-  -- a member that signed the votes of both of two certificates that contradict broke a rule by these: as evidence shows, or
-  -- by what it had done and accepted before one of them
+  -- a member that signed the votes of both of two certificates that contradict broke a rule by these: as evidence shows, or by what
+  -- it had done and accepted before one of them
   abbrev pub BreaksBy : ℕ → List (TraceEvent D) → Subject D → Subject D → Type 0
   BreaksBy term_length trace (Notarize p) (Finalize final) = BreaksByFinal term_length trace p final
   BreaksBy term_length trace (Finalize final) (Notarize p) = BreaksByFinal term_length trace p final
@@ -104,9 +108,10 @@ module _ {D : Type 0} where
   BreaksBy term_length trace (Finalize final) (Nullify round) = BreaksByNullify term_length trace round final
   BreaksBy term_length trace a b = IsEvidence a b
 
--- before it signed one of the two votes it accepted a third certificate, which contradicts one of the two and is nearer to it
--- than they are to each other
-pub record HasAcceptedNearer {D : Type 0} (term_length : ℕ) (a b : Subject D) (trace : List (TraceEvent D)) : Type 0 where
+-- before it signed one of the two votes it accepted a third certificate, which contradicts one of the two and is nearer to it than
+-- they are to each other
+pub record HasAcceptedNearer {D : Type 0} (term_length : ℕ) (a b : Subject D)
+    (trace : List (TraceEvent D)) : Type 0 where
   pub third : Subject D
   pub before : List (TraceEvent D)
   pub signs : SignsAfter trace before a ⊎ SignsAfter trace before b
@@ -115,9 +120,9 @@ pub record HasAcceptedNearer {D : Type 0} (term_length : ℕ) (a b : Subject D) 
       ⊎ (Contradicts term_length third b × (distance third b < distance a b))
 
 module _ {D : Type 0} where
-  -- of a member nothing is known, as of a faulty one; or all that it did
+  -- of a member nothing is known, as of a faulty one; or its whole trace
 
-  -- this vote may be of replica `i`: nothing is known of it, or the vote is in its trace
+  -- this vote may be of member `i`: nothing is known of it, or the vote is in its trace
   abbrev pub MayHaveVoted : Subject D → ℕ → Option (List (TraceEvent D)) → Type 0
   MayHaveVoted vote i None = ⊤
   MayHaveVoted vote i (Some trace) = Contains trace (Signs i vote)
@@ -126,7 +131,7 @@ module _ {D : Type 0} where
   abbrev pub MayBeCertified : List (Option (List (TraceEvent D))) → Subject D → Type 0
   MayBeCertified members vote = AtLeastFrom 0 (quorum (length members)) (MayHaveVoted vote) members
 
-  -- so it is of each certificate that a member accepted of which something is known
+  -- this holds for each certificate accepted by a member of which something is known
   abbrev pub AcceptCertified : List (Option (List (TraceEvent D))) → Type 0
   AcceptCertified members =
       (i : ℕ) (trace : List (TraceEvent D)) (certificate : Subject D)
@@ -134,8 +139,8 @@ module _ {D : Type 0} where
       → Contains trace (Accepts certificate)
       → MayBeCertified members certificate
 
-  -- replica `i` answers for both: nothing is known of it; or it signed both votes, and broke a rule by these or
-  -- was misled by a third certificate
+  -- member `i` is accountable for both: nothing is known of it; or it signed both votes, and broke a rule by these or was misled by
+  -- a third certificate
   abbrev pub IsResponsibleFor : ℕ → Subject D → Subject D → ℕ → Option (List (TraceEvent D)) → Type 0
   IsResponsibleFor term_length a b i None = ⊤
   IsResponsibleFor term_length a b i (Some trace) =
@@ -143,7 +148,7 @@ module _ {D : Type 0} where
       × Contains trace (Signs i b)
       × (BreaksBy term_length trace a b ⊎ HasAcceptedNearer term_length a b trace)
 
-  -- replica `i` signed both votes, and broke a rule by these
+  -- member `i` signed both votes, and broke a rule by these
   abbrev pub IsGuilty : ℕ → Subject D → Subject D → ℕ → Option (List (TraceEvent D)) → Type 0
   IsGuilty term_length a b i None = ⊥
   IsGuilty term_length a b i (Some trace) =
@@ -154,21 +159,24 @@ module _ {D : Type 0} where
   IsSuspect term_length a b i None = ⊤
   IsSuspect term_length a b i (Some trace) = IsGuilty term_length a b i (Some trace)
 
-  -- of so many nothing is known
+  -- the number of members of which nothing is known
   abbrev pub unknowns : List (Option (List (TraceEvent D))) → ℕ
   unknowns members = count_by (λ member. not (is_some member)) members
 
--- two certificates that contradict, no farther apart than two others, at which n - 2f members are unknown or broke a rule: of
--- those whose trace is known so many fewer as nothing is known of
-pub record IsTraced {D : Type 0} (term_length : ℕ) (members : List (Option (List (TraceEvent D)))) (a b : Subject D) : Type 0 where
+-- two certificates that contradict, no farther apart than two others, at which n - 2f members are unknown or broke a rule: among
+-- those whose trace is known, n - 2f less the number of unknown ones
+pub record IsTraced {D : Type 0} (term_length : ℕ) (members : List (Option (List (TraceEvent D))))
+    (a b : Subject D) : Type 0 where
   pub first : Subject D
   pub second : Subject D
   pub contradict : Contradicts term_length first second
   pub near : distance first second ≤ distance a b
   pub first_certified : MayBeCertified members first
   pub second_certified : MayBeCertified members second
-  pub suspects : AtLeastFrom 0 (length members - 2 * max_faults (length members)) (IsSuspect term_length first second) members
-  pub guilty : AtLeastFrom 0 (length members - 2 * max_faults (length members) - unknowns members) (IsGuilty term_length first second) members
+  pub suspects : AtLeastFrom 0 (length members - 2 * max_faults (length members))
+      (IsSuspect term_length first second) members
+  pub guilty : AtLeastFrom 0 (length members - 2 * max_faults (length members) - unknowns members)
+      (IsGuilty term_length first second) members
 
 -- the third certificate is none of the two
 abbrev pub ThirdIsAnother : (D : Type 0) → Type 0
@@ -177,7 +185,7 @@ ThirdIsAnother D =
     → (nearer : HasAcceptedNearer term_length a b trace)
     → (nearer.third ≢ a) × (nearer.third ≢ b)
 
--- who signed both votes of such evidence has broken a rule
+-- a member that signed both votes of such evidence has broken a rule
 abbrev pub EvidenceHolds : (D : Type 0) → Type 0
 EvidenceHolds D =
     (term_length : ℕ) (trace : List (TraceEvent D)) (a b : Subject D)
@@ -185,22 +193,23 @@ EvidenceHolds D =
 
 -- certificates that contradict at no distance are evidence
 abbrev pub NearestIsEvidence : (D : Type 0) → Type 0
-NearestIsEvidence D = (term_length : ℕ) (a b : Subject D) → Contradicts term_length a b → distance a b ≡ 0 → IsEvidence a b
+NearestIsEvidence D = (term_length : ℕ) (a b : Subject D) → Contradicts term_length a b
+    → distance a b ≡ 0 → IsEvidence a b
 
--- what is called a broken rule is one
+-- each broken rule is indeed one of the voting rules
 abbrev pub BrokenRulesAreRules : (D : Type 0) → Type 0
 BrokenRulesAreRules D =
     (term_length : ℕ) (trace : List (TraceEvent D)) (a b : Subject D)
     → BreaksBy term_length trace a b → HasSigned trace a → HasSigned trace b → IsLawful term_length trace → ⊥
 
--- n - 2f members answer for two certificates that contradict
+-- n - 2f members are accountable for two certificates that contradict
 abbrev pub ContradictionsHaveFaultyMembers : (D : Type 0) → Type 0
 ContradictionsHaveFaultyMembers D =
     (term_length : ℕ) (members : List (Option (List (TraceEvent D)))) (a b : Subject D)
     → Contradicts term_length a b → MayBeCertified members a → MayBeCertified members b
     → AtLeastFrom 0 (length members - 2 * max_faults (length members)) (IsResponsibleFor term_length a b) members
 
--- and where each certificate that is known to be accepted may be there, broken rules are found
+-- and if each certificate that is known to be accepted may exist, broken rules are found
 abbrev pub ContradictionsAreTraced : (D : Type 0) → Type 0
 ContradictionsAreTraced D =
     (term_length : ℕ) (members : List (Option (List (TraceEvent D)))) (a b : Subject D)
@@ -208,29 +217,32 @@ ContradictionsAreTraced D =
     → IsTraced term_length members a b
 
 module _ {K L D : Type 0} where
-  -- what is known of a replica: all that it did, or of a faulty one nothing
+  -- what is known of a member: its whole trace, or of a faulty one nothing
   abbrev pub known_of : Replica K L D → Option (List (TraceEvent D))
   known_of Faulty = None
   known_of (Honest s) = Some (trace_of s)
 
 module _ {K L D : Type 0} (same : D → D → Bool) (elect : Elect L) where
-  -- however many are faulty: each other replica runs as it says, and each certificate that one of these accepted is backed
+  -- for any number of faulty members: each other one runs as it says, and each certificate that one of these accepted is backed
   pub record IsBackedNetwork (term_length : ℕ) (network : List (Replica K L D)) : Type 0 where
-    pub honest : (i : ℕ) (s : Execution K L D) → slice_get network i ≡ Some (Honest s) → IsExecution same elect term_length i s
+    pub honest : (i : ℕ) (s : Execution K L D) → slice_get network i ≡ Some (Honest s)
+        → IsExecution same elect term_length i s
     pub backed : (i : ℕ) (s : Execution K L D) (certificate : Subject D) → slice_get network i ≡ Some (Honest s)
         → Contains (trace_of s) (Accepts certificate) → Backed network certificate
 
 module _ (K : Type 0) {L D : Type 0} (same : D → D → Bool) (elect : Elect L) where
-  -- where two backed certificates contradict, n - 2f replicas are faulty
+  -- if two backed certificates contradict, n - 2f members are faulty
   abbrev pub ContradictionsNeedFaults : Type 0
   ContradictionsNeedFaults =
       (term_length : ℕ) (network : List (Replica K L D)) (a b : Subject D)
-      → IsBackedNetwork same elect term_length network → Contradicts term_length a b → Backed network a → Backed network b
+      → IsBackedNetwork same elect term_length network → Contradicts term_length a b → Backed network a
+      → Backed network b
       → length network - 2 * max_faults (length network) ≤ faults network
 
-  -- and two are found that contradict, no farther apart, whose votes n - 2f replicas gave that are faulty or broke a rule by these
+  -- and two are found that contradict, no farther apart, with votes of n - 2f members that are faulty or broke a rule by these
   abbrev pub ContradictionsAreTracedInNetworks : Type 0
   ContradictionsAreTracedInNetworks =
       (term_length : ℕ) (network : List (Replica K L D)) (a b : Subject D)
-      → IsBackedNetwork same elect term_length network → Contradicts term_length a b → Backed network a → Backed network b
+      → IsBackedNetwork same elect term_length network → Contradicts term_length a b → Backed network a
+      → Backed network b
       → IsTraced term_length (map known_of network) a b

@@ -1,4 +1,4 @@
--- What the members of a network agree on.
+-- The agreement of a network's members.
 use Rattle.std.specs.Prelude.{◌≡◌, ℕ, ◌≤◌, ◌<◌, ◌⊎◌, ⊤, false, List, [], ◌∷◌, Contains}
 use Rattle.simplex_types.specs.Terms.{covers}
 use Rattle.simplex_types.specs.declared.types.messages.Proposal.{Proposal}
@@ -18,7 +18,8 @@ module _ {K L D : Type 0} (network : List (Replica K L D)) where
   -- no finalized view is covered by a nullification
   abbrev pub FinalizedUncovered : ℕ → Type 0
   FinalizedUncovered term_length =
-      (final : Proposal D) (round : Round) → Backed network (subject.Finalize final) → Backed network (subject.Nullify round)
+      (final : Proposal D) (round : Round) → Backed network (subject.Finalize final)
+      → Backed network (subject.Nullify round)
       → covers term_length round.view final.round.view ≡ false
 
   -- a proposal with a certificate names an earlier view as its parent
@@ -33,7 +34,8 @@ module _ {K L D : Type 0} (network : List (Replica K L D)) where
 
   -- a finalized proposal is notarized
   abbrev pub FinalizedNotarized : Type 0
-  FinalizedNotarized = (final : Proposal D) → Backed network (subject.Finalize final) → Backed network (subject.Notarize final)
+  FinalizedNotarized = (final : Proposal D) → Backed network (subject.Finalize final)
+      → Backed network (subject.Notarize final)
 
   -- notarized proposals from the newest down, each naming the next one's view as its parent
   abbrev pub Chain : List (Proposal D) → Type 0
@@ -41,9 +43,10 @@ module _ {K L D : Type 0} (network : List (Replica K L D)) where
   Chain (p ∷ []) = Backed network (subject.Notarize p)
   Chain (p ∷ (q ∷ rest)) = Backed network (subject.Notarize p) × (p.parent ≡ q.round.view) × Chain (q ∷ rest)
 
-  -- a chain from above a finalized view down to it or below holds the finalized proposal
+  -- a chain from above a finalized view down to it or below has the finalized proposal
   abbrev pub ChainHoldsFinalized : Type 0
   ChainHoldsFinalized =
       (final high low : Proposal D) (chain : List (Proposal D)) → Backed network (subject.Finalize final) → Chain chain
-      → Contains chain high → Contains chain low → final.round.view < high.round.view → low.round.view ≤ final.round.view
+      → Contains chain high → Contains chain low → final.round.view < high.round.view
+      → low.round.view ≤ final.round.view
       → Contains chain final

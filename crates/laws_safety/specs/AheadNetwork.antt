@@ -14,14 +14,16 @@ use Rattle.laws_safety.specs.ScenarioSteps.{proposal, certificate, notarize_repl
 -- a start at genesis, with one view ahead that is voted for
 abbrev pub ahead_start : ℕ → StartFacts ℕ ℕ ℕ
 ahead_start me = record (begin_at 2 me) {
-  setup = record (begin_at 2 me).setup { terms = record { term_length = 2; optimistic_views = 1; stall_timeout = None } };
+  setup = record (begin_at 2 me).setup {
+    terms = record { term_length = 2; optimistic_views = 1; stall_timeout = None };
+  };
 }
 
 -- view 3 starts the next term, on view 2
 abbrev pub three : Proposal ℕ
 three = proposal 3 2
 
--- it votes for views 1 and 2 before it hears of any certificate; view 1 is certified then, and it votes to finalize it
+-- it votes for views 1 and 2 before it receives any certificate; then view 1 is certified, and it votes to finalize it
 abbrev pub votes_ahead : ℕ → List (StepFacts ℕ ℕ ℕ × ReplyFacts ℕ ℕ)
 votes_ahead me =
     hears one true ∷ verifies me 3 one ++ hears two true ∷ verifies me 3 two ++ certifies one ++ votes_for me one ∷ []
@@ -40,11 +42,13 @@ ends_term me = certifies two ++ votes_for me two ∷ []
 
 -- the next leader
 abbrev pub early : Execution ℕ ℕ ℕ
-early = execution_from (ahead_start 0) (votes_ahead 0 ++ takes_over_early ++ ends_term 0 ++ certifies three ++ finalizes 0 three)
+early = execution_from (ahead_start 0)
+    (votes_ahead 0 ++ takes_over_early ++ ends_term 0 ++ certifies three ++ finalizes 0 three)
 
 -- another member verifies the early proposal once view 2 is certified
 abbrev pub following_early : Execution ℕ ℕ ℕ
-following_early = execution_from (ahead_start 1) (votes_ahead 1 ++ ends_term 1 ++ hears three true ∷ verifies 1 0 three ++ certifies three ++ finalizes 1 three)
+following_early = execution_from (ahead_start 1)
+    (votes_ahead 1 ++ ends_term 1 ++ hears three true ∷ verifies 1 0 three ++ certifies three ++ finalizes 1 three)
 
 -- a third one starts late, at the finalization of view 2
 abbrev pub joining : Execution ℕ ℕ ℕ

@@ -1,4 +1,4 @@
--- Members of whom much is refused, and whose lives differ, step by step.
+-- A member that refuses much, and one whose lifetimes differ, step by step.
 use Rattle.std.specs.Prelude.{ℕ, ◌-◌, ◌^◌, true, false, List, [], ◌∷◌, ◌++◌, Some, None}
 use Rattle.simplex_types.specs.Config.{Genesis, Finalized}
 use Rattle.simplex_types.specs.declared.types.fault.Fault.TheVariants.{Failed, ViewTooLarge, TimeOverflow}
@@ -18,7 +18,7 @@ use Rattle.laws_safety.specs.ScenarioSteps.{settings, set_up_as, context_of, pro
 abbrev pub not_restarted : StartFacts ℕ ℕ ℕ → RecoverError → StepFacts ℕ ℕ ℕ × ReplyFacts ℕ ℕ
 not_restarted start why = (Restarts (record { drop = 0; prune = false; start = start }), NotRestarted why)
 
--- a start that keeps more views than the lives before
+-- a start that retains more views than the lifetimes before
 abbrev pub wider_start : StartFacts ℕ ℕ ℕ
 wider_start = record {
   setup = record (set_up_as 5 1) { settings = record settings { view_retention = 2 } };
@@ -39,8 +39,8 @@ refuses_certificates =
     ∷ (Calls (AddFinalization (certificate foreign) 0), NotAllowed)
     ∷ []
 
--- a member refuses certificates, and a restart that asks for more views of its pruned record, by which it stays as it was; a
--- restart at a floor of another epoch ends its life, and it refuses all until it restarts
+-- a member refuses certificates, and a restart that would retain more views of its pruned record, which changes nothing; a restart
+-- at a floor of another epoch ends its lifetime, and it refuses all until it restarts
 abbrev pub refusing : Execution ℕ ℕ ℕ
 refusing = execution_from (start_at 5 (Genesis 0) 1) (
     accepts one
@@ -65,14 +65,21 @@ keyless_start = record (start_at 5 (Genesis 0) 1) { setup = record (set_up_as 5 
 abbrev pub other_start : StartFacts ℕ ℕ ℕ
 other_start = record {
   setup = record (set_up_as 5 1) {
-    settings = record { epoch = 1; view_retention = 3; leader_timeout = 300; certification_timeout = 700; timeout_retry = 50; skip_budget = 1 };
+    settings = record {
+      epoch = 1;
+      view_retention = 3;
+      leader_timeout = 300;
+      certification_timeout = 700;
+      timeout_retry = 50;
+      skip_budget = 1;
+    };
     terms = record { term_length = 5; optimistic_views = 2; stall_timeout = Some 900 };
   };
   floor = Finalized (certificate one);
   now = 7;
 }
 
--- without a key it verifies and certifies as ever, and is asked for votes in vain
+-- without a key it verifies and certifies as before, and is asked for votes in vain
 abbrev pub signs_nothing : List (StepFacts ℕ ℕ ℕ × ReplyFacts ℕ ℕ)
 signs_nothing =
     hears one true
@@ -84,8 +91,8 @@ signs_nothing =
     ∷ (Calls (ConstructNullify 2), Nullify None)
     ∷ []
 
--- a member without a key restarts with one, with other settings and at another floor; it certifies view 2 false, and gives it
--- up. Its record has votes then, so that it does not restart without a key, but as it was set up first, with the key
+-- a member without a key restarts with one, with other settings and at another floor; it certifies view 2 false, and votes to
+-- nullify it. Then its record has votes, so that it does not restart without a key, but with the first setup and the key it does
 abbrev pub changing : Execution ℕ ℕ ℕ
 changing = execution_from keyless_start (
     signs_nothing
@@ -105,10 +112,11 @@ changing = execution_from keyless_start (
 abbrev pub with_refusing : List (Replica ℕ ℕ ℕ)
 with_refusing = Honest (patient 0) ∷ Honest refusing ∷ Honest (patient 2) ∷ Faulty ∷ []
 
--- a member votes for views 1 and 2, and gives the second one up
+-- a member votes for views 1 and 2, and votes to nullify the second one
 abbrev pub abandoning : Execution ℕ ℕ ℕ
-abandoning = execution_from (start_at 5 (Genesis 0) 0) (votes_through 0 one ++ hears two true ∷ verifies 0 3 two ++ votes_against 0 2 ∷ [])
+abandoning = execution_from (start_at 5 (Genesis 0) 0)
+    (votes_through 0 one ++ hears two true ∷ verifies 0 3 two ++ votes_against 0 2 ∷ [])
 
--- four members, of which the first leader is faulty; one gives view 2 up, and another one votes through both views
+-- four members, of which the first leader is faulty; one votes to nullify view 2, and another one votes through both views
 abbrev pub with_changing : List (Replica ℕ ℕ ℕ)
 with_changing = Honest abandoning ∷ Honest changing ∷ Honest (patient 2) ∷ Faulty ∷ []

@@ -1,4 +1,4 @@
--- How a network goes on from what it did so far and finalizes a view, by what its honest members do alone.
+-- How a network continues and finalizes a view, by actions of its honest members alone.
 use Rattle.std.specs.Prelude.{◌≡◌, ℕ, ◌<◌, ◌⊎◌, ⊤, Bool, List, [], ◌∷◌, ◌++◌, length, map, slice_get, Contains, Some}
 use Rattle.simplex_types.specs.declared.types.messages.Proposal.{Proposal}
 use Rattle.simplex_types.specs.declared.types.messages.Subject.{Subject}
@@ -15,11 +15,11 @@ module _ {K L D : Type 0} where
   abbrev pub and_then : Execution K L D → List (StepFacts K L D × ReplyFacts K D) → Execution K L D
   and_then s more = record s { steps = s.steps ++ map (λ e. e.0) more; replies = s.replies ++ map (λ e. e.1) more }
 
-  -- the one execution goes on as the other
+  -- the first execution continues as the second
   abbrev pub ExecutionContinues : Execution K L D → Execution K L D → Type 0
   ExecutionContinues s later = (more : List (StepFacts K L D × ReplyFacts K D)) × (later ≡ and_then s more)
 
-  -- each replica stays the same member: a faulty one, or an honest one whose execution goes on
+  -- each member stays the same: a faulty one, or an honest one whose execution continues
   abbrev pub ReplicasContinue : List (Replica K L D) → List (Replica K L D) → Type 0
   ReplicasContinue [] [] = ⊤
   ReplicasContinue (Faulty ∷ network) (Faulty ∷ later) = ReplicasContinue network later
@@ -42,32 +42,35 @@ module _ {K L D : Type 0} where
   abbrev pub HasAccepted : Subject D → ℕ → Execution K L D → Type 0
   HasAccepted certificate i s = Contains (trace_of s) (Accepts certificate)
 
-  -- this proposal was handed to it as one of this view
+  -- it received this proposal as one of this view
   abbrev pub HasHeard : ℕ → Proposal D → Execution K L D → Type 0
   HasHeard v p s = Contains s.steps (Calls (SetProposal v p))
 
   -- it built this proposal, and signed its own vote for it
   abbrev pub HasBuilt : Proposal D → ℕ → Execution K L D → Type 0
-  HasBuilt p i s = ((now : ℕ) × Contains s.steps (Calls (Proposed p.round.view p.payload now))) × HasSignedAs (Notarize p) i s
+  HasBuilt p i s = ((now : ℕ) × Contains s.steps (Calls (Proposed p.round.view p.payload now)))
+      × HasSignedAs (Notarize p) i s
 
   -- an honest member signed this vote
   abbrev pub IsHonestlySigned : Subject D → ℕ → Replica K L D → Type 0
   IsHonestlySigned vote i Faulty = ⊥
   IsHonestlySigned vote i (Honest s) = HasSignedAs vote i s
 
-  -- so many did that they alone make a certificate of it
+  -- enough honest members signed it to make a certificate of it alone
   abbrev pub HonestlyBacked : List (Replica K L D) → Subject D → Type 0
   HonestlyBacked network vote = AtLeastFrom 0 (quorum (length network)) (IsHonestlySigned vote) network
 
 module _ {K L D : Type 0} (same : D → D → Bool) (elect : Elect L) where
-  -- the network may go on as this later one, where this proposal is finalized, by what its honest members do alone
-  pub record ContinuesToFinalize (term_length : ℕ) (network later : List (Replica K L D)) (final : Proposal D) : Type 0 where
+  -- the network may continue as this later one, where this proposal is finalized, by actions of its honest members alone
+  pub record ContinuesToFinalize (term_length : ℕ) (network later : List (Replica K L D))
+      (final : Proposal D) : Type 0 where
     pub continues : ReplicasContinue network later
     -- each honest member runs, and each certificate that it accepts is backed
     pub runs : IsNetworkOf same elect term_length later
     -- a certificate that an honest member accepts was accepted by an honest one before, or honest ones alone make it
-    pub certificates : EachHonest later (λ i s. (c : Subject D) → HasAccepted c i s → SomeHonest network (HasAccepted c) ⊎ HonestlyBacked later c)
-    -- a proposal that is handed to it was handed to an honest one before, or an honest one built it
+    pub certificates : EachHonest later
+        (λ i s. (c : Subject D) → HasAccepted c i s → SomeHonest network (HasAccepted c) ⊎ HonestlyBacked later c)
+    -- a proposal that it receives was received by an honest one before, or an honest one built it
     pub proposals : EachHonest later (λ i s. (v : ℕ) (p : Proposal D) → HasHeard v p s
         → SomeHonest network (λ j t. HasHeard v p t) ⊎ SomeHonest later (HasBuilt p))
     -- each signs the vote to finalize the proposal, and accepts its finalization

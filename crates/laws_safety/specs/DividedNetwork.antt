@@ -1,4 +1,5 @@
--- A network of four whose first leader proposes twice: no proposal gets votes enough, and each honest member restarts_pruned.
+-- A network of four whose first leader proposes twice: no proposal gets enough votes, and each honest member restarts with a pruned
+-- record.
 use Rattle.std.specs.Prelude.{ℕ, true, false, List, [], ◌∷◌, ◌++◌, None}
 use Rattle.simplex_types.specs.declared.reasons.TimeoutReason.{TimeoutReason}
 use Rattle.simplex_types.specs.declared.reasons.TimeoutReason.TheVariants.{LeaderTimeout, CertificationTimeout}
@@ -19,11 +20,11 @@ rival = record { round = round 1; parent = 0; payload = 9 }
 abbrev pub restarts_pruned : ℕ → StepFacts ℕ ℕ ℕ × ReplyFacts ℕ ℕ
 restarts_pruned me = (Restarts (record { drop = 3; prune = true; start = begin_at 1 me }), Restarted)
 
--- a member votes for the proposal that it hears of first, and restarts_pruned after the other one
+-- a member votes for the proposal that it receives first, and restarts with a pruned record after the other one
 abbrev pub deceived : ℕ → Proposal ℕ → Proposal ℕ → Execution ℕ ℕ ℕ
 deceived me p other = begins_with 1 me (hears p true ∷ verifies me 3 p ++ hears other false ∷ restarts_pruned me ∷ [])
 
--- another hears of both, so it votes for none, and restarts_pruned
+-- another one receives both, so it votes for none, and restarts with a pruned record
 abbrev pub warned : ℕ → Execution ℕ ℕ ℕ
 warned me = begins_with 1 me (
     hears one true
@@ -42,11 +43,12 @@ divided = Honest (deceived 0 one rival) ∷ Honest (deceived 1 rival one) ∷ Ho
 abbrev pub after_conflict : Proposal ℕ
 after_conflict = proposal 2 0
 
--- the leader of view 2 gives view 1 up, by its deadline and why, and builds; it votes for view 2 to the end
+-- the leader of view 2 votes to nullify view 1, by its deadline and reason, and builds; it votes for view 2 to the end
 abbrev pub leads_past_conflict : ℕ → ℕ → TimeoutReason → List (StepFacts ℕ ℕ ℕ × ReplyFacts ℕ ℕ)
-leads_past_conflict me at why = abandons me 1 at why ++ skips 1 ∷ builds me after_conflict ++ certifies after_conflict ++ finalizes me after_conflict
+leads_past_conflict me at why = abandons me 1 at why ++ skips 1 ∷ builds me after_conflict ++ certifies after_conflict
+    ++ finalizes me after_conflict
 
--- another member does so, and verifies
+-- another member does the same, and verifies
 abbrev pub follows_past_conflict : ℕ → ℕ → TimeoutReason → List (StepFacts ℕ ℕ ℕ × ReplyFacts ℕ ℕ)
 follows_past_conflict me at why =
     abandons me 1 at why

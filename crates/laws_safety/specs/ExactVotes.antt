@@ -17,38 +17,43 @@ ends_in_fault (Refused fault) = true
 ends_in_fault _ = false
 
 module _ {D : Type 0} where
-  -- the vote on this, by the member that the scheme signs as
+  -- the vote on this subject, by the member that the scheme signs as
   abbrev pub IsSignedFor : Option ℕ → Option (Subject D) → TraceEvent D → Type 0
   IsSignedFor me about d = (i : ℕ) × (vote : Subject D) × (me ≡ Some i) × (about ≡ Some vote) × (d ≡ Signs i vote)
 
 module _ {K D : Type 0} where
-  -- a vote is told only where its rule holds, and so signed; and where the rule holds and there is a key it is told, unless
-  -- the call is refused
+  -- a vote is returned only if its rule holds, and signed accordingly; and if the rule holds and there is a key it is returned,
+  -- unless the call is refused
   pub record IsExact (Rule : Type 0) (me : Option ℕ) (about : Option (Subject D)) (told : ReplyFacts K D) : Type 0 where
     pub only : (d : TraceEvent D) → Contains (signed_in told) d → Rule × IsSignedFor me about d
     pub due : (d : TraceEvent D) → ends_in_fault told ≡ false → Rule → IsSignedFor me about d → signed_in told ≡ d ∷ []
 
--- the proposal that is held of a view
+-- the held proposal of a view
 abbrev pub proposal_at : {K L D : Type 0} → StateFacts K L D → ℕ → Option (Proposal D)
 proposal_at x v = (round_of x v).slot.held
 
 module _ {K L D : Type 0} (same : D → D → Bool) (elect : Elect L) where
-  -- of what the state knows before a step: each request for a vote is answered exactly by its rule, and nothing else by a vote
+  -- by what the state knows before a step: the reply to each request for a vote is exactly by its rule, and no other reply has a
+  -- vote
   abbrev pub ExactAt : Option (StateFacts K L D) → StepFacts K L D → ReplyFacts K D → Type 0
   ExactAt None step told = signed_in told ≡ []
-  ExactAt (Some x) (Calls (ConstructNullify v)) told = IsExact (NullifyRule x v) x.me (Some (subject.Nullify (round_number x v))) told
-  ExactAt (Some x) (Calls (ConstructFinalize v)) told = IsExact (FinalizeRule elect x v) x.me (option_map subject.Finalize (proposal_at x v)) told
-  ExactAt (Some x) (Calls (ConstructNotarize v)) told = IsExact (NotarizeRule same elect x v) x.me (option_map subject.Notarize (proposal_at x v)) told
+  ExactAt (Some x) (Calls (ConstructNullify v)) told =
+      IsExact (NullifyRule x v) x.me (Some (subject.Nullify (round_number x v))) told
+  ExactAt (Some x) (Calls (ConstructFinalize v)) told =
+      IsExact (FinalizeRule elect x v) x.me (option_map subject.Finalize (proposal_at x v)) told
+  ExactAt (Some x) (Calls (ConstructNotarize v)) told =
+      IsExact (NotarizeRule same elect x v) x.me (option_map subject.Notarize (proposal_at x v)) told
   ExactAt (Some x) _ told = signed_in told ≡ []
 
-  -- so it is at each step of a run, of the very member that the steps before it left
+  -- this holds at each step of a run, for the very member that the steps before it left
   abbrev pub RunsExactly : MemberFacts K L D → List (StepFacts K L D) → List (ReplyFacts K D) → Type 0
   RunsExactly m [] [] = ⊤
   RunsExactly m [] (told ∷ replies) = ⊥
   RunsExactly m (step ∷ steps) [] = ⊥
   RunsExactly m (step ∷ steps) (told ∷ replies) =
-      ExactAt m.life step told × ((next : MemberFacts K L D) × IsStep same elect m step told next × RunsExactly next steps replies)
+      ExactAt m.life step told
+      × ((next : MemberFacts K L D) × IsStep same elect m step told next × RunsExactly next steps replies)
 
-  -- so it is from the start on
+  -- this holds from the start on
   abbrev pub SignsExactly : Execution K L D → Type 0
   SignsExactly s = RunsExactly (new_member same elect s.start) s.steps s.replies

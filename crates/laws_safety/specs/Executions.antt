@@ -1,4 +1,4 @@
--- What a member of a network does, over all its lives: what comes to it, what it answers, and its trace.
+-- The execution of a network's member, over all its lifetimes: its inputs, its replies, and its trace.
 use Rattle.std.specs.Prelude.{◌≡◌, ◌⊎◌, ℕ, Bool, List, ◌++◌, Contains, Some, None}
 use Rattle.simplex_voter.specs.Facts.{Elect}
 use Rattle.simplex_record.specs.Start.{Setup, StartFacts, new_state}
@@ -24,29 +24,30 @@ pub record Execution (K L D : Type 0) : Type 0 where
 abbrev pub trace_of : {K L D : Type 0} → Execution K L D → List (TraceEvent D)
 trace_of s = of_floor s.start.floor ++ trace_of_steps s.steps s.replies
 
--- a life begins with terms of this many views, and signs as this member or not at all
+-- a lifetime begins with terms of this many views, and signs as this member or not at all
 pub record BeginsAs {K L : Type 0} (term_length i : ℕ) (setup : Setup K L) : Type 0 where
   pub terms : HasTerms term_length setup
   pub signs_as : (setup.me ≡ Some i) ⊎ (setup.me ≡ None)
 
 module _ {K L D : Type 0} where
-  -- so does each life of a start and these steps
+  -- this holds for each lifetime of a start and these steps
   pub record RunsAs (term_length i : ℕ) (start : StartFacts K L D) (steps : List (StepFacts K L D)) : Type 0 where
     pub first : BeginsAs term_length i start.setup
     pub later : (r : _) → Contains steps (Restarts r) → BeginsAs term_length i r.start.setup
 
 module _ {K L D : Type 0} (same : D → D → Bool) (elect : Elect L) where
-  -- what member `i` of a network does, whatever comes to it
+  -- an execution of member `i` of a network, whatever its inputs
   pub record IsExecution (term_length i : ℕ) (s : Execution K L D) : Type 0 where
     pub lives : RunsAs term_length i s.start s.steps
     pub run : IsRunFrom same elect s.start s.steps s.replies
 
 module _ (K : Type 0) {L D : Type 0} (same : D → D → Bool) (elect : Elect L) where
-  -- of all that a member of a network may do, in terms of whatever length
+  -- for all that a member of a network may do, in terms of any length
   abbrev pub OfEachMember : (ℕ → Execution K L D → Type 0) → Type 0
-  OfEachMember Holds = (term_length i : ℕ) (s : Execution K L D) → IsExecution same elect term_length i s → Holds term_length s
+  OfEachMember Holds = (term_length i : ℕ) (s : Execution K L D) → IsExecution same elect term_length i s
+      → Holds term_length s
 
-  -- the trace of a run keeps the voting rules, whatever each of its lives signs as
+  -- the trace of a run keeps the voting rules, whatever key each of its lifetimes signs with
   abbrev pub RunsAreLawful : Type 0
   RunsAreLawful =
       (term_length : ℕ) (s : Execution K L D)

@@ -1,4 +1,4 @@
--- A network of four in which a leader takes its term over early, on a view that is nullified then.
+-- A network of four in which a leader takes its term over early, on a view that is then nullified.
 use Rattle.std.specs.Prelude.{ℕ, true, List, [], ◌∷◌, ◌++◌, Some}
 use Rattle.simplex_types.specs.declared.reasons.Kind.TheVariants.{Notarization}
 use Rattle.simplex_types.specs.declared.reasons.TimeoutReason.TheVariants.{LeaderTimeout, CertificationTimeout}
@@ -16,8 +16,8 @@ use Rattle.laws_safety.specs.Executions.{Execution}
 abbrev pub handed_over : Proposal ℕ
 handed_over = proposal 3 2
 
--- member 0 alone hears of the proposal of view 2, votes for it and for its own one on it, and has no vote left in view 3 when
--- view 2 is nullified
+-- only member 0 receives the proposal of view 2, votes for it and for its own one on it, and has no vote left in view 3 when view 2
+-- is nullified
 abbrev pub takes_over : Execution ℕ ℕ ℕ
 takes_over = begins_with 2 0 (
     first_view 0
@@ -54,11 +54,13 @@ leaves_term me = abandons me 3 2000 CertificationTimeout ++ skips 3 ∷ []
 
 -- the leader of view 5 builds, and votes for it to the end
 abbrev pub leads_past_handoff : ℕ → List (StepFacts ℕ ℕ ℕ × ReplyFacts ℕ ℕ)
-leads_past_handoff me = leaves_term me ++ builds me after_handoff ++ certifies after_handoff ++ finalizes me after_handoff
+leads_past_handoff me = leaves_term me ++ builds me after_handoff ++ certifies after_handoff
+    ++ finalizes me after_handoff
 
--- another member verifies, and does so too
+-- another member verifies, and does the same
 abbrev pub follows_past_handoff : ℕ → List (StepFacts ℕ ℕ ℕ × ReplyFacts ℕ ℕ)
-follows_past_handoff me = leaves_term me ++ hears after_handoff true ∷ verifies me 1 after_handoff ++ certifies after_handoff ++ finalizes me after_handoff
+follows_past_handoff me = leaves_term me ++ hears after_handoff true ∷ verifies me 1 after_handoff
+    ++ certifies after_handoff ++ finalizes me after_handoff
 
 -- all three finalize view 5
 abbrev pub gone_on : List (Replica ℕ ℕ ℕ)

@@ -1,4 +1,4 @@
--- What each life of a member keeps. A life lies between a start or a restart and the next one.
+-- The laws of each lifetime of a member. A lifetime lies between a start or a restart and the next one.
 use Rattle.std.specs.Prelude.{◌≡◌, ◌⊎◌, ℕ, ◌<◌, ◌≤◌, Bool, true, false, List, [], ◌∷◌, ◌++◌, map, length, nat_eq, Contains, Option, Some, None, MatchOption}
 use Rattle.std.specs.List.{IsDistinct}
 use Rattle.simplex_types.specs.Certificates.{CertificateFacts, Notarized, Nullified, Finalized}
@@ -21,19 +21,21 @@ use Rattle.laws_safety.specs.ExactVotes.{proposal_at}
 use Rattle.laws_safety.specs.TermLengths.{HasTerms, KeepTerms}
 
 module _ {K L D : Type 0} (same : D → D → Bool) (elect : Elect L) where
-  -- calls within one life, one reply a call: a run without a restart
+  -- calls within one lifetime, one reply a call: a run without a restart
   abbrev pub IsLifetime : MemberFacts K L D → List (CallFacts D) → List (ReplyFacts K D) → MemberFacts K L D → Type 0
   IsLifetime m calls replies end = IsRun same elect m (map Calls calls) replies end
 
-  -- a run from a start leads to a member, and these calls go on from there within its life
+  -- a run from a start leads to a member, and these calls continue it within its lifetime
   pub record IsLifetimeOfRun (start : StartFacts K L D) (steps : List (StepFacts K L D)) (told : List (ReplyFacts K D))
-      (m : MemberFacts K L D) (calls : List (CallFacts D)) (replies : List (ReplyFacts K D)) (end : MemberFacts K L D) : Type 0 where
+      (m : MemberFacts K L D) (calls : List (CallFacts D)) (replies : List (ReplyFacts K D))
+      (end : MemberFacts K L D) : Type 0 where
     pub accepted : recover_error same (new_state start.setup) start.floor start.now [] ≡ None
     pub reached : IsRun same elect (new_member same elect start) steps told m
     pub life : IsLifetime m calls replies end
 
 -- this holds of the first state and the last one, unless the member has failed by then; no state comes after a failure
-abbrev pub WhileAlive : {K L D : Type 0} → (StateFacts K L D → StateFacts K L D → Type 0) → Option (StateFacts K L D) → Option (StateFacts K L D) → Type 0
+abbrev pub WhileAlive : {K L D : Type 0} → (StateFacts K L D → StateFacts K L D → Type 0) → Option (StateFacts K L D)
+    → Option (StateFacts K L D) → Type 0
 WhileAlive Holds first None = Unit {0}
 WhileAlive Holds None (Some last) = ⊥
 WhileAlive Holds (Some first) (Some last) = Holds first last
@@ -48,14 +50,15 @@ pub record CurrentTimesOut {K L D : Type 0} (x : StateFacts K L D) : Type 0 wher
   pub ahead : x.finalized < x.current
   pub timeout : has_timeout x ≡ true
 
--- wherever the rule of votes to notarize holds, the parent of the proposal that is held lies below the view, and nullifications
--- that the state knows at that moment cover each view between
+-- wherever the rule of votes to notarize holds, the parent of the held proposal lies below the view, and nullifications that the
+-- state knows at that moment cover each view between
 abbrev pub NotarizesGapless : {K L D : Type 0} → (D → D → Bool) → Elect L → StateFacts K L D → Type 0
 NotarizesGapless same elect x =
-    (v : ℕ) (p : Proposal _) → NotarizeRule same elect x v → proposal_at x v ≡ Some p → (p.parent < v) × IsGapless x p.parent v
+    (v : ℕ) (p : Proposal _) → NotarizeRule same elect x v → proposal_at x v ≡ Some p → (p.parent < v)
+    × IsGapless x p.parent v
 
 module _ {K L D : Type 0} where
-  -- a poll is told a moment to wait for and why; or its member has failed, or its next retry passes the numbers of 64 bits
+  -- a poll returns a moment to wait for and its reason; or its member has failed, or its next retry passes the numbers of 64 bits
   abbrev pub PollIsAnswered : StepFacts K L D → ReplyFacts K D → Type 0
   PollIsAnswered (Calls (NextTimeout _)) told =
       ((moment : ℕ × TimeoutReason) × (told ≡ TimesOut (Some moment)))
@@ -63,7 +66,7 @@ module _ {K L D : Type 0} where
       ⊎ (told ≡ Refused TimeOverflow)
   PollIsAnswered _ told = Unit {0}
 
-  -- so is each poll among these steps
+  -- the same for each poll among these steps
   abbrev pub PollsAreAnswered : List (StepFacts K L D) → List (ReplyFacts K D) → Type 0
   PollsAreAnswered (step ∷ steps) (told ∷ replies) = PollIsAnswered step told × PollsAreAnswered steps replies
   PollsAreAnswered _ _ = Unit {0}
@@ -72,18 +75,19 @@ module _ {K L D : Type 0} where
 abbrev pub has_conflict : {K L D : Type 0} → StateFacts K L D → ℕ → Bool
 has_conflict x v = (round_of x v).slot.conflict
 
--- a call was told that it dropped the view
+-- the reply of a call says that it dropped the view
 abbrev pub WasDropped : {K D : Type 0} → List (ReplyFacts K D) → ℕ → Type 0
 WasDropped replies v = (views : List ℕ) × Contains replies (Dropped views) × Contains views v
 
--- the view was dropped, and lies below what is kept
+-- the view was dropped, and lies below the retained views
 pub record WasPruned {K L D : Type 0} (replies : List (ReplyFacts K D)) (last : StateFacts K L D) (v : ℕ) : Type 0 where
   pub dropped : WasDropped replies v
   pub below : v < min_active last
 
 -- a conflict of a view stays until the view is pruned
 abbrev pub ConflictsStay : {K L D : Type 0} → List (ReplyFacts K D) → StateFacts K L D → StateFacts K L D → Type 0
-ConflictsStay replies first last = (v : ℕ) → has_conflict first v ≡ true → (has_conflict last v ≡ true) ⊎ WasPruned replies last v
+ConflictsStay replies first last =
+    (v : ℕ) → has_conflict first v ≡ true → (has_conflict last v ≡ true) ⊎ WasPruned replies last v
 
 -- what was dropped isn't tracked again
 abbrev pub DroppedForGood : {K L D : Type 0} → List (ReplyFacts K D) → StateFacts K L D → StateFacts K L D → Type 0
@@ -104,17 +108,17 @@ module _ {D : Type 0} where
   asked_by kind _ = []
 
 module _ {K D : Type 0} where
-  -- that view, where the call is told a certificate
+  -- that view, if the reply has a certificate
   abbrev pub returned_by_call : KindOfCertificate → CallFacts D → ReplyFacts K D → List ℕ
   returned_by_call kind call (Returned (Some _)) = asked_by kind call
   returned_by_call kind call _ = []
 
-  -- the views whose certificates of this kind are handed out to broadcast, in turn
+  -- the views whose certificates of this kind are returned for broadcast, in order
   abbrev pub returned_in : KindOfCertificate → List (CallFacts D) → List (ReplyFacts K D) → List ℕ
   returned_in kind (call ∷ calls) (told ∷ replies) = returned_by_call kind call told ++ returned_in kind calls replies
   returned_in kind _ _ = []
 
-  -- none is handed out twice
+  -- none is returned twice
   abbrev pub ReturnedOnce : List (CallFacts D) → List (ReplyFacts K D) → Type 0
   ReturnedOnce calls replies = (kind : KindOfCertificate) → IsDistinct nat_eq (returned_in kind calls replies)
 
@@ -126,25 +130,29 @@ module _ {D : Type 0} where
   kind_of_certificate (Finalized _) = Finalization
 
 module _ {K D : Type 0} where
-  -- the certificate that a call is told is of the kind and the view that it asks for
+  -- the certificate in a reply is of the kind and the view that its call asks for
   abbrev pub IsAsAsked : CallFacts D → ReplyFacts K D → Type 0
   IsAsAsked call told =
-      (kind : KindOfCertificate) (v : ℕ) (c : CertificateFacts D) → asked_by kind call ≡ v ∷ [] → told ≡ Returned (Some c)
+      (kind : KindOfCertificate) (v : ℕ) (c : CertificateFacts D) → asked_by kind call ≡ v ∷ []
+      → told ≡ Returned (Some c)
       → (kind_of_certificate c ≡ kind) × ((certificate_round c).view ≡ v)
 
-  -- so it is of each call
+  -- the same for each call
   abbrev pub ReturnedAsRequested : List (CallFacts D) → List (ReplyFacts K D) → Type 0
   ReturnedAsRequested (call ∷ calls) (told ∷ replies) = IsAsAsked call told × ReturnedAsRequested calls replies
   ReturnedAsRequested _ _ = Unit {0}
 
 module _ (K : Type 0) {L D : Type 0} (same : D → D → Bool) (elect : Elect L) where
-  -- of each life, of whatever member
-  abbrev pub OfEachLifetime : (MemberFacts K L D → List (CallFacts D) → List (ReplyFacts K D) → MemberFacts K L D → Type 0) → Type 0
+  -- for each lifetime of any member
+  abbrev pub OfEachLifetime : (MemberFacts K L D → List (CallFacts D) → List (ReplyFacts K D) → MemberFacts K L D
+      → Type 0) → Type 0
   OfEachLifetime Holds =
-      (m end : MemberFacts K L D) (calls : List (CallFacts D)) (replies : List (ReplyFacts K D)) → IsLifetime same elect m calls replies end → Holds m calls replies end
+      (m end : MemberFacts K L D) (calls : List (CallFacts D)) (replies : List (ReplyFacts K D))
+      → IsLifetime same elect m calls replies end → Holds m calls replies end
 
-  -- of each stretch of a life that a run leads to, whose lives share a length of terms
-  abbrev pub OfEachStretch : (MemberFacts K L D → List (CallFacts D) → List (ReplyFacts K D) → MemberFacts K L D → Type 0) → Type 0
+  -- for each stretch of a lifetime that a run leads to, whose lifetimes share a length of terms
+  abbrev pub OfEachStretch : (MemberFacts K L D → List (CallFacts D) → List (ReplyFacts K D) → MemberFacts K L D
+      → Type 0) → Type 0
   OfEachStretch Holds =
       (term_length : ℕ) (start : StartFacts K L D) (before : List (StepFacts K L D)) (told : List (ReplyFacts K D))
       (m end : MemberFacts K L D) (calls : List (CallFacts D)) (replies : List (ReplyFacts K D))
@@ -153,19 +161,21 @@ module _ (K : Type 0) {L D : Type 0} (same : D → D → Bool) (elect : Elect L)
       → IsLifetimeOfRun same elect start before told m calls replies end
       → Holds m calls replies end
 
-  -- of the state that a run leads to, while the member lives, whose lives share a length of terms
+  -- for the state that a run leads to, while the member has not failed, whose lifetimes share a length of terms
   abbrev pub OfEachState : (StateFacts K L D → Type 0) → Type 0
   OfEachState Holds =
-      (term_length : ℕ) (start : StartFacts K L D) (steps : List (StepFacts K L D)) (replies : List (ReplyFacts K D)) (end : MemberFacts K L D)
+      (term_length : ℕ) (start : StartFacts K L D) (steps : List (StepFacts K L D)) (replies : List (ReplyFacts K D))
+      (end : MemberFacts K L D)
       → HasTerms term_length start.setup
       → KeepTerms term_length steps
       → IsRun same elect (new_member same elect start) steps replies end
       → MatchOption end.life (Unit {0}) Holds
 
-  -- of the steps of each run and their replies, whose lives share a length of terms
+  -- for the steps of each run and their replies, whose lifetimes share a length of terms
   abbrev pub OfEachRun : (List (StepFacts K L D) → List (ReplyFacts K D) → Type 0) → Type 0
   OfEachRun Holds =
-      (term_length : ℕ) (start : StartFacts K L D) (steps : List (StepFacts K L D)) (replies : List (ReplyFacts K D)) (end : MemberFacts K L D)
+      (term_length : ℕ) (start : StartFacts K L D) (steps : List (StepFacts K L D)) (replies : List (ReplyFacts K D))
+      (end : MemberFacts K L D)
       → HasTerms term_length start.setup
       → KeepTerms term_length steps
       → IsRun same elect (new_member same elect start) steps replies end
@@ -174,7 +184,8 @@ module _ (K : Type 0) {L D : Type 0} (same : D → D → Bool) (elect : Elect L)
   -- calls of a run with no restart among them are such a stretch
   abbrev pub StretchesAreLifetimes : Type 0
   StretchesAreLifetimes =
-      (start : StartFacts K L D) (before after : List (StepFacts K L D)) (calls : List (CallFacts D)) (told replies rest : List (ReplyFacts K D))
+      (start : StartFacts K L D) (before after : List (StepFacts K L D)) (calls : List (CallFacts D))
+      (told replies rest : List (ReplyFacts K D))
       → length before ≡ length told
       → length calls ≡ length replies
       → IsRunFrom same elect start (before ++ (map Calls calls ++ after)) (told ++ (replies ++ rest))

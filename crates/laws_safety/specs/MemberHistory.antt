@@ -1,4 +1,4 @@
--- What has come to a member so far and what it answered, of the code's own values.
+-- The inputs of a member so far and its replies, as the code's own values.
 use Rattle.std.specs.Prelude.{◌≡◌, ℕ, Bool, List, [], ◌∷◌, ◌++◌, map, Option, None, Result, Ok}
 use Rattle.simplex_types.specs.declared.types.window.Terms.{Terms}
 use Rattle.simplex_types.specs.Certificates.{ArtifactFacts}
@@ -18,8 +18,9 @@ use Rattle.laws_safety.specs.Traces.{TraceEvent}
 use Rattle.laws_safety.specs.ObservedTraces.{floor_in, begun_by, StartsAs}
 use Rattle.laws_safety.specs.Executions.{new_member, Execution, trace_of, RunsAs, IsExecution}
 
--- what came to a member of the code and what it answered, as an execution
-abbrev pub execution_of : {S L D K G C : Type 0} → (S → Option ℕ) → (S → List K) → (L → Terms) → (L → Bool) → (C → List ℕ) → Start S L D K G C
+-- the inputs of a member of the code and its replies, as an execution
+abbrev pub execution_of : {S L D K G C : Type 0} → (S → Option ℕ) → (S → List K) → (L → Terms) → (L → Bool)
+    → (C → List ℕ) → Start S L D K G C
     → List (Step S L D K G C) → List (Reply S D K G C) → Execution K L D
 execution_of me members terms elects_early bytes_of start steps replies = record {
   start = start_facts me members terms elects_early bytes_of start;
@@ -28,11 +29,11 @@ execution_of me members terms elects_early bytes_of start steps replies = record
 }
 
 module _ {K L D : Type 0} where
-  -- nothing came yet
+  -- no input came yet
   abbrev pub new_execution : StartFacts K L D → Execution K L D
   new_execution start = record { start = start; steps = []; replies = [] }
 
-  -- one step more
+  -- one more step
   abbrev pub with_step : Execution K L D → StepFacts K L D → ReplyFacts K D → Execution K L D
   with_step s step told = record s { steps = s.steps ++ step ∷ []; replies = s.replies ++ told ∷ [] }
 
@@ -49,13 +50,15 @@ module _ {K L D : Type 0} (same : D → D → Bool) (elect : Elect L) where
     pub told : HasExecution term_length i execution m
     pub same_trace : trace_of execution ≡ all
 
-  -- this trace is done besides
+  -- this trace is added
   abbrev pub ExtendsHistory : MemberFacts K L D → List (TraceEvent D) → MemberFacts K L D → Type 0
-  ExtendsHistory m more next = (term_length i : ℕ) (all : List (TraceEvent D)) → HasHistory term_length i all m → HasHistory term_length i (all ++ more) next
+  ExtendsHistory m more next = (term_length i : ℕ) (all : List (TraceEvent D)) → HasHistory term_length i all m
+      → HasHistory term_length i (all ++ more) next
 
-  -- of whatever it has done so far, as whichever member
+  -- for whatever it has done so far, as any member
   abbrev pub OfEachHistory : MemberFacts K L D → (ℕ → ℕ → List (TraceEvent D) → Type 0) → Type 0
-  OfEachHistory m Holds = (term_length i : ℕ) (all : List (TraceEvent D)) → HasHistory term_length i all m → Holds term_length i all
+  OfEachHistory m Holds = (term_length i : ℕ) (all : List (TraceEvent D)) → HasHistory term_length i all m
+      → Holds term_length i all
 
 module _ (K : Type 0) {L D : Type 0} (same : D → D → Bool) (elect : Elect L) where
   -- a network may have a member `i` with this trace
@@ -65,18 +68,20 @@ module _ (K : Type 0) {L D : Type 0} (same : D → D → Bool) (elect : Elect L)
 module _ {S L D K G C : Type 0} (same : D → D → Bool) (elect : Elect L) (me : S → Option ℕ) (terms : L → Terms) where
   -- a member that begins with this start has accepted the floor's finalization
   abbrev pub HasStarted : Start S L D K G C → MemberFacts K L D → Type 0
-  HasStarted start m = (term_length i : ℕ) → StartsAs me terms term_length i start → HasHistory same elect term_length i (floor_in start.floor) m
+  HasStarted start m = (term_length i : ℕ) → StartsAs me terms term_length i start
+      → HasHistory same elect term_length i (floor_in start.floor) m
 
-  -- one that begins again with this start has, where it succeeds, accepted the floor's finalization besides
-  abbrev pub HasRestarted : {E : Type 0} → MemberFacts K L D → Start S L D K G C → Result (Unit {0}) E → MemberFacts K L D → Type 0
+  -- one that begins again with this start has, if it succeeds, also accepted the floor's finalization
+  abbrev pub HasRestarted : {E : Type 0} → MemberFacts K L D → Start S L D K G C → Result (Unit {0}) E
+      → MemberFacts K L D → Type 0
   HasRestarted m start result next =
       (term_length i : ℕ) (all : List (TraceEvent D))
       → StartsAs me terms term_length i start
       → HasHistory same elect term_length i all m
       → HasHistory same elect term_length i (all ++ begun_by start result) next
 
-  -- one that goes on with this start from what a journal holds has done all that the member did which it was stored of, and
-  -- has accepted the floor's finalization besides
+  -- one that resumes with this start from a journal has done all that the member did whose journal it is, and has also accepted the
+  -- floor's finalization
   abbrev pub HasContinued : Stored → List (ArtifactFacts D) → Start S L D K G C → MemberFacts K L D → Type 0
   HasContinued stored entries start next =
       (m : MemberFacts K L D)

@@ -1,4 +1,4 @@
--- A network of four in which a proposal skips a view, and two of those that are to verify it lack a certificate for that.
+-- A network of four in which a proposal skips a view, and two of those that must verify it lack a certificate for that.
 use Rattle.std.specs.Prelude.{ℕ, true, List, [], ◌∷◌, ◌++◌, None}
 use Rattle.simplex_types.specs.declared.reasons.Kind.TheVariants.{Nullification, Notarization}
 use Rattle.simplex_types.specs.declared.reasons.TimeoutReason.TheVariants.{CertificationTimeout}
@@ -22,7 +22,7 @@ second_view me =
     ∷ (Calls CertifyCandidates, Candidates (two ∷ []) [])
     ∷ abandons me 2 2000 CertificationTimeout
 
--- member 0 leads view 2, and lacks the nullification of it when it is to verify the next proposal
+-- member 0 leads view 2, and lacks the nullification of it when it must verify the next proposal
 abbrev pub lacks_nullification : Execution ℕ ℕ ℕ
 lacks_nullification = begins_with 1 0 (
     first_view 0
@@ -34,9 +34,10 @@ lacks_nullification = begins_with 1 0 (
 
 -- member 1 leads view 3, has the nullification of view 2, and builds on view 1
 abbrev pub skips_two : Execution ℕ ℕ ℕ
-skips_two = begins_with 1 1 (first_view 1 ++ hears two true ∷ verifies 1 0 two ++ second_view 1 ++ skips 2 ∷ builds 1 over_two)
+skips_two = begins_with 1 1
+    (first_view 1 ++ hears two true ∷ verifies 1 0 two ++ second_view 1 ++ skips 2 ∷ builds 1 over_two)
 
--- member 2 heard of no certificate but that nullification, and lacks the notarization of view 1
+-- member 2 received no certificate except that nullification, and lacks the notarization of view 1
 abbrev pub member_without_notarization : Execution ℕ ℕ ℕ
 member_without_notarization = begins_with 1 2 (
     hears one true
@@ -54,11 +55,11 @@ missing_certificates = Honest lacks_nullification ∷ Honest skips_two ∷ Hones
 abbrev pub finishes : ℕ → List (StepFacts ℕ ℕ ℕ × ReplyFacts ℕ ℕ)
 finishes me = certifies over_two ++ finalizes me over_two
 
--- it does so after it heard of the nullification that it lacked
+-- it does so after it received the nullification that it lacked
 abbrev pub has_nullification : List (StepFacts ℕ ℕ ℕ × ReplyFacts ℕ ℕ)
 has_nullification = skips 2 ∷ verifies 0 1 over_two ++ finishes 0
 
--- or of the notarization
+-- the same for the notarization
 abbrev pub has_notarization : List (StepFacts ℕ ℕ ℕ × ReplyFacts ℕ ℕ)
 has_notarization = certifies one ++ verifies 2 1 over_two ++ finishes 2
 

@@ -1,4 +1,4 @@
--- What a member accepts and signs, read off the code's own steps and replies.
+-- The certificates that a member accepts and the votes that it signs, read off the code's own steps and replies.
 use Rattle.std.specs.Prelude.{◌≡◌, ◌⊎◌, ◌<◌, ℕ, List, [], ◌∷◌, ◌++◌, Contains, Option, Some, None, Result, Ok, Err}
 use Rattle.simplex_types.specs.declared.config.Floor.{Floor}
 use Rattle.simplex_types.specs.declared.config.Floor.TheVariants as floor
@@ -28,7 +28,7 @@ module _ {S D K G C : Type 0} where
   certificates_in (call.AddFinalization c _) = Accepts (subject.Finalize c.proposal) ∷ []
   certificates_in _ = []
 
-  -- it is accepted where the call is told whether it is new
+  -- it is accepted if the reply says whether it is new
   abbrev pub taken_by : Call S D K G C → Reply S D K G C → List (TraceEvent D)
   taken_by call (reply.Added _ _) = certificates_in call
   taken_by call (reply.AddedNullification _) = certificates_in call
@@ -51,7 +51,7 @@ module _ {S L D K G C : Type 0} where
   begun_by start (Ok _) = floor_in start.floor
   begun_by start (Err _) = []
 
-  -- what the steps and their replies show, in turn
+  -- what the steps and their replies show, in order
   abbrev pub shown_by : List (Step S L D K G C) → List (Reply S D K G C) → List (TraceEvent D)
   shown_by (step ∷ steps) (reply ∷ replies) = (taken_in step reply ++ votes_in reply) ++ shown_by steps replies
   shown_by _ _ = []
@@ -61,13 +61,13 @@ module _ {S L D K G C : Type 0} where
   shown_trace start steps replies = floor_in start.floor ++ shown_by steps replies
 
 module _ {S L D K G C : Type 0} (me : S → Option ℕ) (terms : L → Terms) where
-  -- a start is set up for terms of this many views, not 0, and signs as this member or not at all
+  -- a start has a setup for terms of this many views, not 0, and signs as this member or not at all
   pub record StartsAs (term_length i : ℕ) (start : Start S L D K G C) : Type 0 where
     pub terms_of : (terms start.settings.elector).term_length ≡ term_length
     pub some : 0 < term_length
     pub signs_as : (me start.settings.scheme ≡ Some i) ⊎ (me start.settings.scheme ≡ None)
 
-  -- so is a start, and that of each restart
+  -- the same for a start, and for that of each restart
   pub record AllStartAs (term_length i : ℕ) (start : Start S L D K G C) (steps : List (Step S L D K G C)) : Type 0 where
     pub first : StartsAs term_length i start
     pub later : (r : _) → Contains steps (step.Restart r) → StartsAs term_length i r.start

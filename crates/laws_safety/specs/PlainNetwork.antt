@@ -1,4 +1,4 @@
--- A network of four of the plain parts, over which the program runs: the first view is finalized.
+-- A network of four of the plain parts that the program uses: the first view is finalized.
 use Rattle.std.specs.Prelude.{ℕ, true, List, [], ◌∷◌, ◌++◌, map, Some, None}
 use Rattle.simplex_types.specs.Certificates.{ProposalFacts, NotarizeVote, FinalizeVote}
 use Rattle.simplex_types.specs.Config.{Genesis}
@@ -17,7 +17,7 @@ use Rattle.laws_safety.specs.Replicas.{Replica, Faulty, Honest}
 use Rattle.laws_safety.specs.Executions.{Execution}
 use Rattle.laws_safety.specs.ScenarioSteps.{settings, round}
 
--- what a member of plain parts does
+-- an execution of a member of plain parts
 abbrev pub PlainExecution : Type 0
 PlainExecution = Execution PlainKey PlainElector PlainDigest
 
@@ -48,13 +48,14 @@ plain_first payload = record { round = round 1; parent = 0; payload = payload }
 abbrev pub plain_context : PlainDigest → Context PlainDigest PlainKey
 plain_context payload = record { round = round 1; leader = record { 0 = 0 }; parent = (0, payload) }
 
--- a good certificate of it
+-- a valid certificate of it
 abbrev pub plain_certificate : PlainDigest → ProposalFacts PlainDigest
 plain_certificate payload = record { proposal = plain_first payload; bytes = 1 ∷ [] }
 
 -- it builds the proposal
 abbrev pub plain_builds : PlainDigest → List PlainTurn
-plain_builds payload = (Calls TryPropose, Requested (Some (Propose (plain_context payload)))) ∷ (Calls (Proposed 1 payload 0), Answered true) ∷ []
+plain_builds payload = (Calls TryPropose, Requested (Some (Propose (plain_context payload))))
+    ∷ (Calls (Proposed 1 payload 0), Answered true) ∷ []
 
 -- another one verifies it
 abbrev pub plain_verifies : PlainDigest → List PlainTurn
@@ -77,7 +78,11 @@ plain_votes payload me =
 -- a member's start, and its steps
 abbrev pub plain_execution : PlainElector → PlainDigest → ℕ → List PlainTurn → PlainExecution
 plain_execution elector payload me steps =
-    record { start = plain_genesis_start elector payload me; steps = map (λ e. e.0) steps; replies = map (λ e. e.1) steps }
+    record {
+      start = plain_genesis_start elector payload me;
+      steps = map (λ e. e.0) steps;
+      replies = map (λ e. e.1) steps;
+    }
 
 -- the leader
 abbrev pub plain_proposer : PlainElector → PlainDigest → PlainExecution
@@ -85,7 +90,8 @@ plain_proposer elector payload = plain_execution elector payload 0 (plain_builds
 
 -- another member
 abbrev pub plain_follower : PlainElector → PlainDigest → ℕ → PlainExecution
-plain_follower elector payload me = plain_execution elector payload me (plain_verifies payload ++ plain_votes payload me)
+plain_follower elector payload me =
+    plain_execution elector payload me (plain_verifies payload ++ plain_votes payload me)
 
 -- four members, of which the last one is faulty
 abbrev pub plain_four : PlainElector → PlainDigest → List (Replica PlainKey PlainElector PlainDigest)

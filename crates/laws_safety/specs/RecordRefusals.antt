@@ -20,8 +20,8 @@ use Rattle.laws_safety.specs.Traces.{TraceEvent, Accepts, of_floor, trace_of_ste
 use Rattle.laws_safety.specs.Lawful.{HasSigned}
 use Rattle.laws_safety.specs.TermLengths.{HasTerms, KeepTerms}
 
--- the error comes from outside: of the next start's epoch, key, floor or moment, or of a proposal or view that others sent;
--- not of how the entries stand beside one another
+-- the error comes from outside: from the next start's epoch, key, floor or moment, or from a proposal or view that others sent; not
+-- from the order of the entries
 abbrev pub IsFromOutside : RecoverError → Type 0
 IsFromOutside error.OtherEpoch = Unit {0}
 IsFromOutside error.ZeroView = Unit {0}
@@ -31,11 +31,11 @@ IsFromOutside error.ParentNotBelow = Unit {0}
 IsFromOutside error.TimeOverflow = Unit {0}
 IsFromOutside _ = ⊥
 
--- what a restart is refused for: that, or more views to be kept of a pruned record, or want of memory
+-- the errors that refuse a restart: those, or more views to be retained of a pruned record, or out of memory
 abbrev pub IsExcused : RecoverError → Type 0
 IsExcused found = IsFromOutside found ⊎ (found ≡ error.RetentionGrown) ⊎ (found ≡ error.OutOfMemory)
 
--- before each verdict of its record, in the record's own order, stands a notarization of the view
+-- before each verdict of its record, in the record's own order, there is a notarization of the view
 abbrev pub VerdictsFollowNotarizations : {K L D : Type 0} → MemberFacts K L D → Type 0
 VerdictsFollowNotarizations {K} {L} {D} m =
     (before after : List (ArtifactFacts D)) (round : Round) (success : Bool)
@@ -44,9 +44,10 @@ VerdictsFollowNotarizations {K} {L} {D} m =
 
 -- a notarization was accepted whose proposal names no earlier view as its parent
 abbrev pub AcceptedParentAbove : {D : Type 0} → List (TraceEvent D) → Type 0
-AcceptedParentAbove {D} trace = (p : Proposal D) × Contains trace (Accepts (subject.Notarize p)) × (p.round.view ≤ p.parent)
+AcceptedParentAbove {D} trace =
+    (p : Proposal D) × Contains trace (Accepts (subject.Notarize p)) × (p.round.view ≤ p.parent)
 
--- the proposal's payload was handed in as what this member built in its view
+-- the proposal's payload was passed in as what this member built in its view
 abbrev pub HasBuiltIn : {K L D : Type 0} → List (StepFacts K L D) → Proposal D → Type 0
 HasBuiltIn steps p = (now : ℕ) × Contains steps (Calls (Proposed p.round.view p.payload now))
 
@@ -62,16 +63,17 @@ is_floor_too_large (Genesis _) = false
 is_floor_too_large (Finalized c) = names_too_large c.proposal
 
 module _ (K : Type 0) {L D : Type 0} (same : D → D → Bool) (elect : Elect L) where
-  -- of each member that a run leads to, whose lives share a length of terms
+  -- for each member that a run leads to, whose lifetimes share a length of terms
   abbrev pub OfEachEnd : (MemberFacts K L D → Type 0) → Type 0
   OfEachEnd Holds =
-      (term_length : ℕ) (start : StartFacts K L D) (steps : List (StepFacts K L D)) (replies : List (ReplyFacts K D)) (end : MemberFacts K L D)
+      (term_length : ℕ) (start : StartFacts K L D) (steps : List (StepFacts K L D)) (replies : List (ReplyFacts K D))
+      (end : MemberFacts K L D)
       → HasTerms term_length start.setup
       → KeepTerms term_length steps
       → IsRun same elect (new_member same elect start) steps replies end
       → Holds end
 
-  -- whatever restart comes next: what it leaves of the record, by view, is refused only for what comes from outside
+  -- for any next restart: what remains of the record, by view, is refused only for what comes from outside
   abbrev pub RecordIsTaken : MemberFacts K L D → Type 0
   RecordIsTaken end =
       (next : RestartFacts K L D) (copy : List (ArtifactFacts D)) (found : RecoverError)
@@ -79,15 +81,17 @@ module _ (K : Type 0) {L D : Type 0} (same : D → D → Bool) (elect : Elect L)
       → recover_error same (new_state next.start.setup) next.start.floor next.start.now copy ≡ Some found
       → IsFromOutside found
 
-  -- and the restart itself for no other reason than an excuse
+  -- and the restart itself only for such a reason
   abbrev pub RestartIsExcused : MemberFacts K L D → Type 0
   RestartIsExcused end =
-      (left : MemberFacts K L D) (next : RestartFacts K L D) (found : RecoverError) → IsRestart same elect end next (Err found) left → IsExcused found
+      (left : MemberFacts K L D) (next : RestartFacts K L D) (found : RecoverError)
+      → IsRestart same elect end next (Err found) left → IsExcused found
 
-  -- it is refused for a parent only where a notarization with such a parent was accepted
+  -- it is refused for a parent only if a notarization with such a parent was accepted
   abbrev pub ParentsAreAccepted : Type 0
   ParentsAreAccepted =
-      (term_length : ℕ) (start : StartFacts K L D) (steps : List (StepFacts K L D)) (replies : List (ReplyFacts K D)) (end : MemberFacts K L D)
+      (term_length : ℕ) (start : StartFacts K L D) (steps : List (StepFacts K L D)) (replies : List (ReplyFacts K D))
+      (end : MemberFacts K L D)
       → HasTerms term_length start.setup
       → KeepTerms term_length steps
       → IsRun same elect (new_member same elect start) steps replies end
@@ -96,11 +100,12 @@ module _ (K : Type 0) {L D : Type 0} (same : D → D → Bool) (elect : Elect L)
       → recover_error same (new_state next.start.setup) next.start.floor next.start.now copy ≡ Some error.ParentNotBelow
       → AcceptedParentAbove (of_floor start.floor ++ trace_of_steps steps replies)
 
-  -- of a run whose start is taken, it is refused for a view that is too large only where the next floor names one, or where the
-  -- member voted in one
+  -- for a run whose start is accepted, it is refused for a view that is too large only if the next floor names one, or the member
+  -- voted in one
   abbrev pub HighViewsAreVotedFor : Type 0
   HighViewsAreVotedFor =
-      (term_length : ℕ) (start : StartFacts K L D) (steps : List (StepFacts K L D)) (replies : List (ReplyFacts K D)) (end : MemberFacts K L D)
+      (term_length : ℕ) (start : StartFacts K L D) (steps : List (StepFacts K L D)) (replies : List (ReplyFacts K D))
+      (end : MemberFacts K L D)
       → HasTerms term_length start.setup
       → KeepTerms term_length steps
       → recover_error same (new_state start.setup) start.floor start.now [] ≡ None
@@ -108,9 +113,10 @@ module _ (K : Type 0) {L D : Type 0} (same : D → D → Bool) (elect : Elect L)
       → (next : RestartFacts K L D) (copy : List (ArtifactFacts D))
       → IsByView (cut_member end next.drop next.prune).entries copy
       → recover_error same (new_state next.start.setup) next.start.floor next.start.now copy ≡ Some error.ViewTooLarge
-      → (is_floor_too_large next.start.floor ≡ true) ⊎ VotedTooHigh steps (of_floor start.floor ++ trace_of_steps steps replies)
+      → (is_floor_too_large next.start.floor ≡ true)
+      ⊎ VotedTooHigh steps (of_floor start.floor ++ trace_of_steps steps replies)
 
-  -- so is a run, at its start or at one of its restarts
+  -- the same for a run, at its start or at one of its restarts
   abbrev pub RunsAreExcused : Type 0
   RunsAreExcused =
       (term_length : ℕ) (start : StartFacts K L D) (steps : List (StepFacts K L D)) (found : RecoverError)

@@ -25,7 +25,7 @@ module _ {D : Type 0} where
 abbrev pub RecordsOnce : {D : Type 0} → List (ArtifactFacts D) → Type 0
 RecordsOnce entries = IsDistinct are_alike entries
 
--- so a member's record does, and has at most seven entries of a view
+-- this holds for a member's record, which has at most seven entries of a view
 pub record HoldsEachEntryOnce {K L D : Type 0} (m : MemberFacts K L D) : Type 0 where
   pub once : RecordsOnce m.entries
   pub few : (view : ℕ) → length (filter (λ e. entry_view e == view) m.entries) ≤ 7

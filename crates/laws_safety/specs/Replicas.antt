@@ -1,4 +1,4 @@
--- A network: who is faulty, what the others did, and the certificates that the votes of both make.
+-- A network: which members are faulty, what the others did, and the certificates that the votes of both make.
 use Rattle.std.specs.Prelude.{◌≡◌, ℕ, zero, suc, ◌-◌, ◌*◌, ◌/◌, ◌≤◌, ◌<◌, ◌⊎◌, ⊤, Bool, true, false, List, [], ◌∷◌, length, slice_get, Contains, Some}
 use Rattle.std.specs.List.{count_by}
 use Rattle.simplex_types.specs.declared.types.messages.Subject.{Subject}
@@ -6,7 +6,7 @@ use Rattle.simplex_voter.specs.Facts.{Elect}
 use Rattle.laws_safety.specs.Traces.{Accepts, Signs}
 use Rattle.laws_safety.specs.Executions.{Execution, trace_of, IsExecution}
 
--- the greatest number of faulty members that a network of n is meant to bear
+-- the greatest number of faulty members that a network of n tolerates
 abbrev pub max_faults : ℕ → ℕ
 max_faults n = (n - 1) / 3
 
@@ -14,7 +14,7 @@ max_faults n = (n - 1) / 3
 abbrev pub quorum : ℕ → ℕ
 quorum n = n - max_faults n
 
--- a faulty member may send anything; of an honest one all is given that came to it and that it answered
+-- a faulty member may send anything; of an honest one all inputs and replies are given
 pub data Replica (K L D : Type 0) : Type 0 where
   Faulty : Replica K L D
   Honest : Execution K L D → Replica K L D
@@ -35,14 +35,14 @@ module _ {K L D : Type 0} where
       ((1 ≤ length network) × (faults network ≤ max_faults (length network)))
       ⊎ (faults network < length network - 2 * max_faults (length network))
 
--- at least `count` of the items, the first of which is replica `i`, have P there
+-- at least `count` of the items, the first of which is member `i`, have P there
 abbrev pub AtLeastFrom : {X : Type 0} → ℕ → ℕ → (ℕ → X → Type 0) → List X → Type 0
 AtLeastFrom i zero P xs = ⊤
 AtLeastFrom i (suc count) P [] = ⊥
 AtLeastFrom i (suc count) P (x ∷ xs) = (P i x × AtLeastFrom (suc i) count P xs) ⊎ AtLeastFrom (suc i) (suc count) P xs
 
 module _ {K L D : Type 0} where
-  -- replica `i` is faulty or signed this vote, as `i`
+  -- member `i` is faulty or signed this vote, as `i`
   abbrev pub MayHaveSigned : Subject D → ℕ → Replica K L D → Type 0
   MayHaveSigned vote i Faulty = ⊤
   MayHaveSigned vote i (Honest s) = Contains (trace_of s) (Signs i vote)
@@ -52,15 +52,17 @@ module _ {K L D : Type 0} where
   Backed network vote = AtLeastFrom 0 (quorum (length network)) (MayHaveSigned vote) network
 
 module _ {K L D : Type 0} (same : D → D → Bool) (elect : Elect L) where
-  -- few are faulty, each other runs as it says, and each certificate that one of these accepted is backed
+  -- few are faulty, each other one runs as it says, and each certificate that one of these accepted is backed
   pub record IsNetworkOf (term_length : ℕ) (network : List (Replica K L D)) : Type 0 where
     pub few_faulty : FewFaulty network
-    pub honest : (i : ℕ) (s : Execution K L D) → slice_get network i ≡ Some (Honest s) → IsExecution same elect term_length i s
+    pub honest : (i : ℕ) (s : Execution K L D) → slice_get network i ≡ Some (Honest s)
+        → IsExecution same elect term_length i s
     pub backed : (i : ℕ) (s : Execution K L D) (certificate : Subject D) → slice_get network i ≡ Some (Honest s)
         → Contains (trace_of s) (Accepts certificate) → Backed network certificate
 
 module _ (K : Type 0) {L D : Type 0} (same : D → D → Bool) (elect : Elect L) where
-  -- of each such network, in terms of whatever length
+  -- for each such network, in terms of any length
   abbrev pub OfEachNetwork : (ℕ → List (Replica K L D) → Type 0) → Type 0
   OfEachNetwork Holds =
-      (term_length : ℕ) (network : List (Replica K L D)) → IsNetworkOf same elect term_length network → Holds term_length network
+      (term_length : ℕ) (network : List (Replica K L D)) → IsNetworkOf same elect term_length network
+      → Holds term_length network

@@ -11,11 +11,11 @@ use Rattle.laws_safety.specs.Scripts.{start_at, skipping}
 use Rattle.laws_safety.specs.Executions.{Execution, trace_of}
 use Rattle.laws_safety.specs.ScenarioSteps.{round, proposal, one, two, execution_from, hears, verifies, accepts, votes_for, skips}
 
--- a member hears of one proposal of view 1, votes for it and certifies it
+-- a member receives one proposal of view 1, votes for it and certifies it
 abbrev pub voting_for : Proposal ℕ → ℕ → Execution ℕ ℕ ℕ
 voting_for p me = execution_from (start_at 5 (Genesis 0) me) (hears p true ∷ verifies me 3 p ++ accepts p)
 
--- each of two honest members hears of another proposal
+-- each of two honest members receives another proposal
 abbrev pub two_proposals : List (Replica ℕ ℕ ℕ)
 two_proposals = Honest (voting_for one 0) ∷ Honest (voting_for rival 1) ∷ Faulty ∷ Faulty ∷ []
 
@@ -23,15 +23,16 @@ two_proposals = Honest (voting_for one 0) ∷ Honest (voting_for rival 1) ∷ Fa
 abbrev pub double : ℕ → List (TraceEvent ℕ)
 double me = Signs me (subject.Notarize one) ∷ Signs me (subject.Notarize rival) ∷ []
 
--- what is known of these four: of the last one nothing
+-- what is known of these four: nothing of the last one
 abbrev pub known_of_two_proposals : List (Option (List (TraceEvent ℕ)))
-known_of_two_proposals = Some (trace_of (voting_for one 0)) ∷ Some (trace_of (voting_for rival 1)) ∷ Some (double 2) ∷ None ∷ []
+known_of_two_proposals =
+    Some (trace_of (voting_for one 0)) ∷ Some (trace_of (voting_for rival 1)) ∷ Some (double 2) ∷ None ∷ []
 
 -- view 3 is built on view 1
 abbrev pub past_two : Proposal ℕ
 past_two = proposal 3 1
 
--- terms of one view: a member votes to finalize view 2, is shown its nullification, and votes for view 3, which skips it
+-- terms of one view: a member votes to finalize view 2, receives its nullification, and votes for view 3, which skips it
 abbrev pub misled : Execution ℕ ℕ ℕ
 misled = execution_from (start_at 1 (Genesis 0) 0) (
     hears one true
@@ -49,7 +50,7 @@ misled = execution_from (start_at 1 (Genesis 0) 0) (
 abbrev pub skipped_over : List (Replica ℕ ℕ ℕ)
 skipped_over = Honest misled ∷ Honest (skipping 1) ∷ Faulty ∷ Faulty ∷ []
 
--- a member that votes for all of it
+-- a member that signs all these votes
 abbrev pub turncoat : ℕ → List (TraceEvent ℕ)
 turncoat me =
     Signs me (subject.Notarize one)

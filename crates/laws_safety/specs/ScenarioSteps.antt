@@ -1,4 +1,4 @@
--- Pieces of the executions of four members. Each step stands beside its reply; keys, electors and payloads are numbers.
+-- Pieces of the executions of four members. Each step is paired with its reply; keys, electors and payloads are numbers.
 use Rattle.std.specs.Prelude.{ℕ, ◌+◌, ◌%◌, Bool, true, false, List, [], ◌∷◌, ◌++◌, map, Some, None}
 use Rattle.simplex_types.specs.Certificates.{ProposalFacts, NullificationFacts, NotarizeVote, NullifyVote, FinalizeVote}
 use Rattle.simplex_types.specs.Config.{Genesis}
@@ -15,11 +15,18 @@ use Rattle.simplex_member.specs.Runs.{StepFacts, Calls}
 use Rattle.simplex_record.specs.Start.{Setup, StartFacts}
 use Rattle.laws_safety.specs.Executions.{Execution}
 
--- settings that each of them has
+-- settings that they all have
 abbrev pub settings : Settings
-settings = record { epoch = 1; view_retention = 1; leader_timeout = 1000; certification_timeout = 2000; timeout_retry = 500; skip_budget = 4 }
+settings = record {
+  epoch = 1;
+  view_retention = 1;
+  leader_timeout = 1000;
+  certification_timeout = 2000;
+  timeout_retry = 500;
+  skip_budget = 4;
+}
 
--- terms of so many views, in which none is voted for ahead
+-- terms of this many views, in which none is voted for ahead
 abbrev pub set_up_as : ℕ → ℕ → Setup ℕ ℕ
 set_up_as term_length me = record {
   settings = settings;
@@ -72,13 +79,14 @@ in_turn length round seed = (term_index length round.view + 3) % 4
 
 -- a start at genesis
 abbrev pub begin_at : ℕ → ℕ → StartFacts ℕ ℕ ℕ
-begin_at term_length me = record { setup = record (set_up_as term_length me) { elector = term_length }; floor = Genesis 0; now = 0 }
+begin_at term_length me =
+    record { setup = record (set_up_as term_length me) { elector = term_length }; floor = Genesis 0; now = 0 }
 
--- a member's start, and what it does then
+-- a member's start, and its steps after it
 abbrev pub execution_from : StartFacts ℕ ℕ ℕ → List (StepFacts ℕ ℕ ℕ × ReplyFacts ℕ ℕ) → Execution ℕ ℕ ℕ
 execution_from start steps = record { start = start; steps = map (λ e. e.0) steps; replies = map (λ e. e.1) steps }
 
--- a member that starts at genesis, and what it does then
+-- a member that starts at genesis, and its steps after it
 abbrev pub begins_with : ℕ → ℕ → List (StepFacts ℕ ℕ ℕ × ReplyFacts ℕ ℕ) → Execution ℕ ℕ ℕ
 begins_with term_length me steps = execution_from (begin_at term_length me) steps
 
@@ -102,7 +110,7 @@ verifies me leader p =
     ∷ (Calls (ConstructNotarize p.round.view), notarize_reply me p)
     ∷ []
 
--- a proposal is handed to it, and whether that is the first one of its view
+-- it receives a proposal, and whether that is the first one of its view
 abbrev pub hears : Proposal ℕ → Bool → StepFacts ℕ ℕ ℕ × ReplyFacts ℕ ℕ
 hears p first = (Calls (SetProposal p.round.view p), Answered first)
 
@@ -110,7 +118,7 @@ hears p first = (Calls (SetProposal p.round.view p), Answered first)
 abbrev pub accepts_notarization : Proposal ℕ → StepFacts ℕ ℕ ℕ × ReplyFacts ℕ ℕ
 accepts_notarization p = (Calls (AddNotarization (certificate p)), Added true None)
 
--- and is told that the proposal is certified
+-- and receives the verdict that the proposal is certified
 abbrev pub accepts : Proposal ℕ → List (StepFacts ℕ ℕ ℕ × ReplyFacts ℕ ℕ)
 accepts p =
     accepts_notarization p

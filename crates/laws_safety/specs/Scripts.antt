@@ -24,7 +24,7 @@ start_at term_length floor me = record { setup = set_up_as term_length me; floor
 abbrev pub votes_through : ℕ → Proposal ℕ → List (StepFacts ℕ ℕ ℕ × ReplyFacts ℕ ℕ)
 votes_through me p = hears p true ∷ verifies me 3 p ++ accepts p ++ votes_for me p ∷ []
 
--- it restarts: so much of its record is dropped, and the record is pruned or not
+-- it restarts: `drop` entries of its record are dropped, and the record is pruned or not
 abbrev pub restarts : ℕ → Bool → StartFacts ℕ ℕ ℕ → StepFacts ℕ ℕ ℕ × ReplyFacts ℕ ℕ
 restarts drop prune start = (Restarts (record { drop = drop; prune = prune; start = start }), Restarted)
 
@@ -74,12 +74,12 @@ two_faced me =
     ∷ Signs me (subject.Finalize two)
     ∷ []
 
--- what is known of these four, where one of the faulty ones is this member, and of the other one nothing is
+-- what is known of these four, if this member is one of the faulty ones, and nothing is known of the other one
 abbrev pub known_of_overrun : List (Option (List (TraceEvent ℕ)))
 known_of_overrun = Some (trace_of impatient) ∷ Some (trace_of (patient 1)) ∷ Some (two_faced 2) ∷ None ∷ []
 
--- a member restarts three times: first the notarization that came after its last vote is dropped, so that it is new again,
--- but not the vote; then its record has been pruned within the life, behind the views that the state drops; then it starts at a
+-- a member restarts three times: first the notarization that came after its last vote is dropped, so that it is new again, but not
+-- the vote; then its record has been pruned within the lifetime, after the views that the state drops; then it starts at a
 -- finalized floor
 abbrev pub restarting : Execution ℕ ℕ ℕ
 restarting = execution_from (start_at 5 (Genesis 0) 1) (

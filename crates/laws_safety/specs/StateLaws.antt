@@ -1,4 +1,4 @@
--- What holds of a state that is recovered from any record, or that is used without a member.
+-- The laws of a state that is recovered from any record, or that is used without a member.
 use Rattle.std.specs.Prelude.{◌≡◌, ℕ, ◌<◌, ◌≤◌, Bool, true, false, ◌&&◌, ◌==◌, List, [], ◌∷◌, None, is_some}
 use Rattle.std.specs.List.{list_any, All}
 use Rattle.simplex_types.specs.Certificates.{ArtifactFacts, FinalizeVote, Verdict}
@@ -20,12 +20,12 @@ settles v (Replay (FinalizeVote p _)) = p.round.view == v
 settles v _ = false
 
 module _ {K L D : Type 0} (same : D → D → Bool) (elect : Elect L) where
-  -- what events make of the facts, one after another
+  -- the facts after events, one after another
   abbrev pub after_events : StateFacts K L D → List (Event K D) → StateFacts K L D
   after_events x [] = x
   after_events x (e ∷ rest) = after_events (after_event same elect x e) rest
 
-  -- the facts allow each event in its turn
+  -- the facts allow each event when it comes
   abbrev pub AllowsEach : StateFacts K L D → List (Event K D) → Type 0
   AllowsEach x [] = Unit {0}
   AllowsEach x (e ∷ rest) = IsEvent x e × AllowsEach (after_event same elect x e) rest
@@ -41,27 +41,29 @@ pub record AboveGenesis {K L D : Type 0} (x : StateFacts K L D) : Type 0 where
   pub nullify_votes : All (λ u. 1 ≤ u) x.nullify_votes
 
 module _ (K : Type 0) {L D : Type 0} (same : D → D → Bool) (elect : Elect L) where
-  -- so it is in a state whose floor is set, whatever its events are from then on
+  -- this holds in a state whose floor is set, whatever its later events are
   abbrev pub UsedStatesTimeOut : Type 0
   UsedStatesTimeOut =
       (setup : Setup K L) (floor : FloorFacts D) (now : ℕ) (events : List (Event K D))
-      → TimesOutUnlessSettled events (after_events same elect (after_set_floor same elect (new_state setup) floor now) events)
+      → TimesOutUnlessSettled events
+      (after_events same elect (after_set_floor same elect (new_state setup) floor now) events)
 
-  -- the current view has a timeout in each state that is recovered, whatever record breaks no rule
+  -- the current view has a timeout in each state that is recovered from a record that breaks no rule
   abbrev pub RecoveredStatesTimeOut : Type 0
   RecoveredStatesTimeOut =
       (start : StartFacts K L D) (entries : List (ArtifactFacts D))
       → recover_error same (new_state start.setup) start.floor start.now entries ≡ None
       → CurrentTimesOut (recovered_state same elect (new_state start.setup) start.floor start.now entries)
 
-  -- of a state whose floor is set, whatever events it allows: `voted_nullify` is true of a view exactly where this member has a
-  -- key and its vote to nullify is decided there; the view is tracked then
+  -- for a state whose floor is set, after any events that it allows: `voted_nullify` is true of a view exactly if this member has a
+  -- key and its vote to nullify is decided there; the view is then tracked
   abbrev pub NullifyVotesAreDecided : Type 0
   NullifyVotesAreDecided =
       (setup : Setup K L) (floor : FloorFacts D) (now : ℕ) (events : List (Event K D)) (v : ℕ)
       → AllowsEach same elect (new_state setup) (SetFloor floor now ∷ events)
       → voted_nullify (after_events same elect (new_state setup) (SetFloor floor now ∷ events)) v
-      ≡ (is_some setup.me && is_nullify (round_of (after_events same elect (new_state setup) (SetFloor floor now ∷ events)) v).decision)
+      ≡ (is_some setup.me && is_nullify
+      (round_of (after_events same elect (new_state setup) (SetFloor floor now ∷ events)) v).decision)
 
   -- each view that such a state has a nullification of, or a vote to nullify, lies above genesis
   abbrev pub NullifiesAboveGenesis : Type 0

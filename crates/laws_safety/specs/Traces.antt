@@ -1,4 +1,4 @@
--- What a member does that others can learn of: the certificates that it accepts, and the votes that it signs.
+-- The actions of a member that others can learn of: the certificates that it accepts, and the votes that it signs.
 use Rattle.std.specs.Prelude.{ℕ, List, [], ◌∷◌, ◌++◌, Some}
 use Rattle.simplex_types.specs.Certificates.{ArtifactFacts, NotarizeVote, NullifyVote, FinalizeVote}
 use Rattle.simplex_types.specs.Config.{FloorFacts, Genesis, Finalized}
@@ -7,13 +7,13 @@ use Rattle.simplex_types.specs.declared.types.messages.Subject.TheVariants as su
 use Rattle.simplex_member.specs.Calls.{CallFacts, AddNotarization, AddNullification, AddFinalization, ReplyFacts, Added, AddedNullification, Nullify, Finalize, Notarize, Restarted}
 use Rattle.simplex_member.specs.Runs.{StepFacts, Calls, Prunes, Restarts}
 
--- a certificate was accepted, or a vote was signed by this member of the network; each is named by what it is about
+-- a certificate was accepted, or a vote was signed by this member of the network; each is named by its subject
 pub data TraceEvent (D : Type 0) : Type 0 where
   Accepts : (certificate : Subject D) → TraceEvent D
   Signs : (signer : ℕ) → (vote : Subject D) → TraceEvent D
 
 module _ {D : Type 0} where
-  -- the certificate that a call hands in
+  -- the certificate that a call passes in
   abbrev pub passed_certificates : CallFacts D → List (TraceEvent D)
   passed_certificates (AddNotarization c) = Accepts (subject.Notarize c.proposal) ∷ []
   passed_certificates (AddNullification c _) = Accepts (subject.Nullify c.round) ∷ []
@@ -40,13 +40,13 @@ module _ {K D : Type 0} where
   signed_in (Notarize (Some vote)) = of_vote vote
   signed_in _ = []
 
-  -- a certificate is accepted by a call that is told whether it is new
+  -- a certificate is accepted by a call whose reply says whether it is new
   abbrev pub accepted_by : CallFacts D → ReplyFacts K D → List (TraceEvent D)
   accepted_by call (Added _ _) = passed_certificates call
   accepted_by call (AddedNullification _) = passed_certificates call
   accepted_by call _ = []
 
-  -- what a call does that others can learn of, by what it was told
+  -- the trace of a call, by its reply
   abbrev pub trace_of_call : CallFacts D → ReplyFacts K D → List (TraceEvent D)
   trace_of_call call told = accepted_by call told ++ signed_in told
 
@@ -58,11 +58,11 @@ module _ {K L D : Type 0} where
   accepted_at (Restarts r) Restarted = of_floor r.start.floor
   accepted_at (Restarts r) _ = []
 
-  -- what a step does, by its reply
+  -- the trace of a step, by its reply
   abbrev pub trace_at : StepFacts K L D → ReplyFacts K D → List (TraceEvent D)
   trace_at step told = accepted_at step told ++ signed_in told
 
-  -- of the steps in turn, each with its reply
+  -- the trace of the steps in order, each with its reply
   abbrev pub trace_of_steps : List (StepFacts K L D) → List (ReplyFacts K D) → List (TraceEvent D)
   trace_of_steps (step ∷ steps) (told ∷ replies) = trace_at step told ++ trace_of_steps steps replies
   trace_of_steps _ _ = []

@@ -1,4 +1,4 @@
-//! What holds of members over all their lives, and of a network of them.
+//! The laws of members over all their lifetimes, and of a network of them.
 #![tactic(auto)]
 
 pub mod laws;

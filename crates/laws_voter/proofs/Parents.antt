@@ -111,7 +111,7 @@ module _ {K L D : Type 0} (same : D → D → Bool) (elect : Elect L) (x : State
     | Some b ↦ λ found is. last_explicit v es (Some b) (λ c as_c. subst (Explicit v) (same_some b c as_c) (explicit_entry v a b found).1) e is
   ] refl is
 
-  -- behind a view whose entry was found, what is found last is not below it
+  -- after a view whose entry was found, the last one found is not below it
   last_above : (v m : ℕ) (es : List (ℕ × RoundFacts K D)) (start : Option (ℕ × D)) → AllAbove m es → ((e : ℕ × D) → start ≡ Some e → m ≤ e.0) → (e : ℕ × D) → last_or start (filter_map (explicit_below x v) es) ≡ Some e → m ≤ e.0
   last_above v m [] start above from e is = from e is
   last_above v m (a ∷ es) start above from e is = elim (explicit_below x v a) as (λ o. explicit_below x v a ≡ o → last_or start (cons_option o (filter_map (explicit_below x v) es)) ≡ Some e → m ≤ e.0) [

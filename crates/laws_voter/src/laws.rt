@@ -13,13 +13,14 @@ pub fn first_gap_is_found<K, L, D>()
     ensures { FindsFirstGap K L D }
 {}
 
-/// Where no gap lies between two views, and none between the second and a third, none lies between the first and the third
-/// if the second is covered.
+/// If no gap lies between two views, and none between the second and a third, none lies between the first and the third if
+/// the second is covered.
 pub fn gapless_joins<K, L, D>()
     ensures { GaplessJoins K L D }
 {}
 
-/// What a view offers before it is certified follows from what the views below it offer, so it is at most one payload.
+/// The payload that a view offers before it is certified follows from those that the views below it offer, so it is at most
+/// one.
 pub fn optimistic_payload_is<K, L, D>()
     ensures { OptimisticPayloadIs K L D }
 {}
@@ -35,23 +36,23 @@ pub fn preferred_parent_stands<K, L, D>()
     ensures { PreferredParentStands K L D }
 {}
 
-/// A notarize vote may be signed exactly where each part of its rule holds.
+/// A notarize vote may be signed exactly if each part of its rule holds.
 pub fn may_notarize_is<K, L, D>()
     ensures { MayNotarizeIs K L D }
 {}
 
-/// A nullify vote may be signed exactly where each part of its rule holds.
+/// A nullify vote may be signed exactly if each part of its rule holds.
 pub fn may_nullify_is<K, L, D>()
     ensures { MayNullifyIs K L D }
 {}
 
-/// A finalize vote may be signed exactly where each part of its rule holds: the view is certified, notarized, above the last
-/// finalized one and not given up.
+/// A finalize vote may be signed exactly if each part of its rule holds: the view is certified, notarized, above the last
+/// finalized one, and no vote to nullify conflicts.
 pub fn may_finalize_is<K, L, D>()
     ensures { MayFinalizeIs K L D }
 {}
 
-/// What a proposal needs certified before it is the view before its own.
+/// The view that must be certified before a proposal is the view before its own.
 pub fn required_parent_is_before<K, L, D>()
     ensures { RequiredParentIsBefore K L D }
 {}
@@ -61,12 +62,12 @@ pub fn windows_agree<K, L, D>()
     ensures { WindowsAgree K L D }
 {}
 
-/// A certificate hands its leader on to the views that it lies in the window of, up to the first that it does not.
+/// A certificate passes its leader on to the views whose window it lies in, up to the first whose window it does not.
 pub fn opened_views_are<K, L, D>()
     ensures { OpenedViewsAre K L D }
 {}
 
-/// The facts' lists change as the sorted containers do that they are read from.
+/// The facts' lists change like the sorted containers that they are read from.
 pub fn lists_are_containers<R>()
     ensures { ListsAreContainers R }
 {}

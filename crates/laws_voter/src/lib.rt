@@ -1,4 +1,4 @@
-//! What the definitions mean that the voter's contracts cite: their laws, and worked scripts that are computed from them.
+//! The laws of the definitions that the voter's contracts cite, and worked scripts that are computed from them.
 #![tactic(auto)]
 
 pub mod laws;

@@ -42,7 +42,7 @@ read_alike : {G : Type 0} (s t : G) (read : List ℕ → Option G) (xs ys : List
 read_alike s t read xs ys same first second = let both = sym first ∙ ap read same ∙ second in cc
 
 module _ {D C G : Type 0} (payload : D → List ℕ) (size : ℕ) (sized : (d : D) → length (payload d) ≡ size) (bytes_of : C → List ℕ) (apart : EncodingTellsApart payload) (signature_bytes : G → List ℕ) (signature_of : List ℕ → Option G) where
-  -- a proposal and what is behind it, told apart as in a certificate
+  -- a proposal and what follows it, separated as in a certificate
   told_proposal : (p q : Proposal D) (xs ys : List ℕ) → IsEncodableProposal p → IsEncodableProposal q → proposal_bytes payload p ++ xs ≡ proposal_bytes payload q ++ ys → (p ≡ q) × (xs ≡ ys)
   told_proposal p q xs ys fits fits' same =
       let one : ProposalFacts D = record { proposal = p; bytes = xs } in

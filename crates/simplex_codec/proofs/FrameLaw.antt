@@ -14,7 +14,7 @@ use Rattle.simplex_codec.specs.Frames.{header, EndsWithin, PartsFrom, IsOff, IsO
 use Rattle.simplex_codec.proofs.ArtifactLaw.{signer_is, behind_signer}
 use Rattle.simplex_codec.proofs.Numbers.{IsBytes}
 
--- one header stands at the front of bytes
+-- one header is at the front of bytes
 header_is : (m n : ℕ) (xs ys : List ℕ) → m < 2 ^ 32 → n < 2 ^ 32 → header m ++ xs ≡ header n ++ ys → m ≡ n
 header_is m n xs ys small small' same =
     signer_is m n (to_be_bytes w32 (2 ^ 32 - 1 - m) ++ xs) (to_be_bytes w32 (2 ^ 32 - 1 - n) ++ ys) small small' same
@@ -50,7 +50,7 @@ short_header (a ∷ b ∷ c ∷ []) fits few =
     (it.0, it.1, (0 ∷ to_be_bytes w32 (2 ^ 32 - 1 - it.0), omega arith, it.2))
 short_header (a ∷ b ∷ c ∷ d ∷ more) fits few = absurd (omega (arith, few))
 
--- a length, and behind it bytes that are off the other half
+-- a length, followed by bytes that are not the other half
 pub off_check : (bytes rest : List ℕ) (n : ℕ) → n < 2 ^ 32 → bytes ≡ to_be_bytes w32 n ++ rest → (e : NoFrame) → IsOff rest (to_be_bytes w32 (2 ^ 32 - 1 - n)) e → IsOffHeader bytes e
 off_check bytes rest n small parts Cut (more, some, is) =
     (n, small, (more, some, ap (λ l. to_be_bytes w32 n ++ l) is ∙ ap (λ l. l ++ more) (sym parts)))
@@ -89,7 +89,7 @@ module _ (digest : List ℕ → List ℕ) where
   abbrev pub framed : List ℕ → List ℕ
   framed entry = header (length entry) ++ (entry ++ digest entry)
 
-  -- no frame stands at the front, nor do the bytes end within one
+  -- no frame is at the front, nor do the bytes end within one
   abbrev pub MeetsNone : List ℕ → Type 0
   MeetsNone bytes = (entry more rest : List ℕ) → length entry < 2 ^ 32 → bytes ++ more ≡ framed entry ++ rest → ⊥
 
@@ -116,7 +116,7 @@ module _ (digest : List ℕ → List ℕ) where
       let digests : length (digest entry) ≡ length (digest other) = ap (λ l. length (digest l)) entries in
       (entries, sym (drop-append_seam (digest entry) rest) ∙ ap (λ k. drop k (digest entry ++ rest)) digests ∙ ap (λ l. drop (length (digest other)) l) afters ∙ drop-append_seam (digest other) left)
 
-  -- no frame stands at the front of bytes that end within one
+  -- no frame is at the front of bytes that end within one
   ends_alone : (bytes : List ℕ) → ends bytes → none bytes
   ends_alone bytes (entry, small, (more, some, is)) other rest small' stands =
       let both : framed entry ++ [] ≡ framed other ++ (rest ++ more) = append-nil (framed entry) ∙ is ∙ ap (λ l. l ++ more) stands ∙ append_assoc (framed other) rest more in
@@ -149,7 +149,7 @@ module _ (digest : List ℕ → List ℕ) where
   off_header_none bytes Cut off = ends_alone bytes (header_ends bytes off)
   off_header_none bytes Damaged off = meets_no_frame bytes (header_meets bytes off)
 
-  -- fewer bytes behind a header than it names
+  -- fewer bytes after a header than it names
   pub fewer : (bytes held : List ℕ) (n : ℕ) → n < 2 ^ 32 → bytes ≡ header n ++ held → length held < n → ends bytes
   fewer bytes held n small parts few =
       let zeros = replicate (n - length held) 0 in
@@ -163,7 +163,7 @@ module _ (digest : List ℕ → List ℕ) where
   pub fewer_none : (bytes held : List ℕ) (n : ℕ) → n < 2 ^ 32 → bytes ≡ header n ++ held → length held < n → none bytes
   fewer_none bytes held n small parts few = ends_alone bytes (fewer bytes held n small parts few)
 
-  -- an entry behind its header, and what is behind it
+  -- an entry after its header, and what follows it
   module _ (bytes held entry after : List ℕ) (n : ℕ) (small : n < 2 ^ 32) (parts : bytes ≡ header n ++ held) (front : entry ≡ take n held) (back : after ≡ drop n held) (long : length entry ≡ n) where
     whole_held : held ≡ entry ++ after
     whole_held = sym (take-append-drop n held) ∙ ap (λ l. take n held ++ l) (sym back) ∙ ap (λ l. l ++ after) (sym front)

@@ -1,4 +1,4 @@
--- What an encoding is read back as: nothing is refused that is one, and one encoding has one certificate's facts.
+-- The values read from encodings: no encoding is refused, and each has one certificate's facts.
 use Rattle.std.proofs.Common.{◌≡◌, ℕ, List, ◌∷◌, ◌++◌, length, take, drop, Option, Some, None, Result, Ok, Err, refl, ap, sym, subst, ◌∙◌, append_assoc, length-append, arith}
 use Rattle.std.specs.Prelude.{IfOk, IfErr}
 use Rattle.std.specs.Int.{w64, to_be_bytes}
@@ -18,14 +18,14 @@ pub none_read : {X : Type 0} (bytes_of : X → List ℕ) (bytes : List ℕ) (rea
 none_read bytes_of bytes None reads is = reads
 none_read bytes_of bytes (Some x) reads is = absurd cc
 
--- the payload stands behind the numbers
+-- the payload follows the numbers
 pub payload_at : (before payload own : List ℕ) (n size : ℕ) → length before ≡ n → length payload ≡ size → take size (drop n ((before ++ payload) ++ own)) ≡ payload
 payload_at before payload own n size long sized =
     let regrouped : drop (length before) ((before ++ payload) ++ own) ≡ payload ++ own = ap (λ l. drop (length before) l) (append_assoc before payload own) ∙ drop-append_seam before (payload ++ own) in
     let at : drop n ((before ++ payload) ++ own) ≡ payload ++ own = subst (λ k. drop k ((before ++ payload) ++ own) ≡ payload ++ own) long regrouped in
     ap (λ l. take size l) at ∙ subst (λ k. take k (payload ++ own) ≡ payload) sized (take-append_seam payload own)
 
--- the bytes behind a certificate's parts
+-- the bytes after a certificate's parts
 abbrev own_bytes : {D : Type 0} → CertificateFacts D → List ℕ
 own_bytes (Notarized c) = c.bytes
 own_bytes (Nullified c) = c.bytes

@@ -17,7 +17,7 @@ same_digest {n} d e same =
     ap (λ (t : (bs : List ℕ) × (length bs ≡ n)). let made : BytesDigest n = record { bytes = t.0; sized = t.1 } in made)
     (Σ_prop_path (λ bs. hedberg ℕ_discrete (length bs) n) same)
 
--- so they are where the code finds them equal
+-- so they are equal if the code finds them equal
 pub digest_from_eq : {n : ℕ} (d e : BytesDigest n) → bytes_eq d.bytes e.bytes ≡ true → d ≡ e
 digest_from_eq d e h = same_digest d e ((bytes_eq-Decides d.bytes e.bytes).0 h)
 

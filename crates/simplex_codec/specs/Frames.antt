@@ -1,12 +1,12 @@
--- Entries one behind the other: each is framed by its length, which tests itself, and its digest, so that a cut or changed end is found, and
--- one is told from the other.
+-- Entries one after another: each is framed by its length, which checks itself, and its digest, so that a cut or changed end is
+-- found, and the two cases are distinguished.
 use Rattle.std.specs.Prelude.{◌≡◌, ◌≢◌, ◌<◌, ◌+◌, ◌-◌, ◌^◌, ℕ, List, ◌++◌, length, take}
 use Rattle.std.specs.Int.{w32, to_be_bytes}
 use Rattle.sha2.specs.Sha256.{sha256}
 use Rattle.simplex_codec.specs.declared.frame.NoFrame.{NoFrame}
 use Rattle.simplex_codec.specs.declared.frame.NoFrame.TheVariants.{Cut, Damaged}
 
--- a length in four bytes, and in four more what is left to the greatest number of four bytes, which has each of its bits turned over
+-- a length in four bytes, and in four more its difference to the greatest number of four bytes, which inverts each of its bits
 abbrev pub header : ℕ → List ℕ
 header n = to_be_bytes w32 n ++ to_be_bytes w32 (2 ^ 32 - 1 - n)
 
@@ -14,7 +14,7 @@ header n = to_be_bytes w32 n ++ to_be_bytes w32 (2 ^ 32 - 1 - n)
 abbrev pub frame : List ℕ → List ℕ
 frame entry = header (length entry) ++ (entry ++ sha256 entry)
 
--- no frame stands at the front
+-- no frame is at the front
 abbrev pub HasNoFrame : List ℕ → Type 0
 HasNoFrame bytes = (entry rest : List ℕ) → length entry < 2 ^ 32 → bytes ≡ frame entry ++ rest → ⊥
 
@@ -26,7 +26,7 @@ EndsWithin bytes whole = (more : List ℕ) × (0 < length more) × (whole ≡ by
 abbrev pub IsCut : List ℕ → Type 0
 IsCut bytes = (entry : List ℕ) × (length entry < 2 ^ 32) × EndsWithin bytes (frame entry)
 
--- why no frame stands at the front: exactly what ends within one is cut
+-- why no frame is at the front: exactly what ends within one is cut
 abbrev pub IsFrameRefusal : List ℕ → NoFrame → Type 0
 IsFrameRefusal bytes Cut = IsCut bytes
 IsFrameRefusal bytes Damaged = ¬ (IsCut bytes)
@@ -45,18 +45,21 @@ abbrev pub IsOffHeader : List ℕ → NoFrame → Type 0
 IsOffHeader bytes Cut = (n : ℕ) × (n < 2 ^ 32) × EndsWithin bytes (header n)
 IsOffHeader bytes Damaged = (n : ℕ) → n < 2 ^ 32 → PartsFrom bytes (header n)
 
--- bytes that begin with a frame begin with one alone
+-- bytes that begin with a frame begin with exactly one
 abbrev pub FramesTellApart : Type 0
 FramesTellApart =
-    (entry other rest left : List ℕ) → length entry < 2 ^ 32 → length other < 2 ^ 32 → frame entry ++ rest ≡ frame other ++ left
+    (entry other rest left : List ℕ) → length entry < 2 ^ 32 → length other < 2 ^ 32 → frame entry
+    ++ rest ≡ frame other ++ left
     → (entry ≡ other) × (rest ≡ left)
 
--- which bytes are cut, whatever was done to a frame
+-- which bytes are cut, after any change of a frame
 pub record CutsTellApart : Type 0 where
-  -- a frame that lost its end, and so many bytes are left of it
-  pub cut : (entry : List ℕ) (left : ℕ) → length entry < 2 ^ 32 → left < length (frame entry) → IsCut (take left (frame entry))
-  -- and none that has all its bytes, whatever stands in place of the entry and its digest, with anything behind it
-  pub body : (n : ℕ) (body behind : List ℕ) → n < 2 ^ 32 → length body ≡ n + 32 → ¬ (IsCut (header n ++ (body ++ behind)))
-  -- nor one of whose length any bits are turned over, in either half of its header or otherwise in both
+  -- a frame that lost its end, with `left` bytes left of it
+  pub cut : (entry : List ℕ) (left : ℕ) → length entry < 2 ^ 32 → left < length (frame entry)
+      → IsCut (take left (frame entry))
+  -- and none that has all its bytes, whatever is in place of the entry and its digest, with anything after it
+  pub body : (n : ℕ) (body behind : List ℕ) → n < 2 ^ 32 → length body ≡ n + 32
+      → ¬ (IsCut (header n ++ (body ++ behind)))
+  -- nor one with any inverted bits in its length, in either half of its header or differently in both
   pub header : (n check : ℕ) (behind : List ℕ) → n < 2 ^ 32 → check < 2 ^ 32 → n + check ≢ 2 ^ 32 - 1
       → ¬ (IsCut (to_be_bytes w32 n ++ (to_be_bytes w32 check ++ behind)))

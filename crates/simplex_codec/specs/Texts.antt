@@ -16,7 +16,7 @@ decode_error_text error.UnreadableSignature = codes "the signature is not the sc
 decode_error_text (error.UnknownVerdict verdict) = decimal verdict ++ codes " is no verdict"
 decode_error_text error.TrailingBytes = codes "bytes are left over"
 
--- why no frame is there
+-- why there is no frame
 abbrev pub no_frame_text : NoFrame → List ℕ
 no_frame_text no_frame.Cut = codes "the frame is cut"
 no_frame_text no_frame.Damaged = codes "the frame is damaged"

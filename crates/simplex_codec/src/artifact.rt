@@ -1,4 +1,4 @@
-//! Artifacts, the entries of a member's record, as bytes and read back.
+//! Encoding and decoding of artifacts, the entries of a member's record.
 
 ghost use Rattle.std.specs.Prelude.{◌≡◌, ◌++◌, ◌<◌, ◌^◌, IfOk, IfErr, OnOk, Some};
 ghost use Rattle.simplex_types.specs.Certificates.{certificate_facts};
@@ -25,14 +25,15 @@ use simplex_types::types::{
 };
 use std::alloc::{AllocError, Global};
 
-/// The artifact's bytes. Those of a certificate are what `Certificate::encode` writes.
+/// Returns the artifact's bytes. Those of a certificate are what `Certificate::encode` writes.
 ///
-/// A vote's signature is read back of its bytes. The only error is want of memory.
+/// A vote's signature can be read from its bytes. The only error is that memory ran out.
 pub fn encode_artifact<S: SchemeCodec, D: Digest>(
     alloc: Global,
     artifact: &Artifact<S, D>,
 ) -> Result<Bytes, AllocError>
-    ensures encoded { IfOk result (λ bytes. bytes ≡ artifact_bytes D.bytes S.certificate_bytes S.signature_bytes artifact.now) }
+    ensures encoded { IfOk result
+        (λ bytes. bytes ≡ artifact_bytes D.bytes S.certificate_bytes S.signature_bytes artifact.now) }
     ensures readable { OnOk result (HasReadableSignature S.signature_bytes S.signature_of artifact.now) }
 {
     let mut out = BytesMut::new(alloc);
@@ -44,7 +45,8 @@ fn put_artifact<S: SchemeCodec, D: Digest>(
     out: &mut BytesMut,
     artifact: &Artifact<S, D>,
 ) -> Result<(), AllocError>
-    ensures written { OnOk result (out.new.items ≡ out.old.items ++ artifact_bytes D.bytes S.certificate_bytes S.signature_bytes artifact.now) }
+    ensures written { OnOk result
+        (out.new.items ≡ out.old.items ++ artifact_bytes D.bytes S.certificate_bytes S.signature_bytes artifact.now) }
     ensures readable { OnOk result (HasReadableSignature S.signature_bytes S.signature_of artifact.now) }
 {
     match artifact {
@@ -70,12 +72,11 @@ fn put_artifact<S: SchemeCodec, D: Digest>(
     }
 }
 
-/// The artifact that `encode_artifact` wrote these bytes of.
+/// Returns the artifact that `encode_artifact` wrote as these bytes.
 ///
-/// What is answered has just these bytes, and each artifact with these bytes has the kind, the signer, the round or
-/// proposal, the verdict, the certificate's bytes and an equal signature of the one that is answered. Bytes of no artifact
-/// are refused: each error says what is wrong with them, but `OutOfMemory`. The crate itself takes no memory, only the
-/// scheme may.
+/// The returned artifact has exactly these bytes, and each artifact with these bytes has its kind, signer, round or
+/// proposal, verdict, certificate's bytes and an equal signature. Bytes of no artifact are refused: each error says
+/// what is wrong with them, except `OutOfMemory`. The crate itself takes no memory, only the scheme may.
 pub fn decode_artifact<S: SchemeCodec, D: DigestCodec>(
     alloc: Global,
     bytes: &[u8],
@@ -137,7 +138,8 @@ fn decode_kind<S: SchemeCodec, D: DigestCodec>(
 
 /// The artifact of an accepted certificate.
 fn accepted<S: SchemeCodec, D: Digest>(entry: Certificate<S, D>) -> Artifact<S, D>
-    ensures same { artifact_bytes D.bytes S.certificate_bytes S.signature_bytes result ≡ encoding D.bytes (certificate_facts S.certificate_bytes entry) }
+    ensures same { artifact_bytes D.bytes S.certificate_bytes S.signature_bytes result ≡ encoding D.bytes
+        (certificate_facts S.certificate_bytes entry) }
     ensures fits { IsEncodable (certificate_facts S.certificate_bytes entry) → IsEncodableArtifact result }
     ensures readable { HasReadableSignature S.signature_bytes S.signature_of result }
 {
@@ -148,7 +150,7 @@ fn accepted<S: SchemeCodec, D: Digest>(entry: Certificate<S, D>) -> Artifact<S, 
     }
 }
 
-/// A signer, a proposal, and a signature of all that is behind them.
+/// Reads a signer, a proposal, and a signature of all the bytes after them.
 fn read_proposal_vote<S: SchemeCodec, D: DigestCodec>(
     alloc: Global,
     bytes: &[u8],
@@ -168,7 +170,7 @@ fn read_proposal_vote<S: SchemeCodec, D: DigestCodec>(
     }
 }
 
-/// A signer, a round, and a signature of all that is behind them.
+/// Reads a signer, a round, and a signature of all the bytes after them.
 fn read_round_vote<S: SchemeCodec>(
     alloc: Global,
     bytes: &[u8],
@@ -190,7 +192,7 @@ fn read_round_vote<S: SchemeCodec>(
     }
 }
 
-/// A round and its verdict, and nothing behind them.
+/// Reads a round and its verdict, and nothing after them.
 fn read_verdict(bytes: &[u8]) -> Result<(Round, bool), DecodeError>
     ensures parts { IfOk result (λ x. bytes.now ≡ verdict_bytes x.0 x.1) }
     ensures fits { IfOk result (λ x. IsEncodableRound x.0) }

@@ -1,4 +1,4 @@
-//! Certificates read back from their bytes.
+//! Decoding of certificates.
 
 ghost use Rattle.std.specs.Prelude.{◌≡◌, ◌++◌, IfOk, IfErr};
 ghost use Rattle.simplex_types.specs.Certificates.{certificate_facts};
@@ -15,12 +15,12 @@ use simplex_types::types::{
 };
 use std::alloc::Global;
 
-/// The certificate that `Certificate::encode` wrote these bytes of.
+/// Returns the certificate that `Certificate::encode` wrote as these bytes.
 ///
-/// What is answered has just these bytes, and each certificate with these bytes has the kind, the round or proposal and
-/// the scheme's bytes of the one that is answered. Bytes of no certificate are refused: each error says what is wrong
-/// with them, but `OutOfMemory`. `UnreadableSignature`, `UnknownVerdict` and `TrailingBytes` are never answered, since
-/// the scheme is handed all that is left. The crate itself takes no memory, only the scheme may.
+/// The returned certificate has exactly these bytes, and each certificate with these bytes has its kind, its round or
+/// proposal and its scheme's bytes. Bytes of no certificate are refused: each error says what is wrong with them,
+/// except `OutOfMemory`. `UnreadableSignature`, `UnknownVerdict` and `TrailingBytes` are never returned, since the
+/// scheme receives all that is left. The crate itself takes no memory, only the scheme may.
 pub fn decode_certificate<S: SchemeCodec, D: DigestCodec>(
     alloc: Global,
     bytes: &[u8],
@@ -68,7 +68,7 @@ fn decode_kind<S: SchemeCodec, D: DigestCodec>(
     }
 }
 
-/// A proposal, and a certificate of all that is behind it.
+/// Reads a proposal, and a certificate of all the bytes after it.
 fn read_with_proposal<S: SchemeCodec, D: DigestCodec>(
     alloc: Global,
     bytes: &[u8],
@@ -84,7 +84,7 @@ fn read_with_proposal<S: SchemeCodec, D: DigestCodec>(
     }
 }
 
-/// A round, and a certificate of all that is behind it.
+/// Reads a round, and a certificate of all the bytes after it.
 fn read_with_round<S: SchemeCodec>(
     alloc: Global,
     bytes: &[u8],

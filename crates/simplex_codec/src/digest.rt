@@ -1,4 +1,4 @@
-//! A digest of as many bytes as its user says.
+//! A digest of a chosen number of bytes.
 
 ghost use Rattle.std.specs.Prelude.{◌≡◌, length};
 

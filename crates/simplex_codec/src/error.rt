@@ -1,13 +1,13 @@
-//! Why bytes are not read back.
+//! Why bytes cannot be decoded.
 
 use std::alloc::AllocError;
 use std::error::Error;
 use std::fmt;
 
-/// Why bytes were not read back: what is wrong with them, the first fault from left to right, or want of memory.
+/// Why bytes cannot be decoded: the first fault from left to right, or out of memory.
 #[derive(Clone, Copy, PartialEq, Eq, Debug)]
 pub enum DecodeError {
-    /// A growth was refused for want of memory. It says nothing of the bytes.
+    /// An allocation failed. It says nothing about the bytes.
     OutOfMemory,
     /// The bytes end within the parts that their kind begins with.
     TooShort,
@@ -15,9 +15,9 @@ pub enum DecodeError {
     UnknownKind(u8),
     /// The bytes in the payload's place are no digest's.
     UnreadablePayload,
-    /// The bytes that are left for the certificate are none of the scheme's.
+    /// The remaining bytes are no certificate of the scheme.
     UnreadableCertificate,
-    /// The bytes that are left for the signature are none of the scheme's.
+    /// The remaining bytes are no signature of the scheme.
     UnreadableSignature,
     /// The byte of a verdict, which is given, is neither 0 nor 1.
     UnknownVerdict(u8),

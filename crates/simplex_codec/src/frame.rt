@@ -1,4 +1,4 @@
-//! Entries of a journal, one behind the other, each framed by its length, which tests itself, and its digest.
+//! Entries of a journal, one after another, each framed by its length, which checks itself, and its digest.
 
 ghost use Rattle.std.specs.Prelude.{◌≡◌, ◌<◌, ◌^◌, ◌++◌, length, OnOk, IfOk, OnErr, IfErr, IfSome, MatchOption};
 ghost use Rattle.simplex_codec.specs.Frames.{header, frame, HasNoFrame, IsFrameRefusal, IsOff, IsOffHeader, FramesTellApart, CutsTellApart};
@@ -10,12 +10,12 @@ use std::alloc::AllocError;
 use std::error::Error;
 use std::fmt;
 
-/// Why no frame stands at the front of bytes.
+/// Why bytes do not begin with a frame.
 #[derive(Clone, Copy, PartialEq, Eq, Debug)]
 pub enum NoFrame {
     /// The bytes are the first of a frame: it was cut, or not written to its end.
     Cut,
-    /// No frame begins so: bytes of it were changed.
+    /// No frame begins like this: bytes of it were changed.
     Damaged,
 }
 
@@ -35,7 +35,7 @@ impl fmt::Display for NoFrame {
 
 impl Error for NoFrame {}
 
-/// The entry is written in a frame behind the bytes of `out`. The only error is want of memory.
+/// Writes the entry in a frame after the bytes of `out`. The only error is that memory ran out.
 pub fn write_frame(out: &mut BytesMut, entry: &[u8]) -> Result<(), AllocError>
     requires { length entry.now < 2 ^ 32 }
     ensures { OnOk result (out.new.items ≡ out.old.items ++ frame entry.now) }
@@ -55,12 +55,13 @@ fn put_header(out: &mut BytesMut, len: u32) -> Result<(), AllocError>
     Ok(())
 }
 
-/// The entry at the front and the bytes behind its frame; none at the end of the bytes.
+/// Returns the entry at the front and the bytes after its frame; `None` at the end of the bytes.
 ///
-/// It is refused exactly where there are bytes and no frame stands at their front: as `Cut` exactly where they end within a
+/// It is refused exactly if there are bytes and no frame is at their front: as `Cut` exactly if they end within a
 /// frame. Nothing is copied.
 pub fn read_frame(bytes: &[u8]) -> Result<Option<(&[u8], &[u8])>, NoFrame>
-    ensures read { IfOk result (λ next. MatchOption next (length bytes.now ≡ 0) (λ x. bytes.now ≡ frame x.0.now ++ x.1.now)) }
+    ensures read { IfOk result
+        (λ next. MatchOption next (length bytes.now ≡ 0) (λ x. bytes.now ≡ frame x.0.now ++ x.1.now)) }
     ensures fits { IfOk result (λ next. IfSome next (λ x. length x.0.now < 2 ^ 32)) }
     ensures some { OnErr result (0 < length bytes.now) }
     ensures none { OnErr result (HasNoFrame bytes.now) }
@@ -78,7 +79,7 @@ pub fn read_frame(bytes: &[u8]) -> Result<Option<(&[u8], &[u8])>, NoFrame>
     Ok(Some((entry, behind)))
 }
 
-/// The length that a header at the front names, and the bytes behind it.
+/// The length that a header at the front names, and the bytes after it.
 fn take_header(bytes: &[u8]) -> Result<(u32, &[u8]), NoFrame>
     ensures read { IfOk result (λ x. bytes.now ≡ header x.0 ++ x.1.now) }
     ensures fits { IfOk result (λ x. x.0 < 2 ^ 32) }
@@ -92,7 +93,7 @@ fn take_header(bytes: &[u8]) -> Result<(u32, &[u8]), NoFrame>
     Ok((len, rest))
 }
 
-/// The bytes behind a front; where they don't begin with it, whether they end within it.
+/// The bytes after a front; if they don't begin with it, whether they end within it.
 fn strip_front<'a>(bytes: &'a [u8], front: &[u8]) -> Result<&'a [u8], NoFrame>
     ensures read { IfOk result (λ rest. bytes.now ≡ front.now ++ rest.now) }
     ensures refused { IfErr result (IsOff bytes.now front.now) }
@@ -104,17 +105,17 @@ fn strip_front<'a>(bytes: &'a [u8], front: &[u8]) -> Result<&'a [u8], NoFrame>
     }
 }
 
-/// Bytes that begin with a frame begin with one alone, so what was written is what is read.
+/// Bytes that begin with a frame begin with exactly one, so what was written is what is read.
 ///
-/// It does nothing: its contract is the law.
+/// The function does nothing: its contract is the law.
 pub fn frames_tell_apart()
     ensures { FramesTellApart }
 {}
 
-/// A frame that lost its end is cut, and one that was changed is not: whatever stands in place of its entry and digest, and in
-/// its header unless its halves still belong together.
+/// A frame that lost its end is cut, and one that was changed is not. This holds for any bytes in place of its entry
+/// and digest, and in its header unless its halves still belong together.
 ///
-/// It does nothing: its contract is the law.
+/// The function does nothing: its contract is the law.
 pub fn cuts_tell_apart()
     ensures { CutsTellApart }
 {}

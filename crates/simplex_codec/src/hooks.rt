@@ -1,4 +1,4 @@
-//! What reading back asks of digests and schemes, beside what the protocol asks of them.
+//! The requirements of decoding on digests and schemes, besides those of the protocol.
 
 ghost use Rattle.std.specs.Prelude.{◌≡◌, ◌++◌, List, ℕ, Option, Some, IfOk, IfSome, OnOk};
 ghost use Rattle.simplex_codec.specs.Decoded.{ReadsBack};
@@ -7,17 +7,17 @@ use bytes::BytesMut;
 use simplex_types::types::{CertificateScheme, Digest};
 use std::alloc::{AllocError, Global};
 
-/// A digest that is read back from its bytes.
+/// A digest that can be read from its bytes.
 pub trait DigestCodec: Digest {
-    /// The digest with just these bytes; none exactly where no digest has them.
+    /// Returns the digest with exactly these bytes; `None` exactly if no digest has them.
     fn read(bytes: &[u8]) -> Option<Self>
         ensures { ReadsBack Self.bytes bytes.now result };
 }
 
-/// A scheme whose certificates and signatures are read back from their bytes.
+/// A scheme whose certificates and signatures can be read from their bytes.
 ///
-/// Both are the last part of what holds them, so a scheme is handed all of the bytes that are left, and has to refuse
-/// bytes that are too many.
+/// Both are the last part of what holds them, so a scheme receives all of the remaining bytes, and must refuse bytes
+/// that are too many.
 pub trait SchemeCodec: CertificateScheme {
     /// The bytes of a signature.
     ghost signature_bytes: { Self.Signature → List ℕ };
@@ -25,19 +25,20 @@ pub trait SchemeCodec: CertificateScheme {
     /// The signature that bytes are read as, if they are a signature's.
     ghost signature_of: { List ℕ → Option Self.Signature };
 
-    /// A certificate with just these bytes; none exactly where no certificate has them.
+    /// Returns a certificate with exactly these bytes; `None` exactly if no certificate has them.
     fn read_certificate(
         alloc: Global,
         bytes: &[u8],
     ) -> Result<Option<Self::Certificate>, AllocError>
         ensures { IfOk result (ReadsBack Self.certificate_bytes bytes.now) };
 
-    /// The bytes of a signature are written behind those of `out`. They are read back as an equal signature.
+    /// Writes the bytes of a signature after those of `out`. They are read back as an equal signature.
     fn write_signature(out: &mut BytesMut, signature: &Self::Signature) -> Result<(), AllocError>
         ensures written { OnOk result (out.new.items ≡ out.old.items ++ signature_bytes signature.now) }
         ensures read_back { OnOk result (signature_of (signature_bytes signature.now) ≡ Some signature.now) };
 
-    /// The signature that the bytes are read as, which has just these bytes; none where they are no signature's.
+    /// Returns the signature that the bytes are read as, which has exactly these bytes; `None` if they are no
+    /// signature's.
     fn read_signature(alloc: Global, bytes: &[u8]) -> Result<Option<Self::Signature>, AllocError>
         ensures read { IfOk result (λ read. read ≡ signature_of bytes.now) }
         ensures same_bytes { IfOk result (λ read. IfSome read (λ signature. signature_bytes signature ≡ bytes.now)) };

@@ -1,6 +1,6 @@
-//! Certificates and artifacts as bytes: written, read back, and framed one behind the other with a check sum.
+//! Certificates and artifacts as bytes: written, read back, and framed one after another with a checksum.
 //!
-//! What is read has just the bytes that were given; bytes of nothing are refused, with the cause.
+//! A value that is read has exactly the bytes that were given; bytes of nothing are refused, with the cause.
 #![tactic(auto)]
 
 pub mod artifact;

@@ -9,7 +9,7 @@ use crate::error::DecodeError;
 use crate::hooks::DigestCodec;
 use simplex_types::types::{Epoch, Proposal, Round, View};
 
-/// A number of eight bytes, and the bytes behind it; none where there are fewer.
+/// A number of eight bytes, and the bytes after it; `None` if there are fewer.
 pub(crate) fn take_u64(bytes: &[u8]) -> Option<(u64, &[u8])>
     ensures parts { MatchOption result (length bytes.now < 8) (λ x. bytes.now ≡ to_be_bytes w64 x.0 ++ x.1.now) }
     ensures fits { MatchOption result (length bytes.now < 8) (λ x. x.0 < 2 ^ 64) }
@@ -18,7 +18,7 @@ pub(crate) fn take_u64(bytes: &[u8]) -> Option<(u64, &[u8])>
     Some((u64::from_be_bytes(*front), rest))
 }
 
-/// A number of four bytes, and the bytes behind it; none where there are fewer.
+/// A number of four bytes, and the bytes after it; `None` if there are fewer.
 pub(crate) fn take_u32(bytes: &[u8]) -> Option<(u32, &[u8])>
     ensures parts { MatchOption result (length bytes.now < 4) (λ x. bytes.now ≡ to_be_bytes w32 x.0 ++ x.1.now) }
     ensures fits { MatchOption result (length bytes.now < 4) (λ x. x.0 < 2 ^ 32) }
@@ -27,7 +27,7 @@ pub(crate) fn take_u32(bytes: &[u8]) -> Option<(u32, &[u8])>
     Some((u32::from_be_bytes(*front), rest))
 }
 
-/// A round, and the bytes behind it; none where there are too few.
+/// A round, and the bytes after it; `None` if there are too few.
 pub(crate) fn take_round(bytes: &[u8]) -> Option<(Round, &[u8])>
     ensures parts { MatchOption result (length bytes.now < 16) (λ x. bytes.now ≡ round_bytes x.0 ++ x.1.now) }
     ensures fits { IfSome result (λ x. IsEncodableRound x.0) }
@@ -41,7 +41,7 @@ pub(crate) fn take_round(bytes: &[u8]) -> Option<(Round, &[u8])>
     Some((round, rest))
 }
 
-/// A payload, and the bytes behind it. The payload is refused only where there are enough bytes.
+/// A payload, and the bytes after it. The payload is refused only if there are enough bytes.
 pub(crate) fn take_payload<D: DigestCodec>(bytes: &[u8]) -> Result<(D, &[u8]), DecodeError>
     ensures parts { IfOk result (λ x. bytes.now ≡ D.bytes x.0 ++ x.1.now) }
     ensures refused { IfErr result (IsPayloadRefusal D.bytes 0 D.SIZE bytes.now) }
@@ -55,7 +55,7 @@ pub(crate) fn take_payload<D: DigestCodec>(bytes: &[u8]) -> Result<(D, &[u8]), D
     }
 }
 
-/// A proposal, and the bytes behind it. The payload is refused only where there are enough bytes for the whole proposal.
+/// A proposal, and the bytes after it. The payload is refused only if there are enough bytes for the whole proposal.
 pub(crate) fn take_proposal<D: DigestCodec>(
     bytes: &[u8],
 ) -> Result<(Proposal<D>, &[u8]), DecodeError>

@@ -1,4 +1,4 @@
-//! The plain digest, scheme and signatures, which tests and programs use, read back.
+//! Decoding of the plain digest, scheme and signatures, which tests and programs use.
 
 ghost use Rattle.std.specs.Prelude.{◌≡◌, IfSome};
 ghost use Rattle.simplex_types.specs.Plain.{digest_bytes};
@@ -54,7 +54,7 @@ impl SchemeCodec for PlainScheme {
     }
 }
 
-/// A key, and what was signed.
+/// Reads a key, and what was signed.
 fn read_signed(bytes: &[u8]) -> Option<PlainSignature>
     ensures read { result ≡ plain_signature_of bytes.now }
     ensures same_bytes { IfSome result (λ s. plain_signature_bytes s ≡ bytes.now) }
@@ -67,7 +67,7 @@ fn read_signed(bytes: &[u8]) -> Option<PlainSignature>
     })
 }
 
-/// What was signed, and nothing behind it.
+/// Reads what was signed, and nothing after it.
 fn read_subject(bytes: &[u8]) -> Option<Subject<PlainDigest>>
     ensures read { result ≡ plain_subject_of bytes.now }
     ensures same_bytes { IfSome result (λ s. subject_bytes digest_bytes s ≡ bytes.now) }
@@ -81,7 +81,7 @@ fn read_subject(bytes: &[u8]) -> Option<Subject<PlainDigest>>
     }
 }
 
-/// A round, and nothing behind it.
+/// Reads a round, and nothing after it.
 fn read_round(bytes: &[u8]) -> Option<Round>
     ensures read { result ≡ plain_round_of bytes.now }
     ensures same_bytes { IfSome result (λ r. round_bytes r ≡ bytes.now) }
@@ -92,7 +92,7 @@ fn read_round(bytes: &[u8]) -> Option<Round>
     }
 }
 
-/// A proposal, and nothing behind it.
+/// Reads a proposal, and nothing after it.
 fn read_proposal(bytes: &[u8]) -> Option<Proposal<PlainDigest>>
     ensures read { result ≡ plain_proposal_of bytes.now }
     ensures same_bytes { IfSome result (λ p. proposal_bytes digest_bytes p ≡ bytes.now) }

@@ -1,4 +1,4 @@
-//! The parts of encodings, written behind what is there.
+//! The parts of encodings, written after the existing bytes.
 
 ghost use Rattle.std.specs.Prelude.{◌≡◌, ◌++◌, ◌∷◌, [], OnOk, Some};
 ghost use Rattle.std.specs.Int.{w32, w64, to_be_bytes};
@@ -31,7 +31,7 @@ fn put_proposal<D: Digest>(out: &mut BytesMut, proposal: &Proposal<D>) -> Result
     Ok(())
 }
 
-/// What a vote on the subject signs. Its numbers fit, as those of each subject do.
+/// Writes what a vote on the subject signs. Its numbers fit, as those of each subject do.
 pub(crate) fn put_subject<D: Digest>(
     out: &mut BytesMut,
     subject: &Subject<D>,
@@ -55,14 +55,15 @@ pub(crate) fn put_subject<D: Digest>(
     }
 }
 
-/// A kind, a proposal and a certificate.
+/// Writes a kind, a proposal and a certificate.
 pub(crate) fn put_proposal_certificate<S: SchemeCodec, D: Digest>(
     out: &mut BytesMut,
     kind: u8,
     proposal: &Proposal<D>,
     certificate: &S::Certificate,
 ) -> Result<(), AllocError>
-    ensures { OnOk result (out.new.items ≡ out.old.items ++ (kind ∷ (proposal_bytes D.bytes proposal.now ++ S.certificate_bytes certificate.now))) }
+    ensures { OnOk result (out.new.items ≡ out.old.items
+        ++ (kind ∷ (proposal_bytes D.bytes proposal.now ++ S.certificate_bytes certificate.now))) }
 {
     out.put_u8(kind)?;
     put_proposal(out, proposal)?;
@@ -70,14 +71,15 @@ pub(crate) fn put_proposal_certificate<S: SchemeCodec, D: Digest>(
     Ok(())
 }
 
-/// A kind, a round and a certificate.
+/// Writes a kind, a round and a certificate.
 pub(crate) fn put_round_certificate<S: SchemeCodec>(
     out: &mut BytesMut,
     kind: u8,
     round: Round,
     certificate: &S::Certificate,
 ) -> Result<(), AllocError>
-    ensures { OnOk result (out.new.items ≡ out.old.items ++ (kind ∷ (round_bytes round ++ S.certificate_bytes certificate.now))) }
+    ensures { OnOk result (out.new.items ≡ out.old.items
+        ++ (kind ∷ (round_bytes round ++ S.certificate_bytes certificate.now))) }
 {
     out.put_u8(kind)?;
     put_round(out, round)?;
@@ -85,7 +87,7 @@ pub(crate) fn put_round_certificate<S: SchemeCodec>(
     Ok(())
 }
 
-/// A kind, a signer, a proposal and a signature, which is read back of its bytes.
+/// Writes a kind, a signer, a proposal and a signature, which can be read from its bytes.
 pub(crate) fn put_proposal_vote<S: SchemeCodec, D: Digest>(
     out: &mut BytesMut,
     kind: u8,
@@ -94,7 +96,8 @@ pub(crate) fn put_proposal_vote<S: SchemeCodec, D: Digest>(
     signature: &S::Signature,
 ) -> Result<(), AllocError>
     ensures bytes { OnOk result (out.new.items
-        ≡ out.old.items ++ (kind ∷ signed_proposal_bytes D.bytes signer proposal.now (S.signature_bytes signature.now))) }
+        ≡ out.old.items ++ (kind
+        ∷ signed_proposal_bytes D.bytes signer proposal.now (S.signature_bytes signature.now))) }
     ensures readable { OnOk result (S.signature_of (S.signature_bytes signature.now) ≡ Some signature.now) }
 {
     out.put_u8(kind)?;
@@ -104,7 +107,7 @@ pub(crate) fn put_proposal_vote<S: SchemeCodec, D: Digest>(
     Ok(())
 }
 
-/// A kind, a signer, a round and a signature, which is read back of its bytes.
+/// Writes a kind, a signer, a round and a signature, which can be read from its bytes.
 pub(crate) fn put_round_vote<S: SchemeCodec>(
     out: &mut BytesMut,
     kind: u8,
@@ -112,7 +115,8 @@ pub(crate) fn put_round_vote<S: SchemeCodec>(
     round: Round,
     signature: &S::Signature,
 ) -> Result<(), AllocError>
-    ensures bytes { OnOk result (out.new.items ≡ out.old.items ++ (kind ∷ signed_round signer round (S.signature_bytes signature.now))) }
+    ensures bytes { OnOk result
+        (out.new.items ≡ out.old.items ++ (kind ∷ signed_round signer round (S.signature_bytes signature.now))) }
     ensures readable { OnOk result (S.signature_of (S.signature_bytes signature.now) ≡ Some signature.now) }
 {
     out.put_u8(kind)?;
@@ -122,7 +126,7 @@ pub(crate) fn put_round_vote<S: SchemeCodec>(
     Ok(())
 }
 
-/// A round and its verdict.
+/// Writes a round and its verdict.
 pub(crate) fn put_verdict(out: &mut BytesMut, round: Round, success: bool) -> Result<(), AllocError>
     ensures { OnOk result (out.new.items ≡ out.old.items ++ 6 ∷ verdict_bytes round success) }
 {

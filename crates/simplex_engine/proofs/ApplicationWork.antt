@@ -1,4 +1,4 @@
--- What the application is to be told of stays told.
+-- What the application must receive is not lost.
 use Rattle.std.proofs.Common.{◌≡◌, ◌∙◌, ap, sym, subst, ℕ, ◌⊎◌, inl, inr, Bool, true, false, ◌==◌, cond, List, [], ◌∷◌, ◌++◌, map, Option, Some, None}
 use Rattle.std.specs.BTreeSet.{insert_key}
 use Rattle.std.specs.List.{fold, list_any}
@@ -44,7 +44,7 @@ module _ {S D K G C : Type 0} where
     ];
   }
 
-  -- behind others
+  -- after others
   pub among_behind : (these those : List (Work S D K G C)) → AreAmong those (these ++ those)
   among_behind these those = record { found = λ test. any_right test these those }
 
@@ -58,13 +58,13 @@ module _ {S D K G C : Type 0} where
   pub work_among : {these those : List (Work S D K G C)} (waiting : OutstandingWork K D) → AreAmong these those → IsWorkIn these waiting → IsWorkIn those waiting
   work_among waiting among is = (λ view waits. among.found (is_verify_of view) (is.0 view waits), λ view waits. among.found (is_certify_of view) (is.1 view waits))
 
-  -- a block that was told is told still, and one that waited was planned or waits
+  -- a block that was asked for still is, and one that waited was planned or waits
   pub block_further : {works planned those : List (Work S D K G C)} (was is : Beside K D) (view : ℕ) → AreAmong works those → AreAmong planned those
       → (awaits was view ≡ true → has_block planned is view ≡ true) → has_block works was view ≡ true → has_block those is view ≡ true
   block_further {those = those} was is view among behind waiting =
       has_further was is view among (λ waits. has_further is is view behind (or_right (list_any (is_build_of view) those) (awaits is view)) (waiting waits))
 
-  -- what is told stays told, with what is planned
+  -- what was asked for still is, with what is planned
   pub told_by : {works planned those : List (Work S D K G C)} {was is : Beside K D} {waiting : OutstandingWork K D} → AreAmong works those → AreAmong planned those
       → ((view : ℕ) → awaits was view ≡ true → has_block planned is view ≡ true) → IsReportedIn works was waiting → IsReportedIn those is waiting
   told_by {was = was} {is = is} {waiting = waiting} among behind building told =
@@ -137,7 +137,7 @@ module _ {S L D K G C : Type 0} (same : D → D → Bool) (elect : Elect L) (wor
   work_superseded true view waiting is = is
   work_superseded false view waiting is = is
 
-  -- what a call opens that is answered
+  -- what a call opens that returns
   work_by_answer : (x : StateFacts K L D) (waiting : OutstandingWork K D) (asked : CallFacts D) → IsWorkIn works waiting
       → HasWorkOf (answer same elect x waiting asked) (outstanding_work_after same elect x waiting asked)
   work_by_answer x o call.TryVerify is = work_verify o (verify_answer same elect x) is

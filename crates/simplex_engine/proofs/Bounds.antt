@@ -1,4 +1,4 @@
--- That what is held is bounded: votes stay those of members, and of views that are admitted; what is left is of views that are kept.
+-- What is stored is bounded: votes stay those of members, and of admitted views; what is left is of retained views.
 use Rattle.std.proofs.Common.{◌≡◌, ℕ, ◌≤◌, ◌<◌, Bool, true, false, List, [], length, Option, Some, None, refl, sym, subst, arith}
 use Rattle.std.specs.Prelude.{IfSome, IsTrue, Contains, ◌&&◌, ◌==◌, nat_le}
 use Rattle.std.specs.Option.{option_map_or}
@@ -22,7 +22,7 @@ use Rattle.simplex_engine.specs.Bounds.{HoldsFromKept, HoldsNoneAhead, StaysBoun
 use Rattle.engine_outbox.specs.Continuity.{Continues, HasRisen}
 
 module _ {L S D K G C : Type 0} where
-  -- where none is below the lowest view that is kept
+  -- where none is below the lowest retained view
   pub kept_from : (life : Option (StateFacts K L D)) (lowest : ℕ) (batcher : Batcher S D K G C)
       → IfSome life (λ x. min_active x ≡ lowest) → HoldsFrom lowest batcher → IfSome life (λ x. HoldsFrom (min_active x) batcher)
   kept_from None lowest batcher is from = tt
@@ -35,7 +35,7 @@ module _ {S D K G C : Type 0} where
       let old = within kind view member ballot (none.were_held kind view member ballot is) in
       (old.0, omega (arith, old.1, up), old.2)
 
-  -- where no vote was handed in, none is held
+  -- where no vote was passed in, none is stored
   pub none_held : (members highest : ℕ) (batcher : Batcher S D K G C) → AreGiven [] batcher → HoldsUpTo members highest batcher
   none_held members highest batcher none kind view member ballot is = absurd (no_member (none kind view member ballot is))
     where
@@ -86,7 +86,7 @@ module _ {S L D K G C : Type 0} (keys_of : S → List K) where
       → Continues same elect bytes_of is_signature taken a b → TakesNone c d → StaysBounded keys_of a c b d
   bounded_still {a = a} {b = b} {c = c} {d = d} went none = record { stays = within_still a.member.facts.life b.member.facts.life went.risen c d none }
 
-  -- one behind the other
+  -- one after the other
   pub bounded_further : {a b c : Journaled S L D K G C} {d e f : Batcher S D K G C} → StaysBounded keys_of a d b e → StaysBounded keys_of b e c f → StaysBounded keys_of a d c f
   bounded_further first second = record { stays = λ within. second.stays (first.stays within) }
 
@@ -94,7 +94,7 @@ module _ {S L D K G C : Type 0} (keys_of : S → List K) where
   pub bounded_same : (a b : Journaled S L D K G C) (c : Batcher S D K G C) → b.member ≡ a.member → StaysBounded keys_of a c b c
   bounded_same a b c is = record { stays = λ within. subst (λ m. IfSome m.facts.life (λ x. HoldsUpTo (length (keys_of c.scheme)) (next_term_start x.terms.term_length x.current) c)) (sym is) within }
 
-  -- where none is held
+  -- where none is stored
   pub bounded_empty : (core : Journaled S L D K G C) (batcher : Batcher S D K G C) → AreGiven [] batcher → HoldsNoneAhead keys_of core batcher
   bounded_empty core batcher none = by_life core.member.facts.life
     where
@@ -118,7 +118,7 @@ module _ {S L D K G C : Type 0} (keys_of : S → List K) where
           subst (λ scheme. HoldsUpTo (length (keys_of scheme)) (next_term_start x.terms.term_length x.current) new) (sym same)
           (counts (next_term_start x.terms.term_length x.current) (λ _. parts_of x (subject_view on) (admitted_on x on admits)) within)
 
-  -- where besides none is held of a view below, each is of an admitted one
+  -- where besides none is stored of a view below, each is of an admitted one
   pub bounded_admitted : (core : Journaled S L D K G C) (batcher : Batcher S D K G C) → HoldsNoneAhead keys_of core batcher → HoldsFromKept core batcher → HoldsAdmitted keys_of core batcher
   bounded_admitted core batcher = by_life core.member.facts.life
     where

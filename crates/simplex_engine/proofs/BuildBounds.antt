@@ -1,4 +1,4 @@
--- That no block comes to be built far ahead.
+-- No block far ahead is ever to be built.
 use Rattle.std.proofs.Common.{◌≡◌, ap, ◌∙◌, refl, sym, subst, ℕ, ◌≤◌, inl, inr, true, false, List, [], ◌∷◌, ◌++◌, Option, Some, None, arith}
 use Rattle.std.specs.Prelude.{IfSome, filter, nat_lt}
 use Rattle.std.specs.List.{list_any}
@@ -82,7 +82,7 @@ module _ {S L D K G C : Type 0} (a b : Engine S L D K G C) where
       by_life None come = tt
       by_life (Some x) come = subst (λ v. AreAmong (filter (is_early v) a.plan.early.proposals.items) b.plan.early.proposals.items) come.0 among
 
-  -- and where each is kept, whatever the view
+  -- and where each is stored, whatever the view
   pub early_anyway : AreAmong a.plan.early.proposals.items b.plan.early.proposals.items → StaysStoredEarly a.plan b.core.member.facts b.plan
   early_anyway among = by_life b.core.member.facts.life
     where
@@ -99,7 +99,7 @@ module _ {K L D : Type 0} (was mid is : List (Early D)) where
   early_further (Some x) (Some y) risen first second =
       kept_further was (is_early x.current) (is_early y.current) (λ e above. lt-ltb x.current e.view (omega (arith, risen.views.current, ltb-true y.current e.view above))) first second
 
--- the views of a member do not fall, one behind the other
+-- the views of a member do not fall, one step after the other
 pub risen_on : {K L D : Type 0} (a b c : Option (StateFacts K L D)) → WhileAlive HasRisen a b → WhileAlive HasRisen b c → WhileAlive HasRisen a c
 risen_on a b c =
     alive_joined HasRisen HasRisen HasRisen a b c

@@ -24,7 +24,7 @@ use Rattle.engine_votes.proofs.Good.{same_subject-true}
 use Rattle.engine_votes.proofs.Polls.{rising_on}
 
 module _ {S D K G C : Type 0} where
-  -- votes that were handed in are among these and others
+  -- votes that were passed in are among these and others
   widened : (given more : List (Vote D G)) (batcher : Batcher S D K G C) → AreGiven given batcher → AreGiven (given ++ more) batcher
   widened given more batcher are kind view member ballot is =
       contains_left given more (record { subject = ballot.subject; signer = member; signature = ballot.signature }) (are kind view member ballot is)
@@ -32,7 +32,7 @@ module _ {S D K G C : Type 0} where
   pub takes_nothing : (a : Batcher S D K G C) → TakesNone a a
   takes_nothing a = record { are_given = λ given are. are; were_held = λ kind view member ballot is. is; scheme = refl }
 
-  -- where the same votes are held
+  -- where the same votes are stored
   pub takes_same : {a b : Batcher S D K G C} → b ≡ a → TakesNone a b
   takes_same {a = a} held = subst (TakesNone a) (sym held) (takes_nothing a)
 
@@ -85,7 +85,7 @@ module _ {D G : Type 0} (same : D → D → Bool) (law : (d e : D) → same d e 
   abbrev IsAmong : ℕ × G → Type 0
   IsAmong s = Contains given (record { subject = on; signer = s.0; signature = s.1 })
 
-  -- the vote of a member that is held was handed in
+  -- the stored vote of a member was passed in
   abbrev IsGivenOf : ℕ → Option (Ballot D G) → Type 0
   IsGivenOf member held = (ballot : Ballot D G) → held ≡ Some ballot → Contains given (record { subject = ballot.subject; signer = member; signature = ballot.signature })
 
@@ -105,7 +105,7 @@ module _ {D G : Type 0} (same : D → D → Bool) (law : (d e : D) → same d e 
   given_on (suc member) slots are =
       All-append IsAmong (signatures_on same on member slots) (signature_on same on member (ballot_of slots member)) (given_on member slots are) (one_given member (ballot_of slots member) (are member))
 
-  -- a quorum of the votes that are held
+  -- a quorum of the stored votes
   pub quorum_given : (members : ℕ) (slots : List (Option (Ballot D G))) → ((m : ℕ) → IsGivenOf m (ballot_of slots m)) → length (signatures_on same on members slots) ≡ quorum_of members → HasQuorum members given on
   quorum_given members slots are quorum =
       record { signed = signatures_on same on members slots; quorum = quorum; rising = rising_on same on members slots; are_given = given_on members slots are }

@@ -18,7 +18,7 @@ use Rattle.simplex_engine.specs.declared.engine.begin.StartError.{StartError}
 use Rattle.simplex_engine.specs.declared.engine.begin.StartError.TheVariants.{RetryZero, Resume, Replay}
 use Rattle.simplex_engine.specs.EngineStart.{others_of, IsRepairOf, IsPlanOf, IsCompanyOf, HasStartedWith, IsNotReplayed, IsStartRefusal}
 
--- the resolver and its fetches, once it was told of the record
+-- the resolver and its fetches, once it received the record
 pub is_repair_of : {D : Type 0} (bytes : D → List ℕ) (term_length : ℕ) (entries : List (ArtifactFacts D)) (peers : Peers) (retry : ℕ) (resolver : LawfulResolverFacts)
     (made repair : Repair) → repair ≡ made → HasReceivedCalls term_length (Replayed ∷ calls_of bytes (reverse entries)) resolver → made.resolver ≡ resolver
     → made.fetches.wanted.items ≡ wanting resolver.open_fetches [] → made.fetches.peers ≡ peers → made.fetches.retry ≡ retry → made.is_behind ≡ false
@@ -49,7 +49,7 @@ begun_with bytes keys_of keys me term_length options company member engine is ba
   forgotten = forgotten;
 }
 
--- none begins where the resolver refuses the record of a member that does, or memory is lacking
+-- none begins where the resolver refuses the record of a member that does, or is out of memory
 pub engine_not_started : {K L D X : Type 0} (result : Result X StartError) (timeout_retry : ℕ) (IsRefused : ResumeError → Type 0) (Begins : MemberFacts K L D → Type 0)
     (m : MemberFacts K L D) → Begins m → IfErr result (IsNotReplayed m.entries) → IfErr result (IsStartRefusal timeout_retry IsRefused Begins)
 engine_not_started (Ok x) timeout_retry IsRefused Begins m begins refused = tt

@@ -1,5 +1,4 @@
--- For `Engine::handle` and what it calls.
--- What comes of an input follows from what the member is asked for it, and from the votes that are held.
+-- For `Engine::handle` and what it calls. The effect of an input follows from what the member is asked for it, and from the stored votes.
 use Rattle.std.proofs.Common.{◌≡◌, ◌≢◌, ℕ, ◌≤◌, Bool, true, false, cond, List, [], ◌∷◌, ◌++◌, length, Some, Result, Ok, Err, refl, ap, sym, subst, ◌∙◌, inl, inr}
 use Rattle.std.specs.Prelude.{IfOk, OnOk, IsTrue, IsFalse}
 use Rattle.std.specs.List.{list_any}
@@ -57,7 +56,7 @@ module _ {S D K G C : Type 0} (a b : Batcher S D K G C) where
   held_same is kind view member = ap (λ (batcher : Batcher S D K G C). ballot_of (held batcher kind view) member) is
 
 module _ {K L D : Type 0} (same : D → D → Bool) (elect : Elect L) (now : ℕ) where
-  -- a task of no use
+  -- an ignored task
   asked_left : (asked : Task D) (m left : MemberFacts K L D) (is_of_use : Bool) → HasDoneTask same elect asked now m left is_of_use → IsFalse is_of_use → IsLeftByCall (call_of asked now) m left
   asked_left asked m left is_of_use done vain =
       dropped_left same elect m left (call_of asked now) done.answer done.answered (not-false (says_nothing done.answer) (sym done.told ∙ vain))
@@ -71,13 +70,13 @@ module _ {K L D : Type 0} (same : D → D → Bool) (elect : Elect L) (now : ℕ
   block_left false view payload m left is_of_use taken vain = taken.1
 
 module _ {S L D K G C : Type 0} (same : D → D → Bool) (elect : Elect L) (bytes_of : C → List ℕ) (now : ℕ) where
-  -- a certificate of no use
+  -- an ignored certificate
   handed_left : (certificate : Certificate S D K G C) (m left : MemberFacts K L D) (is_of_use : Bool) → IsSubmitted same elect bytes_of now certificate m left is_of_use → IsFalse is_of_use → left ≡ m
   handed_left certificate m left is_of_use handed vain =
       refused_left same elect m left (certificate_call (certificate_facts bytes_of certificate) now) handed.answer handed.answered
       (not-false (is_refused handed.answer) (sym handed.told ∙ vain))
 
-  -- a vote of no use
+  -- an ignored vote
   counted_left : (counted : Counted S D K G C) (queued : List (Step S D K G C)) (m : MemberFacts K L D) (steps : List (Step S D K G C)) (left : MemberFacts K L D) (is_of_use : Bool)
       → IsCountFollowed same elect bytes_of now counted queued m steps left is_of_use → IsFalse is_of_use → left ≡ m
   counted_left (Certified made) queued m steps left is_of_use followed vain = absurd (false≢true (sym vain ∙ followed.0))
@@ -86,7 +85,7 @@ module _ {S L D K G C : Type 0} (same : D → D → Bool) (elect : Elect L) (byt
   counted_left Known queued m steps left is_of_use followed vain = followed.1
   counted_left Refused queued m steps left is_of_use followed vain = followed.1
 
-  -- what it leaves of those that are held
+  -- what it leaves of the stored ones
   counted_same : (IsMadeOf : Subject D → List (ℕ × G) → C → Type 0) (members : ℕ) (old new : Batcher S D K G C) (vote : Vote D G) (counted : Counted S D K G C)
       (queued : List (Step S D K G C)) (m : MemberFacts K L D) (steps : List (Step S D K G C)) (left : MemberFacts K L D) (is_of_use : Bool)
       → IsCounted same IsMadeOf members true old vote new counted → IsCountFollowed same elect bytes_of now counted queued m steps left is_of_use → IsFalse is_of_use → HoldsAllTheSame old new
@@ -126,7 +125,7 @@ module _ {S L D K G C : Type 0} {same : D → D → Bool} {elect : Elect L} {byt
 -- all inputs
 
 module _ {S D K G C : Type 0} where
-  -- but for a vote, the same votes are held
+  -- except for a vote, the same votes are stored
   pub keeps_votes : (what : Input S D K G C) (old new : Batcher S D K G C) → new ≡ old → KeepsVotes what old new
   keeps_votes (input.Proposal from proposal) old new same = same
   keeps_votes (input.Vote vote) old new same = tt
@@ -141,7 +140,7 @@ module _ {S L D K G C : Type 0} (same : D → D → Bool) (elect : Elect L) (byt
   abbrev facts_of : Engine S L D K G C → MemberFacts K L D
   facts_of engine = engine.core.member.facts
 
-  -- one that was acted on, and was of no use
+  -- one that was acted on, and was ignored
   acted_left : (what : Input S D K G C) (old : Engine S L D K G C) (left : MemberFacts K L D) (batcher : Batcher S D K G C) (steps : List (Step S D K G C)) (is_of_use : Bool)
       → IsActedOn same elect bytes_of IsMadeOf keys_of now what old left batcher steps is_of_use → IsFalse is_of_use → IsLeftByInput now what (facts_of old) left
   acted_left (input.Proposal from proposal) old left batcher steps is_of_use acted vain =
@@ -247,7 +246,7 @@ module _ {S L D K G C : Type 0} (same : D → D → Bool) (elect : Elect L) (byt
         followed = follows;
       }) followed)
 
-  -- where it is not of no use, it was not turned away
+  -- where it is not ignored, it was admitted
   pub taken_otherwise : {E : Type 0} {is_signature : K → Subject D → G → Type 0} (what : Input S D K G C) (old passed new : Engine S L D K G C) (answer : Result Bool E) → answer ≢ Ok false
       → IsInputTaken same elect bytes bytes_of is_signature IsMadeOf keys_of now what old old new answer → IsInputTaken same elect bytes bytes_of is_signature IsMadeOf keys_of now what old passed new answer
   taken_otherwise what old passed new answer otherwise turns = record {

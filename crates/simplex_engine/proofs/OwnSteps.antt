@@ -1,5 +1,4 @@
--- For the code of the engine.
--- An engine goes on by itself, step by step.
+-- For the code of the engine. An engine continues by itself, step by step.
 use Rattle.std.proofs.Common.{◌≡◌, ◌⊎◌, ◌∙◌, refl, sym, subst, inl, inr, ℕ, Bool, List, Option, Some, None}
 use Rattle.std.specs.Prelude.{IfSome}
 use Rattle.simplex_types.specs.declared.types.messages.Subject.{Subject}
@@ -20,11 +19,11 @@ always_some (Some x) holds = holds x
 always_some None holds = tt
 
 module _ {S L D K G C : Type 0} where
-  -- the same votes are held
+  -- the same votes are stored
   pub forgets_nothing : (core : Journaled S L D K G C) (old new : Batcher S D K G C) → new ≡ old → ForgetsNoOther core old new
   forgets_nothing core old new same = always_some core.member.facts.life (λ x. inl same)
 
-  -- the lowest view that is kept is of the member
+  -- the lowest retained view is of the member
   pub forgets_as : (was is : Journaled S L D K G C) (old new : Batcher S D K G C) → is.member ≡ was.member → ForgetsNoOther was old new → ForgetsNoOther is old new
   forgets_as was is old new same forgets =
       subst (λ (m : SignedMember K L D G). IfSome m.facts.life (λ x. (new ≡ old) ⊎ IsForgotten (min_active x) old new)) (sym same) forgets
@@ -40,7 +39,7 @@ module _ {S L D K G C : Type 0} {same : D → D → Bool} {elect : Elect L} {byt
   pub alone_still : (a : Engine S L D K G C) → ContinuesWithoutInput same elect bytes_of is_signature a a
   alone_still a = record { continues = stays a.core; batcher = refl }
 
-  -- the same votes are held
+  -- the same votes are stored
   pub alone_with : (a b : Engine S L D K G C) → Continues same elect bytes_of is_signature None a.core b.core → b.batcher ≡ a.batcher → ContinuesWithoutInput same elect bytes_of is_signature a b
   alone_with a b went held = record { continues = went; batcher = held }
 
@@ -48,7 +47,7 @@ module _ {S L D K G C : Type 0} {same : D → D → Bool} {elect : Elect L} {byt
   pub alone_further : {a b c : Engine S L D K G C} → ContinuesWithoutInput same elect bytes_of is_signature a b → ContinuesWithoutInput same elect bytes_of is_signature b c → ContinuesWithoutInput same elect bytes_of is_signature a c
   alone_further first second = record { continues = goes_further first.continues second.continues; batcher = second.batcher ∙ first.batcher }
 
-  -- some are forgotten behind that, or none is
+  -- some are forgotten after that, or none is
   pub forgets_further : {a b c : Engine S L D K G C} → ContinuesWithoutInput same elect bytes_of is_signature a b → ContinuesWithPruning same elect bytes_of is_signature b c → ContinuesWithPruning same elect bytes_of is_signature a c
   forgets_further {a = a} {b = b} {c = c} first second = record {
     continues = goes_further first.continues second.continues;
@@ -63,7 +62,7 @@ module _ {S L D K G C : Type 0} {same : D → D → Bool} {elect : Elect L} {byt
     forgets = forgets_nothing b.core a.batcher b.batcher alone.batcher;
   }
 
-  -- and what the record has grown by is queued behind that
+  -- and the new entries of the record are queued after that
   pub forgets_then : {a b c : Engine S L D K G C} → ContinuesWithPruning same elect bytes_of is_signature a b → Continues same elect bytes_of is_signature None b.core c.core → c.core.member ≡ b.core.member
       → c.batcher ≡ b.batcher → ContinuesWithPruning same elect bytes_of is_signature a c
   forgets_then {a = a} {b = b} {c = c} first went member held = record {

@@ -1,5 +1,4 @@
--- For the code of the engine.
--- That what is done comes of what is at hand, step by step.
+-- For the code of the engine. What is done is caused by what is at hand, step by step.
 use Rattle.std.proofs.Common.{◌≡◌, ◌∙◌, refl, ap, sym, subst, ℕ, Bool, true, false, cond, inl, inr, List, [], ◌∷◌, ◌++◌, append_assoc, append-nil, filter, Option, Some, Result, Ok, Err, ◌⊎◌, ◌≤◌, ◌||◌, arith, None, ◌&&◌, ◌==◌, unwrap_or}
 use Rattle.std.specs.Prelude.{IfErr, IfOk, IsErrAnd, OnErr, OnOk, option_map, option_to_list, nat_le}
 use Rattle.std.proofs.lemmas.Bool.{false≢true, or_cases, or_left, or_right}
@@ -82,7 +81,7 @@ use Rattle.simplex_engine.proofs.Tests.{not_or, or_none, or_nothing}
 use Rattle.simplex_engine.specs.Provenance.{pending_causes, forgettable, input_causes, evidence, step_causes, received_in, of_counted, evidence_against, is_verdict, IsCallCaused, IsOnOffer, IsStepCaused, IsCaused, IsCausedBy, IsCausedWith, is_final, IsCausedWithoutInput, HasNoMissingCertificate}
 
 module _ {S L D K G C : Type 0} (now : ℕ) {causes more : List (Cause S D K G C)} (among : AreAmong causes more) (m : MemberFacts K L D) where
-  -- a step comes of more
+  -- more causes a step
   meant_among : (call : CallFacts D) → IsCallCaused now causes m call → IsCallCaused now more m call
   meant_among call (inl (asked, is, of_these, on_offer)) = inl (asked, is, among_further of_these among, on_offer)
   meant_among call (inr (inl (from, proposal, is, in_these, admits))) = inr (inl (from, proposal, is, among_further in_these among, admits))
@@ -94,7 +93,7 @@ module _ {S L D K G C : Type 0} (now : ℕ) {causes more : List (Cause S D K G C
   step_among (Restarts restart) is = is
 
 module _ {S L D K G C : Type 0} (same : D → D → Bool) (elect : Elect L) (bytes_of : C → List ℕ) (now : ℕ) (asks_now : FetchKind → ℕ → Bool) where
-  -- steps come of more, where what was asked for before is, or is over
+  -- more causes steps, where what was asked for before still is, or is over
   by_more : (steps : List (StepFacts K L D × Reply S D K G C)) (over wider : FetchKind → ℕ → Bool) (causes more left : List (Cause S D K G C)) (asked before : FetchKind → ℕ → Bool)
       (m end : MemberFacts K L D) → AreAmong causes more → IsStill before wider asked → ((kind : FetchKind) (view : ℕ) → wider kind view ≡ false → over kind view ≡ false)
       → IsCausedBy same elect bytes_of now asks_now over steps causes asked m left end → IsCausedBy same elect bytes_of now asks_now wider steps more before m left end
@@ -123,7 +122,7 @@ module _ {S L D K G C : Type 0} (same : D → D → Bool) (elect : Elect L) (byt
       let given : List (Cause S D K G C) = step_causes {L = L} now step answer in
       (meant, next, is_step, left_more rest over (causes ++ given) extra left (with_missing_certificate asked given) next end (among_further among (among_more causes given)) provenance)
 
--- steps behind others come of what these leave
+-- what earlier steps leave causes the steps after them
 module _ {S L D K G C : Type 0} (same : D → D → Bool) (elect : Elect L) (bytes_of : C → List ℕ) (now : ℕ) (between asks_now over later wider : FetchKind → ℕ → Bool)
     (first_within : (kind : FetchKind) (view : ℕ) → wider kind view ≡ false → over kind view ≡ false)
     (second_within : (kind : FetchKind) (view : ℕ) → wider kind view ≡ false → later kind view ≡ false) where
@@ -158,7 +157,7 @@ final_further {K = K} {L = L} {D = D} before after risen view un = by_life befor
 pub risen_facts : {K L D : Type 0} {before after : MemberFacts K L D} → after ≡ before → WhileAlive HasRisen before.life after.life
 risen_facts {K = K} {L = L} {D = D} {before = before} is = subst (λ (m : MemberFacts K L D). WhileAlive HasRisen before.life m.life) (sym is) (risen_not before)
 
--- the resolver is told of the replies one behind the other
+-- the resolver receives the replies one after the other
 heard_further : {S L D K G C : Type 0} (bytes : D → List ℕ) (bytes_of : C → List ℕ) (steps more : List (StepFacts K L D × Reply S D K G C))
     → received_in bytes bytes_of (steps ++ more) ≡ received_in bytes bytes_of steps ++ received_in bytes bytes_of more
 heard_further bytes bytes_of [] more = refl
@@ -168,12 +167,12 @@ heard_further bytes bytes_of ((Calls call, reply) ∷ rest) more =
 heard_further bytes bytes_of ((Prunes, reply) ∷ rest) more = heard_further bytes bytes_of rest more
 heard_further bytes bytes_of ((Restarts restart, reply) ∷ rest) more = heard_further bytes bytes_of rest more
 
--- why a certificate is no longer asked for, behind some steps
+-- why a certificate is no longer asked for, after some steps
 abbrev over_since : {S L D K G C : Type 0} → (D → List ℕ) → (C → List ℕ) → (FetchKind → ℕ → Bool) → Engine S L D K G C → Plan S D K G C → List (StepFacts K L D × Reply S D K G C) → FetchKind → ℕ → Bool
 over_since bytes bytes_of held end plan steps kind view = held kind view || (is_final end.core.member.facts view || ended_by plan.repair.resolver.state (received_in bytes bytes_of steps) kind view)
 
 module _ {S L D K G C : Type 0} {same : D → D → Bool} {elect : Elect L} {bytes : D → List ℕ} {bytes_of : C → List ℕ} {now : ℕ} where
-  -- steps behind others, which begin with what these leave
+  -- steps after others, which begin with what these leave
   comes_joined : {came : List (Cause S D K G C)} {out : List (Work S D K G C)} {held holds : FetchKind → ℕ → Bool} {a c : Engine S L D K G C} (b : Engine S L D K G C) (mid : List (Cause S D K G C))
       (steps more : List (StepFacts K L D × Reply S D K G C)) → AreMade a.plan.repair.resolver (received_in bytes bytes_of steps) b.plan.repair.resolver
       → IsCausedBy same elect bytes_of now (asks b.plan) (over_since bytes bytes_of held b a.plan steps) steps (came ++ pending_causes a) (with_missing_certificate (asks a.plan) came) a.core.member.facts mid b.core.member.facts
@@ -263,7 +262,7 @@ module _ {S L D K G C : Type 0} {same : D → D → Bool} {elect : Elect L} {byt
     by_steps = (meant, b.core.member.facts, called, (among, refl, λ kind view it un. alone.still kind view (without kind view it) un));
   }
     where
-      -- nothing is told besides
+      -- nothing else is received
       alone : KeepsFetching (reply_causes now answer asked) (λ kind view. is_final b.core.member.facts view) (received_by bytes bytes_of answer asked ++ []) a.plan b.plan
       alone =
           subst (λ calls. KeepsFetching (reply_causes now answer asked) (λ kind view. is_final b.core.member.facts view) calls a.plan b.plan)
@@ -389,7 +388,7 @@ module _ {S L D K G C : Type 0} where
   queued engine = of_works (work_in engine.core.outbox.queue.items)
 
   module _ (a b : Engine S L D K G C) where
-    -- the same work is queued, and what is planned besides comes of more
+    -- the same work is queued, and more causes what is planned besides
     pub hand_by : (more : List (Cause S D K G C)) → work_in b.core.outbox.queue.items ≡ work_in a.core.outbox.queue.items → AreAmong (planned_causes b.plan) (planned_causes a.plan ++ more)
         → AreAmong (pending_causes b) (pending_causes a ++ more)
     hand_by more same planned =
@@ -404,7 +403,7 @@ module _ {S L D K G C : Type 0} where
     pub hand_alone : work_in b.core.outbox.queue.items ≡ work_in a.core.outbox.queue.items → AreAmong (planned_causes b.plan) (planned_causes a.plan) → AreAmong (pending_causes b) (pending_causes a)
     hand_alone same planned = among_further (hand_by [] same (among_further planned (among_more (planned_causes a.plan) []))) (among_all (append-nil (pending_causes a)))
 
-    -- behind what came in, where a call was answered
+    -- after what came in, where a call returned
     pub hand_asked : (came given : List (Cause S D K G C)) → work_in b.core.outbox.queue.items ≡ work_in a.core.outbox.queue.items
         → AreAmong (planned_causes b.plan) (planned_causes a.plan ++ given) → AreAmong (pending_causes b) ((came ++ pending_causes a) ++ given)
     hand_asked came given same planned =
@@ -419,7 +418,7 @@ module _ {S L D K G C : Type 0} where
         (among_further (among_all (append-nil (of_work it))) (among_more (of_work it) (pending_causes a)))))
         (among_further (among_all (ap planned_causes same_plans)) (among_further (among_last (queued a) (planned_causes a.plan)) (among_last (of_work it) (pending_causes a))))
 
-    -- outputs are given out
+    -- outputs are returned
     pub hand_given : (out : List (Output S D Stored K G C)) → a.core.outbox.queue.items ≡ out ++ b.core.outbox.queue.items → b.plan ≡ a.plan
         → AreAmong (of_works (work_in out) ++ pending_causes b) (pending_causes a)
     hand_given out front same_plans =
@@ -438,7 +437,7 @@ module _ {S L D K G C : Type 0} where
   taken_hand step a b same among =
       taken_hand_of a b (of_step step) same (among_further (among_both (among_all (sym (append-nil (of_step step)))) (among_still (planned_causes b.plan))) among)
 
-  -- a proposal that came early is kept, or is not
+  -- an early proposal is stored, or is not
   pub kept_early : (from : ℕ) (proposal : Proposal D) (a b : Engine S L D K G C) → IsStoredEarly from proposal a b → AreAmong (planned_causes b.plan) (planned_causes a.plan ++ Arrival from proposal ∷ [])
   kept_early from proposal a b is =
       let old = a.plan.early.proposals.items in
@@ -461,7 +460,7 @@ module _ {S L D K G C : Type 0} where
       by_test false = among_further (in_early a.plan) (among_more (planned_causes a.plan) (Arrival from proposal ∷ []))
 
 module _ {S L D K G C : Type 0} (same : D → D → Bool) (elect : Elect L) (bytes : D → List ℕ) (bytes_of : C → List ℕ) (now : ℕ) where
-  -- whether the application found a proposal valid was told
+  -- whether the application found a proposal valid was received
   pub told_verified : {X E : Type 0} (is_valid : Bool) (view : ℕ) (a b : Engine S L D K G C) {asked : Task D} (r : Result X E) → asked ≡ verification_of is_valid view
       → OnOk r ((came : List (Cause S D K G C)) → HasNoMissingCertificate came → IsCallCaused now (came ++ pending_causes a) a.core.member.facts (call_of asked now) → IsCausedWith same elect bytes bytes_of now came a b)
       → OnOk r (IsCausedWith same elect bytes bytes_of now (Message (verification_of is_valid view) ∷ []) a b)
@@ -514,7 +513,7 @@ is_made_on S K G bytes_of (subject.Nullify round) c = refl
 is_made_on S K G bytes_of (subject.Finalize p) c = refl
 
 module _ {S D K G C : Type 0} (same : D → D → Bool) (IsMadeOf : Subject D → List (ℕ × G) → C → Type 0) (bytes_of : C → List ℕ) (members : ℕ) where
-  -- what a vote comes to comes of the vote, and of the one that is held of its signer
+  -- the result of counting a vote is caused by the vote, and by the stored one of its signer
   pub counted_of : (old new : Batcher S D K G C) (vote : Vote D G) (what : Counted S D K G C) → IsCounted same IsMadeOf members true old vote new what
       → AreAmong (of_counted bytes_of what) (input_causes bytes_of old (input.Vote vote))
   counted_of old new vote counted.Taken is = among_none (input_causes bytes_of old (input.Vote vote))
@@ -557,7 +556,7 @@ module _ {S L D K G C : Type 0} (bytes : D → List ℕ) (bytes_of : C → List 
       open_views : List ℕ
       open_views = engine.plan.repair.resolver.open_fetches
 
--- ---- matters that are no certificates which are lacking
+-- ---- matters that are no missing certificates
 
 module _ (S K G C : Type 0) {D : Type 0} where
   pub task_lacks_none : (asked : Task D) → HasNoMissingCertificate (of_task {S = S} {D = D} {K = K} {G = G} {C = C} asked)

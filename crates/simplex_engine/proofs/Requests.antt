@@ -40,13 +40,13 @@ module _ {K D : Type 0} where
   abbrev is_open : OutstandingWork K D → ℕ → Bool
   is_open waiting view = is_some (context_at waiting view)
 
-  -- each request that is open in the end is answered or was open, and is not ended
+  -- each request that is open in the end is in the reply or was open, and is not ended
   abbrev pub AreOpen : Task D → ReplyFacts K D → OutstandingWork K D → OutstandingWork K D → Type 0
   AreOpen asked told before left =
       (view : ℕ) → is_open left view ≡ true
       → ((list_any (λ v. v == view) (views_requested told) ≡ true) ⊎ (is_open before view ≡ true)) × (ends asked told view ≡ false)
 
-  -- what is open behind a close was open, and is of another view
+  -- what is open after a close was open, and is of another view
   closed_other : (o : OutstandingWork K D) (v w : ℕ) → is_open (without_context o v) w ≡ true → (is_open o w ≡ true) × ((v == w) ≡ false)
   closed_other o v w is = (still_open o v w is, false_from_ne_true (v == w) (λ at. false≢true (sym (gone (eqb-true v w at)) ∙ is)))
     where
@@ -70,7 +70,7 @@ module _ {K L D : Type 0} (same : D → D → Bool) (elect : Elect L) (x : State
   by_verify (verify.Resolve proposal lacks kind target) view is = (inr is, refl)
   by_verify verify.Wait view is = (inr is, refl)
 
-  -- a call that is answered
+  -- a call that returns
   open_by_answer : (asked : Task D) (now : ℕ) → AreOpen asked (answer same elect x o (call_of asked now)) o (outstanding_work_after same elect x o (call_of asked now))
   open_by_answer task.Propose now view is = by_request (propose_answer same elect x) view is
   open_by_answer (task.Proposed v payload) now view is = (let kept = closed_other o v view is in (inr kept.0, kept.1))

@@ -1,5 +1,4 @@
--- For the code of the engine.
--- What the application is to be told of stays told, step by step.
+-- For the code of the engine. What the application must receive is not lost, step by step.
 use Rattle.std.proofs.Common.{◌≡◌, ◌==◌, ◌∙◌, refl, ap, sym, subst, ℕ, Bool, List, [], ◌∷◌, ◌++◌, append_assoc, append-nil, Option, Some, None, Result, Ok, Err, inl, inr, true, false}
 use Rattle.std.specs.Prelude.{IsOk, OnOk, IsNone, MatchOption, option_to_list}
 use Rattle.std.specs.List.{list_any}
@@ -76,7 +75,7 @@ module _ {S L D K G C : Type 0} where
       among_further (among_more (work_in a.core.outbox.queue.items) (work_in more.more))
       (among_all (sym (ap work_in more.queue_is ∙ work_in-append a.core.outbox.queue.items more.more)))
 
-  -- what is planned is behind all that was told and is queued
+  -- what is planned is after all that was returned and is queued
   planned_last : (work : List (Work S D K G C)) (b : Engine S L D K G C) → AreAmong (work_planned b.plan.steps.items) (work ++ work_ahead b)
   planned_last work b =
       among_further (among_behind (work_in b.core.outbox.queue.items) (work_planned b.plan.steps.items)) (among_behind work (work_ahead b))
@@ -158,7 +157,7 @@ module _ {S L D K G C : Type 0} where
     ignored = plans.ignored;
   }
 
-  -- a certificate was handed in
+  -- a certificate was passed in
   pub tells_handed : {same : D → D → Bool} {elect : Elect L} {bytes_of : C → List ℕ} {is_signature : K → Subject D → G → Type 0} {taken : Option (Subject D)} (a b : Engine S L D K G C) (certificate : CertificateFacts D) (now : ℕ) (told : ReplyFacts K D)
       → IsCall same elect a.core.member.facts (certificate_call certificate now) told b.core.member.facts → Continues same elect bytes_of is_signature taken a.core b.core → TracksViews b.core.member.facts b.plan → KeepsPlannedThen a.plan b.plan → KeepsApplicationWork a b
   tells_handed {same = same} {elect = elect} a b certificate now told called goes come plans =
@@ -181,7 +180,7 @@ module _ {S L D K G C : Type 0} where
       plain (Nullified _) x o = refl
       plain (Finalized _) x o = refl
 
-  -- a copy of it was handed in, and nothing of the member has changed since
+  -- a copy of it was passed in, and nothing of the member has changed since
   pub handed_as : (same : D → D → Bool) (elect : Elect L) (m : MemberFacts K L D) (told : ReplyFacts K D) (now : ℕ) {copy certificate : CertificateFacts D} {left core : Journaled S L D K G C}
       → copy ≡ certificate → core ≡ left → IsCall same elect m (certificate_call copy now) told left.member.facts → IsCall same elect m (certificate_call certificate now) told core.member.facts
   handed_as same elect m told now {copy} {certificate} {left} {core} is_copy stays called =
@@ -264,7 +263,7 @@ module _ {S L D K G C : Type 0} where
       split : AreAmong (work_planned a.plan.steps.items) (taken ++ left)
       split = among_further plans.found (among_all front)
 
-  -- what is given out
+  -- what is returned
   pub tells_given : (a b : Engine S L D K G C) (out : List (Output S D Stored K G C)) → b.core.member ≡ a.core.member → b.plan ≡ a.plan
       → a.core.outbox.queue.items ≡ out ++ b.core.outbox.queue.items → (given : List (Output S D Stored K G C)) → HasReportedAll given a → HasReportedAll (given ++ out) b
   tells_given a b out same_member same_plan front given told =

@@ -25,52 +25,57 @@ module _ {K L D : Type 0} where
   abbrev pub is_of_epoch : StateFacts K L D → Round → Bool
   is_of_epoch x round = round.epoch == x.settings.epoch
 
-  -- votes of the round: of this epoch, and of a view that takes votes
+  -- the state admits votes of the round: of this epoch, and of a view that takes votes
   abbrev pub admits_votes : StateFacts K L D → Round → Bool
   admits_votes x round = is_of_epoch x round && (is_started x && admits_vote x round.view)
 
-  -- a proposal of the round by this member: it leads the view, votes of the round are admitted, and it is not the engine's own
+  -- the state admits a proposal of the round by this member: it leads the view, votes of the round are admitted, and it is not the engine's
+  -- own
   abbrev pub admits_proposal : StateFacts K L D → ℕ → Round → Bool
   admits_proposal x from round =
-      admits_votes x round && option_map_or (λ leader. leader == from) (leader_of x round.view) false && not (is_me x from)
+      admits_votes x round && option_map_or (λ leader. leader == from) (leader_of x round.view) false
+      && not (is_me x from)
 
-  -- a certificate: of this epoch and of a view that is kept, which has none of its kind yet
+  -- the state admits a certificate: of this epoch and of a retained view, which has none of its kind yet
   abbrev pub admits : StateFacts K L D → CertificateFacts D → Bool
   admits x (Notarized c) = takes_round x c.proposal.round && is_none (notarization_of x c.proposal.round.view)
   admits x (Nullified c) = takes_round x c.round && is_none (nullification_of x c.round.view)
   admits x (Finalized c) = takes_round x c.proposal.round && is_none (finalization_of x c.proposal.round.view)
 
-  -- the member has not failed, and its state answers so
+  -- the member has not failed, and its state passes this test
   abbrev pub is_so : (StateFacts K L D → Bool) → MemberFacts K L D → Bool
   is_so test m = option_map_or test m.life false
 
 module _ {S L D K G C : Type 0} where
-  -- a proposal, a vote or a certificate; a verdict on a proposal that was offered and has none; all else is always admitted
+  -- the engine admits an input: a proposal, a vote or a certificate by the state; a verdict on a proposal that was offered and has none;
+  -- anything else always
   abbrev pub is_input_admitted : (C → List ℕ) → MemberFacts K L D → Input S D K G C → Bool
   is_input_admitted bytes_of m (input.Proposal from proposal) = is_so (λ x. admits_proposal x from proposal.round) m
   is_input_admitted bytes_of m (input.Vote vote) = is_so (λ x. admits_votes x (subject_round vote.subject)) m
-  is_input_admitted bytes_of m (input.Certificate certificate) = is_so (λ x. admits x (certificate_facts bytes_of certificate)) m
+  is_input_admitted bytes_of m (input.Certificate certificate) =
+      is_so (λ x. admits x (certificate_facts bytes_of certificate)) m
   is_input_admitted bytes_of m (input.Certified view success) = is_offered m.outstanding_work view
   is_input_admitted bytes_of m _ = true
 
-  -- one more input was of no use
+  -- one more input was ignored
   abbrev pub ignoring : Engine S L D K G C → Engine S L D K G C
   ignoring engine = record engine { plan = record (engine.plan) { ignored = one_more engine.plan.ignored } }
 
-  -- a proposal that is not admitted is kept where it is of this epoch, and of one of the eight views after the current one, while fewer
-  -- than eight are kept
+  -- a proposal that is not admitted is stored if it is of this epoch, and of one of the eight views after the current one, while fewer than
+  -- eight are stored
   abbrev pub stores_early : Engine S L D K G C → Proposal D → Bool
   stores_early engine proposal =
       is_so (λ x. is_of_epoch x proposal.round) engine.core.member.facts
       && may_keep engine.plan.views.current proposal.round.view (length engine.plan.early.proposals.items)
 
-  -- so it is kept behind the others, or none is; and nothing else changes
+  -- it is then appended, or no proposal is; and nothing else changes
   pub record IsStoredEarly (from : ℕ) (proposal : Proposal D) (old new : Engine S L D K G C) : Type 0 where
     pub kept : let early = old.plan.early.proposals.items in new.plan.early.proposals.items
-        ≡ (if stores_early old proposal then early ++ record { from = from; view = proposal.round.view; proposal = proposal } ∷ [] else early)
+        ≡ (if stores_early old proposal then early
+        ++ record { from = from; view = proposal.round.view; proposal = proposal } ∷ [] else early)
     pub same : new ≡ record old { plan = record (old.plan) { early = new.plan.early } }
 
-  -- an input that is not admitted changes nothing; but a proposal that comes early is kept
+  -- an input that is not admitted changes nothing, except that an early proposal is stored
   abbrev pub IsTurnedAway : Input S D K G C → Engine S L D K G C → Engine S L D K G C → Type 0
   IsTurnedAway (input.Proposal from proposal) old new = IsStoredEarly from proposal old new
   IsTurnedAway _ old new = new ≡ old

@@ -1,4 +1,4 @@
--- What an engine begins with, and why none begins.
+-- The state in which an engine begins, and why none begins.
 use Rattle.std.specs.Prelude.{◌≡◌, ◌⊎◌, ℕ, ◌-◌, ◌^◌, ◌==◌, min, max, Bool, true, false, List, [], ◌∷◌, length, reverse, Option}
 use Rattle.simplex_types.specs.Certificates.{ArtifactFacts}
 use Rattle.simplex_resolver.specs.RecordCalls.{calls_of}
@@ -31,12 +31,13 @@ use Rattle.simplex_engine.specs.declared.engine.begin.StartError.TheVariants.{Re
 abbrev pub with_a_retry : Options → Options
 with_a_retry options = record options { retry = max options.retry 1 }
 
--- all members but this one are asked for what is lacking: 2^32 - 1 of them at most
+-- all members but this one are asked for missing certificates: at most 2^32 - 1 of them
 abbrev pub others_of : {K : Type 0} → List K → Option ℕ → Peers
 others_of keys me = peers_of (min (length keys) (2 ^ 32 - 1)) me
 
--- the resolver was told of the entries of a record, oldest first, and what it has open is asked for at once, of these peers
-pub record IsRepairOf {D : Type 0} (bytes : D → List ℕ) (term_length : ℕ) (entries : List (ArtifactFacts D)) (peers : Peers) (retry : ℕ) (repair : Repair)
+-- the resolver received the entries of a record, oldest first, and the fetches that it has open are due at once, of these peers
+pub record IsRepairOf {D : Type 0} (bytes : D → List ℕ) (term_length : ℕ) (entries : List (ArtifactFacts D))
+    (peers : Peers) (retry : ℕ) (repair : Repair)
     : Type 0 where
   pub told : HasReceivedCalls term_length (Replayed ∷ calls_of bytes (reverse entries)) repair.resolver
   pub fetched : repair.fetches.wanted.items ≡ wanting repair.resolver.open_fetches []
@@ -44,19 +45,22 @@ pub record IsRepairOf {D : Type 0} (bytes : D → List ℕ) (term_length : ℕ) 
   pub retry_now : repair.fetches.retry ≡ retry
   pub behind : repair.is_behind ≡ false
 
--- a plan of a member that has begun: its resolver was told of the record; no step is planned, no block is built and no proposal kept,
--- no input was of no use, and all is due
-pub record IsPlanOf {S L D K G C : Type 0} (bytes : D → List ℕ) (term_length : ℕ) (peers : Peers) (is_alone : Bool) (options : Options)
+-- the plan of a member that has begun: its resolver received the record; no step is planned, no block is to be built, no proposal is
+-- stored, no input was ignored, and everything is due
+pub record IsPlanOf {S L D K G C : Type 0} (bytes : D → List ℕ) (term_length : ℕ) (peers : Peers) (is_alone : Bool)
+    (options : Options)
     (member : MemberFacts K L D) (plan : Plan S D K G C) : Type 0 where
   pub options_now : plan.options ≡ options
   pub alone : plan.is_alone ≡ is_alone
   pub views : TracksViews member plan
   pub repair : IsRepairOf bytes term_length member.entries peers options.retry plan.repair
-  pub nothing : (plan.steps.items ≡ []) × (plan.builds.buildings.items ≡ []) × (plan.early.proposals.items ≡ []) × (plan.ignored ≡ 0)
+  pub nothing : (plan.steps.items ≡ []) × (plan.builds.buildings.items ≡ []) × (plan.early.proposals.items ≡ [])
+      × (plan.ignored ≡ 0)
   pub due : (plan.is_watch_due ≡ true) × (plan.is_timeout_due ≡ true) × (plan.is_prune_due ≡ true) × (plan.timeout ≡ 0)
 
--- what an engine has beside its member, by the members' keys
-pub record IsCompanyOf {S D K G C : Type 0} (keys_of : S → List K) (keys : List K) (me : Option ℕ) (term_length : ℕ) (company : Company S D K G C)
+-- the parts of an engine beside its member, by the members' keys
+pub record IsCompanyOf {S D K G C : Type 0} (keys_of : S → List K) (keys : List K) (me : Option ℕ) (term_length : ℕ)
+    (company : Company S D K G C)
     : Type 0 where
   pub votes : AreGiven [] company.batcher
   pub keys_now : keys_of company.batcher.scheme ≡ keys
@@ -65,30 +69,33 @@ pub record IsCompanyOf {S D K G C : Type 0} (keys_of : S → List K) (keys : Lis
   pub alone : company.is_alone ≡ (length keys == 1)
 
 -- an engine begins with these options, of a member among others with these keys: its batcher makes certificates by their number, and no
--- view was forgotten in this life
-pub record HasStartedWith {S L D K G C : Type 0} (bytes : D → List ℕ) (keys_of : S → List K) (keys : List K) (me : Option ℕ) (term_length : ℕ)
+-- view was forgotten in this lifetime
+pub record HasStartedWith {S L D K G C : Type 0} (bytes : D → List ℕ) (keys_of : S → List K) (keys : List K)
+    (me : Option ℕ) (term_length : ℕ)
     (options : Options) (engine : Engine S L D K G C) : Type 0 where
   pub votes : AreGiven [] engine.batcher
   pub keys_now : keys_of engine.batcher.scheme ≡ keys
-  pub plan : IsPlanOf bytes term_length (others_of keys me) (length keys == 1) options engine.core.member.facts engine.plan
+  pub plan : IsPlanOf bytes term_length (others_of keys me) (length keys == 1) options
+      engine.core.member.facts engine.plan
   pub forgotten : engine.forgotten ≡ 0
 
 -- ---- why none begins
 
--- the member is refused for the error that is due, and where none is, for want of memory
+-- the member is refused for the error that is due; if none is due, it is out of memory
 abbrev pub IsMemberError : Option RecoverError → ResumeError → Type 0
 IsMemberError due e = (error : RecoverError) × (e ≡ Recover error) × IsErrorDue due error
 
--- the resolver refuses a record of these entries, oldest first, or memory is lacking
+-- the resolver refuses a record of these entries, oldest first, or is out of memory
 abbrev pub IsNotReplayed : {D : Type 0} → List (ArtifactFacts D) → StartError → Type 0
 IsNotReplayed entries RetryZero = ⊥
 IsNotReplayed entries (Replay e) = IsDue (record_error (reverse entries)) e
 IsNotReplayed entries (Resume e) = e ≡ Recover OutOfMemory
 
 module _ {K L D : Type 0} where
-  -- a vote to nullify would be sent again after no time, or memory is lacking, or the member is refused, or the resolver refuses the record
-  -- of the member that begins
+  -- a vote to nullify would be sent again after no time, or the engine is out of memory, or the member is refused, or the resolver refuses
+  -- the record of the member that begins
   abbrev pub IsStartRefusal : ℕ → (ResumeError → Type 0) → (MemberFacts K L D → Type 0) → StartError → Type 0
   IsStartRefusal timeout_retry IsRefused Begins RetryZero = timeout_retry ≡ 0
   IsStartRefusal timeout_retry IsRefused Begins (Resume e) = (e ≡ Recover OutOfMemory) ⊎ IsRefused e
-  IsStartRefusal timeout_retry IsRefused Begins (Replay e) = (m : MemberFacts K L D) × Begins m × IsNotReplayed m.entries (Replay e)
+  IsStartRefusal timeout_retry IsRefused Begins (Replay e) =
+      (m : MemberFacts K L D) × Begins m × IsNotReplayed m.entries (Replay e)

@@ -1,4 +1,4 @@
--- That a member has nothing new.
+-- A member has nothing new.
 use Rattle.std.specs.Prelude.{◌≡◌, ◌≤◌, ℕ, Bool, true, false, List, [], ◌∷◌, Some, None}
 use Rattle.simplex_voter.specs.Facts.{StateFacts, Elect}
 use Rattle.simplex_voter.specs.DueVotes.{is_due}
@@ -6,7 +6,7 @@ use Rattle.simplex_voter.specs.declared.voter.verify.Verify.TheVariants.{Wait, R
 use Rattle.simplex_member.specs.Calls.{CallFacts, TryVerify, TryPropose, CertifyCandidates, ReplyFacts, Standing, Requested, Candidates}
 use Rattle.simplex_member.specs.MemberFacts.{MemberFacts, IsCall}
 
--- an answer with no proposal to verify, no block to build and no proposal to certify; a certificate may be lacking for one
+-- a reply with no proposal to verify, no block to build and no proposal to certify; a certificate may be missing for one
 abbrev pub is_nothing : {K D : Type 0} → ReplyFacts K D → Bool
 is_nothing (Standing Wait) = true
 is_nothing (Standing (Resolve _ _ _ _)) = true
@@ -19,25 +19,26 @@ abbrev pub for_work : {D : Type 0} → List (CallFacts D)
 for_work = TryVerify ∷ TryPropose ∷ CertifyCandidates ∷ []
 
 module _ {K L D : Type 0} (same : D → D → Bool) (elect : Elect L) where
-  -- a call has such an answer
+  -- a call has such a reply
   pub record ReturnsNothing (before : MemberFacts K L D) (call : CallFacts D) (after : MemberFacts K L D) : Type 0 where
     pub answer : ReplyFacts K D
     pub nothing : is_nothing answer ≡ true
     pub answered : IsCall same elect before call answer after
 
-  -- each of these calls has, one behind the other
+  -- each of these calls has, one after the other
   abbrev pub ReturnNothing : MemberFacts K L D → List (CallFacts D) → MemberFacts K L D → Type 0
   ReturnNothing before [] after = after ≡ before
-  ReturnNothing before (call ∷ rest) after = (between : MemberFacts K L D) × ReturnsNothing before call between × ReturnNothing between rest after
+  ReturnNothing before (call ∷ rest) after =
+      (between : MemberFacts K L D) × ReturnsNothing before call between × ReturnNothing between rest after
 
-  -- a living member has cast each vote that its rule allows in a view from the last finalized one on, and has handed out each
-  -- certificate of these views
+  -- a living member has cast each vote that its rule allows in a view from the last finalized one on, and has returned each certificate of
+  -- these views
   pub record HasNothingDue (member : MemberFacts K L D) : Type 0 where
     pub state : StateFacts K L D
     pub alive : member.life ≡ Some state
     pub nothing_due : (view : ℕ) → state.finalized ≤ view → is_due same elect state view ≡ false
 
-  -- so it has; and its last calls were those for work of the application, and none had anything new
+  -- the same; and its last calls were those for work of the application, and none had anything new
   pub record HasNothingNew (now : MemberFacts K L D) : Type 0 where
     pub before : MemberFacts K L D
     pub asked : ReturnNothing before for_work now

@@ -10,17 +10,19 @@ use Rattle.simplex_engine.specs.CertificateVotes.{TakesNone}
 use Rattle.engine_outbox.specs.declared.journaled.Journaled.{Journaled}
 use Rattle.engine_outbox.specs.Continuity.{Continues}
 
--- the same votes are held, or those of the views below the lowest one that the member's state keeps are forgotten, and no others
-abbrev pub ForgetsNoOther : {S L D K G C : Type 0} → Journaled S L D K G C → Batcher S D K G C → Batcher S D K G C → Type 0
+-- the same votes are stored, or those of the views below the lowest one that the member's state retains are forgotten, and no others
+abbrev pub ForgetsNoOther : {S L D K G C : Type 0} → Journaled S L D K G C → Batcher S D K G C
+    → Batcher S D K G C → Type 0
 ForgetsNoOther core old new = IfSome core.member.facts.life (λ x. (new ≡ old) ⊎ IsForgotten (min_active x) old new)
 
-module _ {S L D K G C : Type 0} (same : D → D → Bool) (elect : Elect L) (bytes_of : C → List ℕ) (is_signature : K → Subject D → G → Type 0) where
-  -- it goes on, accepts no certificate, and holds the same votes
+module _ {S L D K G C : Type 0} (same : D → D → Bool) (elect : Elect L) (bytes_of : C → List ℕ)
+    (is_signature : K → Subject D → G → Type 0) where
+  -- the engine continues, accepts no certificate, and stores the same votes
   pub record ContinuesWithoutInput (old new : Engine S L D K G C) : Type 0 where
     pub continues : Continues same elect bytes_of is_signature None old.core new.core
     pub batcher : new.batcher ≡ old.batcher
 
-  -- or forgets those that are of no use any more
+  -- or forgets those that are no longer needed
   pub record ContinuesWithPruning (old new : Engine S L D K G C) : Type 0 where
     pub continues : Continues same elect bytes_of is_signature None old.core new.core
     pub votes : TakesNone old.batcher new.batcher

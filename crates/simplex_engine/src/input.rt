@@ -4,7 +4,7 @@ use engine_votes::votes::Vote;
 use simplex_types::reasons::TimeoutReason;
 use simplex_types::types::{Certificate, CertificateScheme, Context, Participant, Proposal, View};
 
-/// One input. Time is no input: the moment is passed with each call, and a timeout comes from `poll`.
+/// One input. Time is no input: the host passes the moment with each call, and `poll` detects a timeout.
 #[derive(Drop)]
 pub enum Input<S: CertificateScheme, D> {
     /// A proposal, and the member that sent it, whose signature the host has verified.
@@ -17,7 +17,7 @@ pub enum Input<S: CertificateScheme, D> {
     Verified(View, bool),
     /// The payload that the application built in the context of a `Work::Build`.
     Built(Context<D, S::PublicKey>, D),
-    /// Whether the application certified the view's notarized proposal. It is ignored where the member did not offer the proposal in this
+    /// Whether the application certified the view's notarized proposal. It is ignored if the member did not offer the proposal in this
     /// lifetime, or has its verdict.
     Certified(View, bool),
     /// The view times out for a reason that the engine can't see by itself.

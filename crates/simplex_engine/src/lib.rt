@@ -1,4 +1,4 @@
-//! The engine of a member, without network, clock or disk: events in, and all that is to be carried out, in order.
+//! The engine of a member, without network, clock or disk: it takes inputs, and returns all outputs in order.
 #![tactic(auto)]
 
 pub mod engine;

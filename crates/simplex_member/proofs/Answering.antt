@@ -17,7 +17,7 @@ use Rattle.simplex_member.specs.MethodContracts.{IsAnswered}
 use Rattle.simplex_member.proofs.CallsKeepSettings.{goes}
 
 module _ {K L D : Type 0} (same : D → D → Bool) (elect : Elect L) (x : StateFacts K L D) where
-  -- the state that is left goes on
+  -- the state after the call has not failed
   pub call_goes_on : (o : OutstandingWork K D) (call : CallFacts D) (y : StateFacts K L D) → y ≡ after_call same elect x o call → x.failed ≡ false → is_started x ≡ true → (y.failed ≡ false) × (is_started y ≡ true)
   call_goes_on o call y is going started = let g = goes same elect x o call in rw is (g.failed ∙ going, g.started started)
 
@@ -29,7 +29,7 @@ losing x call due is = by_loss (may_fall x call) is
     by_loss true lost = (lost, refl)
     by_loss false lost = absurd lost
 
--- a call of the state that gives no answer was refused for what was due, and changed nothing
+-- a call of the state without a result was refused for its fault, and changed nothing
 pub refused_only : {T A : Type 0} (due : Option Fault) (found : Fault) (r : Result T Fault) (x y : A) → r ≡ Err found → IfSome due (λ is. (r ≡ Err is) × (y ≡ x)) → (due ≡ None → IsOk r) → (due ≡ Some found) × (y ≡ x)
 refused_only (Some is) found r x y was refused taken = (let so : Some is ≡ Some found = cc in so, refused.1)
 refused_only None found r x y was refused taken = absurd (false≢true (rw was at (taken refl)))
@@ -50,7 +50,7 @@ module _ {K L D : Type 0} (same : D → D → Bool) (elect : Elect L) (m : Membe
     unfolding IsCall
     forbidden_call not_allowed = rw (alive, not_allowed) (inl (refl, refl))
 
-    -- an answer, with what is left
+    -- a reply, with the member after it
     pub answered_call : (told : ReplyFacts K D) (y : StateFacts K L D) (p : OutstandingWork K D) (entries : List (ArtifactFacts D)) → is_allowed x m.outstanding_work call ≡ true → fault_of x call ≡ None
         → told ≡ answer same elect x m.outstanding_work call → y ≡ after_call same elect x m.outstanding_work call → p ≡ outstanding_work_after same elect x m.outstanding_work call → entries ≡ m.entries ++ recorded_by same elect x call
         → IsCall same elect m call told (record m { life = Some y; outstanding_work = p; entries = entries })
@@ -62,17 +62,17 @@ module _ {K L D : Type 0} (same : D → D → Bool) (elect : Elect L) (m : Membe
     unfolding IsCall
     refused_call found allowed due = rw (alive, allowed, due) (inl (refl, refl))
 
-    -- want of memory before the state was called, with nothing changed
+    -- out of memory before the state was called, with nothing changed
     pub wanting_call : is_allowed x m.outstanding_work call ≡ true → needs_room x call ≡ true → IsCall same elect m call (Refused fault.OutOfMemory) m
     unfolding IsCall
     wanting_call allowed needs = rw alive (inr (allowed, refl, inl (needs, refl)))
 
-    -- the state is lost for want of memory
+    -- the state is lost, out of memory
     pub lost_call : is_allowed x m.outstanding_work call ≡ true → fault_of x call ≡ None → may_fall x call ≡ true → IsCall same elect m call (Refused fault.OutOfMemory) (without_lifetime m)
     unfolding IsCall
     lost_call allowed no_fault falls = rw alive (inr (allowed, refl, inr (no_fault, falls, refl)))
 
-    -- an answer, as a caller reads it
+    -- a reply, as a caller reads it
     pub answered_so : (told : ReplyFacts K D) (left : MemberFacts K L D) → is_allowed x m.outstanding_work call ≡ true → fault_of x call ≡ None
         → told ≡ answer same elect x m.outstanding_work call → left ≡ with_call same elect x m call → IsAnswered same elect m call told left
     answered_so told left allowed no_fault is left_so = record { state = x; alive = alive; allowed = allowed; not_due = no_fault; told_so = is; left_so = left_so }
@@ -83,7 +83,7 @@ module _ {K L D : Type 0} (same : D → D → Bool) (elect : Elect L) (m : Membe
         → IsAnswered same elect m call told (record m { life = Some y; outstanding_work = o })
     answered_unrecorded told y o allowed no_fault is after opened none = answered_so told _ allowed no_fault is (rw (after, opened, none, append-nil m.entries) refl)
 
-  -- what is answered so is a call
+  -- a reply of this kind makes a call
   pub call_of_answer : (told : ReplyFacts K D) (left : MemberFacts K L D) → IsAnswered same elect m call told left → IsCall same elect m call told left
   unfolding IsCall
   call_of_answer told left a = rw (a.alive, a.allowed, a.not_due, a.told_so, a.left_so) (inl (refl, refl))

@@ -1,5 +1,5 @@
--- Calls of a member by the definitions: what each is told, and what the record holds then; of four members who lead terms of one
--- view in turn, from genesis on.
+-- Calls of a member by the definitions: the reply to each, and the record after it; of four members who lead terms of one view round-robin, from
+-- genesis on.
 use Rattle.std.proofs.Common.{◌≡◌, refl, ℕ, ◌^◌, true, false, List, [], ◌∷◌, Option, Some, None, nat_eq}
 use Rattle.simplex_types.specs.Certificates.{ProposalFacts, NullifyVote}
 use Rattle.simplex_types.specs.Config.{FloorFacts, Genesis}
@@ -38,7 +38,7 @@ started_at floor me =
 abbrev started : ℕ → Member
 started me = started_at (Genesis 0) me
 
--- what a call is told, and what it leaves; nothing is told in these of a member that has failed
+-- the reply to a call, and the member after it; in these examples a failed member has no reply
 abbrev told : Option State → Member → CallFacts ℕ → ReplyFacts ℕ ℕ
 told None m call = NotAllowed
 told (Some x) m call = reply_of nat_eq in_turn x m.outstanding_work call
@@ -47,13 +47,13 @@ abbrev next : Option State → Member → CallFacts ℕ → Member
 next None m call = m
 next (Some x) m call = left_of nat_eq in_turn x m call
 
--- what some calls are told, one after another
+-- the replies to some calls, one after another
 unfoldable replies_of : Member → List (CallFacts ℕ) → List (ReplyFacts ℕ ℕ)
 unfolding standing propose_answer proposed_answer find_parent captured_parent_valid has_valid_parent_span ancestry_payload_for_child first_unnullified_view explicit_ancestry_payload optimistic_ancestry_payload is_handoff_parent is_voted_ancestor can_chain_on in_issuance_window is_admitted verification_matches parent_payload_for may_notarize may_nullify may_finalize has_conflicting_nullify required_certification_parent
 replies_of m [] = []
 replies_of m (call ∷ calls) = told m.life m call ∷ replies_of (next m.life m call) calls
 
--- what the record holds after them
+-- the record after them
 unfoldable recorded : Member → List (CallFacts ℕ) → List Entry
 unfolding replies_of
 recorded m [] = m.entries
@@ -65,7 +65,7 @@ first_context = record { round = round 1; leader = 0; parent = (0, 0) }
 abbrev notarization : ℕ → ProposalFacts ℕ
 notarization v = record { proposal = proposal v 0 7; bytes = [] }
 
--- a request to build is answered once, though the block comes too late to be taken
+-- a request to build is answered once, though the block comes too late to be recorded
 built_too_late :
     replies_of (started 0) (TryPropose ∷ ConstructNullify 1 ∷ Proposed 1 7 5 ∷ Proposed 1 7 5 ∷ [])
     ≡ Requested (Some (request.Propose first_context)) ∷ Nullify (Some (false, NullifyVote (round 1) 0)) ∷ Answered false ∷ NotAllowed ∷ []
@@ -91,7 +91,7 @@ offered_before :
 unfolding replies_of
 offered_before = refl
 
--- a vote that is handed out again is recorded once
+-- a vote that is returned again is recorded once
 repeated_vote :
     replies_of (started 0) (ConstructNullify 1 ∷ ConstructNullify 1 ∷ [])
     ≡ Nullify (Some (false, NullifyVote (round 1) 0)) ∷ Nullify (Some (true, NullifyVote (round 1) 0)) ∷ []
@@ -102,7 +102,7 @@ recorded_once : recorded (started 0) (ConstructNullify 1 ∷ ConstructNullify 1 
 unfolding recorded
 recorded_once = refl
 
--- nothing is answered of a verification that was not asked for
+-- a verification that was not requested has no reply
 not_asked : replies_of (started 1) (SetProposal 1 (proposal 1 0 7) ∷ Verified 1 ∷ []) ≡ Answered true ∷ NotAllowed ∷ []
 unfolding replies_of
 not_asked = refl

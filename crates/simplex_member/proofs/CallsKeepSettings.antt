@@ -1,4 +1,4 @@
--- A call that was made leaves a state that goes on.
+-- After a call that was made the state has not failed.
 use Rattle.std.proofs.Common.{Bool}
 use Rattle.simplex_voter.specs.Facts.{StateFacts, Elect}
 use Rattle.simplex_member.specs.Calls.{CallFacts}

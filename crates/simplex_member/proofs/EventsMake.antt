@@ -29,6 +29,6 @@ module _ {K L D : Type 0} (same : D → D → Bool) (elect : Elect L) (x : State
   call_is o (calls.SupersedeProposalRequest v) = in_context_is _ Supersede (λ c. refl) (context_at o v)
   call_is o _ = refl
 
-  -- what holds of each event in any case, of each call
+  -- a claim that holds of each event in any case, for each call
   pub call_by_any : (o : OutstandingWork K D) (P : StateFacts K L D → Type 0) → P x → ((e : Event K D) → P (after_event same elect x e)) → (call : CallFacts D) → P (after_call same elect x o call)
   call_by_any o P still each call = subst P (sym (call_is o call)) (by_any P still each (events_of o call))

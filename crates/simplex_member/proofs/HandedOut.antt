@@ -1,4 +1,4 @@
--- A certificate is handed out once: an answered broadcast leaves nothing of its view.
+-- A certificate is returned for broadcast once: after that the view has none left.
 use Rattle.std.proofs.Common.{◌≡◌, ℕ, Bool, true, false, cond, ◌||◌, Option, Some, None, refl, ap, ◌∙◌, eq-eqb}
 use Rattle.std.specs.Cmp.{nat_cmp_total}
 use Rattle.std.specs.FinMap.Entries.{find, find-put}
@@ -60,7 +60,7 @@ module _ {K L D : Type 0} (same : D → D → Bool) (elect : Elect L) (m left : 
   pub finalization_none_left : IsAnswered same elect m (BroadcastFinalization v) (Returned handed) left → HasNoneLeft broadcast_finalization_answer left v
   finalization_none_left is = at_life (λ (x : StateFacts K L D). broadcast_finalization_answer x v ≡ None) left.life (after_broadcast_finalization is.state v) (ap (λ (l : MemberFacts K L D). l.life) is.left_so) (finalization_once is.state v)
 
--- where nothing of the view is left, nothing is handed out
+-- if the view has none left, none is returned
 none_handed : {K D C A : Type 0} (facts : C → CertificateFacts D) (wrap : A → CertificateFacts D) (certificate : Option C) (found : Option A) → found ≡ None → handed_told {K = K} (option_map facts certificate) ≡ handed_told (option_map wrap found) → IsNone certificate
 none_handed facts wrap None found none is = refl
 none_handed {K = K} facts wrap (Some c) found none is =

@@ -1,4 +1,4 @@
--- What a journal holds of a member, and what is made from it.
+-- The journal of a member, and what is made from it.
 use Rattle.std.proofs.Common.{◌≡◌, refl, ap, sym, ◌∙◌, ℕ, zero, suc, ◌-◌, Bool, true, false, ◌&&◌, min, List, [], ◌∷◌, length, take, drop, filter, Some, ◌⊎◌}
 use Rattle.std.specs.Prelude.{nat_lt}
 use Rattle.std.proofs.lemmas.List.{drop_min, drop-map, take_rest}
@@ -21,7 +21,7 @@ use Rattle.simplex_record.specs.Start.{StartFacts}
 use Rattle.simplex_member.proofs.Restarts.{gone_on, not_gone_on}
 
 module _ {K L D : Type 0} (same : D → D → Bool) (elect : Elect L) (stored : Stored) (entries : List (ArtifactFacts D)) (start : StartFacts K L D) (whole : has_lost stored entries ≡ false) where
-  -- as many views are kept as in each life before, or the record was never pruned
+  -- as many views are retained as in each earlier lifetime, or the record was never pruned
   abbrev RetentionHolds : Bool → Type 0
   RetentionHolds grows = (stored.is_pruned && nat_lt stored.least_retention start.setup.settings.view_retention) ≡ grows
 
@@ -41,13 +41,13 @@ module _ {K L D : Type 0} (same : D → D → Bool) (elect : Elect L) (stored : 
     restarted = rw grows (gone_on same elect (stored_facts stored entries) start x record_now made kept);
   }
 
--- what is left behind so many entries
+-- the entries after the first `count`
 pub entries_since : {S D K G C : Type 0} (bytes_of : C → List ℕ) (items : List (Artifact S D K G C)) (count first : ℕ) → first ≡ min count (length items) → entries_of bytes_of (take (length items - first) (drop first items)) ≡ drop count (entries_of bytes_of items)
 entries_since bytes_of items count first is =
     ap (entries_of bytes_of) (take_rest items first ∙ ap (λ n. drop n items) is ∙ drop_min count items) ∙ sym (drop-map (artifact_facts bytes_of) count items)
 
 module _ {S D K G C : Type 0} (bytes_of : C → List ℕ) where
-  -- the votes behind so many entries
+  -- the votes after the first `count` entries
   votes_behind : (count : ℕ) (items : List (Artifact S D K G C)) → votes_of (drop count items) ≡ drop (length (filter is_vote (take count (entries_of bytes_of items)))) (votes_of items)
   votes_behind zero items = refl
   votes_behind (suc count) [] = refl

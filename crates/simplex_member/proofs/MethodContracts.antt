@@ -1,4 +1,4 @@
--- What a call is told is of its kind; where it is an answer, it is by the definitions, and where it is refused, nothing is lost.
+-- The reply to a call is of its kind; if it is an answer, it is by the definitions, and if it is a refusal, nothing is lost.
 use Rattle.std.proofs.Common.{◌≡◌, refl, ap, sym, ◌∙◌, Bool, true, false, cond, [], Option, Some, None, inl, inr}
 use Rattle.std.proofs.lemmas.List.{append-nil}
 use Rattle.simplex_types.specs.declared.types.fault.Fault.{Fault}

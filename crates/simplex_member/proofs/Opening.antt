@@ -1,4 +1,4 @@
--- What is open, as lists by view, is what the sorted containers are seen as.
+-- The open requests, as lists by view, match the sorted containers.
 use Rattle.std.proofs.Common.{◌≡◌, ℕ, not, eqb, List, filter, ap, ◌∙◌, is_some, arith}
 use Rattle.std.specs.Prelude.{map}
 use Rattle.std.specs.FinMap as fin

@@ -1,4 +1,4 @@
--- What a part of a call ensures says what the member answers, and what is left of it.
+-- The contract of a part of a call gives the member's reply, and the member after it.
 use Rattle.std.proofs.Common.{◌≡◌, ◌⊎◌, refl, ap, sym, ◌∙◌, ℕ, Bool, true, false, List, ◌++◌, Option, Some, None, option_map, option_and_then, Result, Ok, Err, OnOk, OnErr, IfOk, IfErr, IfSome, IsErrAnd, MatchResult, inl, inr}
 use Rattle.std.proofs.lemmas.List.{append-nil}
 use Rattle.std.proofs.lemmas.Result.{IfOk-weaker}
@@ -45,7 +45,7 @@ module _ {S L D K G C : Type 0} (is_signature : K → Subject D → G → Type 0
   nullify_is_signed view None is = tt
   nullify_is_signed view (Some v) is = is.signed
 
-  -- and what the state answers is the vote of its definition
+  -- and the state's result is the vote of its definition
   pub finalize_made : (elect : Elect L) (view : ℕ) (r : Result (Option (final.Finalize S D K G C)) Fault) → IfOk r (λ vote. option_map (λ v. v.proposal) vote ≡ finalize_answer elect x view)
       → IfOk r (λ vote. IfSome vote (IsSignedFinalize is_signature x)) → IfOk r (λ vote. reply_finalize vote ≡ finalize_vote elect x view)
   finalize_made elect view (Ok None) is signed = rw (← is) (no_vote x.me)
@@ -64,12 +64,12 @@ module _ {S L D K G C : Type 0} (is_signature : K → Subject D → G → Type 0
   nullify_made view (Ok (Some v)) is signed = rw (← is, signed.signer, signed.round) refl
   nullify_made view (Err found) is signed = tt
 
--- what holds anyway holds of an answer
+-- a claim that holds anyway holds of a result
 pub so_ok : {T E A : Type 0} (r : Result T E) → A → OnOk r A
 so_ok (Ok t) a = a
 so_ok (Err e) a = tt
 
--- and what follows from an answer
+-- and a claim that follows from a result
 pub on_answer : {T E A : Type 0} {P : T → Type 0} (r : Result T E) → ((t : T) → P t → A) → IfOk r P → OnOk r A
 on_answer (Ok t) follows is = follows t is
 on_answer (Err e) follows is = tt
@@ -84,29 +84,29 @@ abbrev pub ended : {T : Type 0} → Result T Fault → Result T Refusal
 ended (Ok t) = Ok t
 ended (Err found) = Err (refusal.Fault found)
 
--- it is what `map_err` makes of it
+-- it is the result of `map_err`
 pub ended_so : {T : Type 0} (r : Result T Fault) (out : Result T Refusal) → MatchResult r (λ t. out ≡ Ok t) (λ found. IsErrAnd out (λ refused. refused ≡ refusal.Fault found)) → out ≡ ended r
 ended_so (Ok t) out is = is
 ended_so (Err found) (Ok t) is = absurd is
 ended_so (Err found) (Err refused) is = ap Err is
 
--- what is said of a part's answer is said of the call's
+-- a claim about a part's result is one about the call's
 pub ended_ok : {T : Type 0} (P : T → Type 0) (r : Result T Fault) → IfOk r P → IfOk (ended r) P
 ended_ok P (Ok t) is = is
 ended_ok P (Err found) is = tt
 
--- and what of its error, of the call's
+-- and one about its error, about the call's
 pub ended_err : {T : Type 0} (A : Type 0) (r : Result T Fault) → OnErr r A → OnErr (ended r) A
 ended_err A (Ok t) is = tt
 ended_err A (Err found) is = is
 
--- what is newly there is recorded by its copy, and where there is no answer nothing is
+-- a new entry is recorded by its copy, and without a result nothing is
 pub new_recorded : {T : Type 0} {D : Type 0} (so : T → Bool) (answer : T) (e copy : ArtifactFacts D) (before after : List (ArtifactFacts D)) (r : Result T Fault) → copy ≡ e → IfOk r (λ t. t ≡ answer)
     → after ≡ before ++ if_new (is_new so r) copy → OnOk r (after ≡ before ++ if_new (so answer) e) × OnErr r (after ≡ before) × IfOk (ended r) (λ t. after ≡ before ++ if_new (so t) e)
 new_recorded so answer e copy before after (Ok t) alike is kept = (rw (← is, ← alike) kept, tt, rw (← alike) kept)
 new_recorded so answer e copy before after (Err found) alike is kept = (tt, kept ∙ append-nil before, tt)
 
--- what opens and closes nothing leaves it open
+-- a call that opens and closes nothing keeps the open requests
 pub kept_shut : {K D T : Type 0} (o : OutstandingWork K D) (r : Result T Fault) → IfErr r (UnchangedUnlessLost o o)
 kept_shut o (Ok t) = tt
 kept_shut o (Err fault.OutOfMemory) = tt
@@ -130,12 +130,12 @@ module _ {K L D T : Type 0} (x y : StateFacts K L D) where
   state_due (Ok t) (Some is) refused = absurd (let no : ⊥ = cc (refused.0) in no)
   state_due (Err found) due refused = tt
 
-  -- want of memory alone loses the state
+  -- only running out of memory loses the state
   pub lost_ends : (r : Result T Fault) (due : Option Fault) → due ≡ None → IfErr r (λ found. found ≡ fault.OutOfMemory) → IfErr r (Ends true due x y)
   lost_ends (Ok t) due none lost = tt
   lost_ends (Err found) due none lost = rw lost none
 
--- a vote that is kept is the state's, and where it is not, there was no memory
+-- a recorded vote is the state's, and if it is not recorded, there was no memory
 pub vote_kept : {T : Type 0} (P : T → Type 0) (A B : Type 0) (made kept : Result T Fault) → IfOk made P → OnOk made A → IfErr made (λ found. (found ≡ fault.OutOfMemory) × B)
     → IfOk kept (λ t. made ≡ Ok t) → IfErr kept (λ found. (made ≡ Err found) ⊎ (found ≡ fault.OutOfMemory)) → IfOk kept P × OnOk kept A × IfErr kept (λ found. found ≡ fault.OutOfMemory)
 vote_kept P A B made (Ok t) is after falls from refused = (rw from at is, rw from at after, tt)
@@ -143,7 +143,7 @@ vote_kept P A B made (Err found) is after falls from (inl was) = (tt, tt, (rw wa
 vote_kept P A B made (Err found) is after falls from (inr memory) = (tt, tt, memory)
 
 module _ {K L D T : Type 0} (same : D → D → Bool) (elect : Elect L) (x : StateFacts K L D) (o : OutstandingWork K D) (call : CallFacts D) where
-  -- a state that is kept goes on
+  -- a stored state has not failed
   pub part_goes_on : (r : Result T Fault) (y : StateFacts K L D) → OnOk r (y ≡ after_call same elect x o call) → IfErr r (Ends (may_fall x call) (fault_of x call) x y)
       → x.failed ≡ false → is_started x ≡ true → is_lost r ≡ false → (y.failed ≡ false) × (is_started y ≡ true)
   part_goes_on (Ok t) y after refused going started kept = call_goes_on same elect x o call y after going started
@@ -153,7 +153,7 @@ module _ {K L D T : Type 0} (same : D → D → Bool) (elect : Elect L) (x : Sta
   part_goes_on (Err fault.TimeOverflow) y after refused going started kept = rw refused.1 (going, started)
 
 module _ {K L D T : Type 0} (same : D → D → Bool) (elect : Elect L) (m : MemberFacts K L D) (call : CallFacts D) (tell : T → ReplyFacts K D) where
-  -- what a part ensures of a call, and what the state is after it, what is open and what is recorded
+  -- the contract of a part of a call, and the state, the open requests and the record after it
   module _ (x : StateFacts K L D) where
     pub record Part (r : Result T Fault) (y : StateFacts K L D) (o : OutstandingWork K D) (entries : List (ArtifactFacts D)) : Type 0 where
       pub due : OnOk r (fault_of x call ≡ None)
@@ -165,7 +165,7 @@ module _ {K L D T : Type 0} (same : D → D → Bool) (elect : Elect L) (m : Mem
       pub kept_open : IfErr r (UnchangedUnlessLost m.outstanding_work o)
       pub same_record : OnErr r (entries ≡ m.entries)
 
-    -- so it is the call, with what is left of the member
+    -- so it is the call, with the member after it
     pub part_made : m.life ≡ Some x → is_allowed x m.outstanding_work call ≡ true → (r : Result T Fault) (y : StateFacts K L D) (o : OutstandingWork K D) (entries : List (ArtifactFacts D)) → Part r y o entries
         → IsCall same elect m call (told_of tell (ended r)) (record m { life = living (is_lost r) y; outstanding_work = open_while (is_lost r) o; entries = entries })
     part_made alive allowed (Ok t) y o entries p = answered_call same elect m call x alive (tell t) y o entries allowed p.due p.answer p.after p.opened p.recorded
@@ -174,7 +174,7 @@ module _ {K L D T : Type 0} (same : D → D → Bool) (elect : Elect L) (m : Mem
     part_made alive allowed (Err fault.ViewTooLarge) y o entries p = rw (p.refused.1, p.same_record, p.kept_open, ← alive) (refused_call same elect m call x alive fault.ViewTooLarge allowed p.refused.0)
     part_made alive allowed (Err fault.TimeOverflow) y o entries p = rw (p.refused.1, p.same_record, p.kept_open, ← alive) (refused_call same elect m call x alive fault.TimeOverflow allowed p.refused.0)
 
-    -- a call of the state is such a part, with what is recorded of its answer
+    -- a call of the state is such a part, with what is recorded of its result
     pub part_of_state : (r : Result T Fault) (y : StateFacts K L D) (entries : List (ArtifactFacts D)) (failed too_large late : Bool) → fault_of x call ≡ first_fault failed too_large late
         → IfSome (first_fault failed too_large late) (λ due. (r ≡ Err due) × (y ≡ x))
         → IfOk r (λ t. tell t ≡ answer same elect x m.outstanding_work call) → OnOk r (y ≡ after_call same elect x m.outstanding_work call)
@@ -192,7 +192,7 @@ module _ {K L D T : Type 0} (same : D → D → Bool) (elect : Elect L) (m : Mem
       same_record = kept;
     }
 
-    -- so is a vote that the state made, once it is kept
+    -- the same for a vote that the state made, once it is recorded
     pub part_of_vote : {V : Type 0} (told : T → V) (vote : V) (entry : V → List (ArtifactFacts D)) (kept : Result T Fault) (y : StateFacts K L D) (entries : List (ArtifactFacts D))
         → fault_of x call ≡ None → may_fall x call ≡ true → outstanding_work_after same elect x m.outstanding_work call ≡ m.outstanding_work
         → recorded_by same elect x call ≡ entry vote → ((t : T) → told t ≡ vote → tell t ≡ answer same elect x m.outstanding_work call)
@@ -213,7 +213,7 @@ module _ {K L D T : Type 0} (same : D → D → Bool) (elect : Elect L) (m : Mem
         on_both (Ok t) so was = rw (← so) was
         on_both (Err found) so was = tt
 
-  -- what is told of a call says what its result is
+  -- the reply to a call determines its result
   pub told_kept : (r : Result T Refusal) (left : MemberFacts K L D) → IsCall same elect m call (told_of tell r) left → IfErr r (λ refusal. UnchangedButLifetime m refusal left)
   told_kept (Ok t) left made = tt
   told_kept (Err (refusal.Fault due)) left made = (typed same elect m call (Refused due) left made).kept

@@ -1,4 +1,4 @@
--- What is left of a member where its record is pruned within the life.
+-- A member after its record is pruned within the lifetime.
 use Rattle.std.proofs.Common.{◌≡◌, refl, ℕ, true, List, length, filter}
 use Rattle.simplex_types.specs.Certificates.{ArtifactFacts}
 use Rattle.simplex_record.specs.Entries.{entry_view}

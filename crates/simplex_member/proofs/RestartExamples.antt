@@ -1,4 +1,4 @@
--- Restarts by the definitions, of member 0 of the recoveries' examples, whose lives keep 10 views unless said.
+-- Restarts by the definitions, of member 0 of the recoveries' examples, whose lifetimes retain 10 views unless said.
 use Rattle.std.proofs.Common.{◌≡◌, refl, ℕ, true, false, List, [], ◌∷◌, Some, None, nat_eq, is_some}
 use Rattle.simplex_types.specs.Config.{Genesis}
 use Rattle.simplex_voter.specs.Facts.{StateFacts, new_facts}
@@ -21,7 +21,7 @@ Member = MemberFacts ℕ ℕ ℕ
 abbrev member : List Entry → Member
 member entries = record { life = None; outstanding_work = no_outstanding_work; entries = entries; closed = 0; is_pruned = false; retention = 10; least_retention = 10 }
 
--- what was pruned is gone, and what stays is closed
+-- pruned entries are gone, and the rest is closed
 behind_the_finalized_view : (cut_member (member (nullify 1 ∷ finalization 20 ∷ [])) 0 true).entries ≡ finalization 20 ∷ []
 unfolding may_drop pruned_entries
 behind_the_finalized_view = refl
@@ -30,7 +30,7 @@ closed_now : (cut_member (member (nullify 1 ∷ finalization 20 ∷ [])) 0 true)
 unfolding may_drop pruned_entries
 closed_now = refl
 
--- no later drop takes it, but what was recorded since
+-- no later drop takes it, only what was recorded since
 not_dropped : (cut_member (record (member (finalization 20 ∷ [])) { closed = 1; is_pruned = true }) 9 true).entries ≡ finalization 20 ∷ []
 unfolding may_drop pruned_entries
 not_dropped = refl
@@ -39,12 +39,12 @@ dropped_since : (cut_member (record (member (finalization 20 ∷ nullification 1
 unfolding may_drop
 dropped_since = refl
 
--- the retention of the life that ended counts, not that of the next one
+-- the retention of the lifetime that ended counts, not that of the next one
 kept_by_the_last_life : (cut_member (member (finalization 20 ∷ notarization 12 ∷ [])) 0 true).entries ≡ finalization 20 ∷ notarization 12 ∷ []
 unfolding may_drop pruned_entries
 kept_by_the_last_life = refl
 
--- a life that keeps 5 views takes an entry below those again, until it prunes
+-- a lifetime that retains 5 views takes an entry below those again, until it prunes
 abbrev narrow : StateFacts ℕ ℕ ℕ
 narrow = new_facts (record settings { view_retention = 5 }) (Some 0) (0 ∷ 1 ∷ 2 ∷ 3 ∷ []) 1 (record { term_length = 1; optimistic_views = 0; stall_timeout = None }) true
 
@@ -63,7 +63,7 @@ pruned_then : prune_answer narrow_life ≡ 1 ∷ 12 ∷ 13 ∷ []
 unfolding recovered_state after_kept_entry
 pruned_then = refl
 
--- within a life an entry stays whose view the state still tracks; behind the state's own prune it goes
+-- within a lifetime an entry stays whose view the state still tracks; after the state's own prune it goes
 abbrev within_life : Member
 within_life = record (member (nullify 2 ∷ notarization 12 ∷ finalization 20 ∷ [])) { life = Some narrow_life; retention = 5; least_retention = 5 }
 
@@ -82,7 +82,7 @@ closed_within_life = refl
 counts_as_a_pruning : retention_grows (pruned_member within_life) false 6 ≡ true
 counts_as_a_pruning = refl
 
--- no life keeps more views than one before, once the record is pruned
+-- no lifetime retains more views than an earlier one, once the record is pruned
 may_keep_as_many : retention_grows (member []) true 10 ≡ false
 may_keep_as_many = refl
 
@@ -98,7 +98,7 @@ less_after_a_pruning = refl
 more_without_a_pruning : retention_grows (member []) false 11 ≡ false
 more_without_a_pruning = refl
 
--- the least of all lives counts, and not the last one alone
+-- the smallest retention of all lifetimes counts, and not only the last one
 least_of_all_lives : retention_grows (record (member []) { is_pruned = true; least_retention = 5 }) false 7 ≡ true
 least_of_all_lives = refl
 

@@ -57,7 +57,7 @@ module _ {S D K G C : Type 0} (bytes_of : C → List ℕ) where
     of_each_view = λ v. at_view v sorted ∙ ap (entries_of bytes_of) (stable (of_view v)) ∙ sym (at_view v copy) ∙ ap (filter (λ e. entry_view e == v)) copied;
   }
 
-  -- whether a finalization of a view stands from a place on: it is the next artifact, or else one behind it
+  -- whether there is a finalization of a view from a place on: it is the next artifact, or else a later one
   pub stands_here : (v : ℕ) (items : List (Artifact S D K G C)) (i : ℕ) (a : Artifact S D K G C) → a ≡ get_or items i a → i < length items → (entry_view (artifact_facts bytes_of a) == v && is_finalization_entry (artifact_facts bytes_of a)) ≡ true
       → stands v is_finalization_entry (entries_of bytes_of (drop i items)) ≡ true
   stands_here v items i a is within here = rw (entries_from bytes_of items i a is within, here) refl
@@ -73,7 +73,7 @@ module _ {S D K G C : Type 0} (bytes_of : C → List ℕ) where
   pub recorded_now : (entries : List (ArtifactFacts D)) (o : Option (Finalization S D K G C)) (f : Finalization S D K G C) → o ≡ Some f → stands f.proposal.round.view is_finalization_entry entries ≡ false → entries ++ Accepted (Finalized (finalization_facts bytes_of f)) ∷ [] ≡ with_finalization_entry entries (option_map (finalization_facts bytes_of) o)
   recorded_now entries o f is none = rw (is, none) refl
 
--- an error for a copy of the record by view, or want of memory
+-- an error for a copy of the record by view, or out of memory
 pub refused_by : {K L D : Type 0} (same : D → D → Bool) (start : StartFacts K L D) (entries copy : List (ArtifactFacts D)) (found : RecoverError) → IsByView entries copy → IsErrorDue (recover_error same (new_state start.setup) start.floor start.now copy) found → (found ≡ error.OutOfMemory) ⊎ IsRefusedBy same start entries found
 refused_by same start entries copy found by_view due = told (recover_error same (new_state start.setup) start.floor start.now copy) refl due
   where
@@ -92,7 +92,7 @@ module _ {K L D : Type 0} (same : D → D → Bool) (elect : Elect L) (m : Membe
       → RecoversByView same elect m start (Ok tt) (record m { life = Some x; outstanding_work = no_outstanding_work; entries = entries; retention = start.setup.settings.view_retention; least_retention = min m.least_retention start.setup.settings.view_retention })
   gone_on x entries (copy, by_view, accepted, is) kept = inr (copy, by_view, rw (accepted, is, kept) (refl, refl))
 
--- what is said of a value that is there, besides what holds where one is
+-- a claim about a value that is there, besides what holds if there is one
 pub of_value : {T E A : Type 0} (P Q : T → Type 0) (r : Result T E) → IfOk r P → OnOk r A → ((t : T) → P t → A → Q t) → IfOk r Q
 of_value P Q (Ok t) is holds so = so t is holds
 of_value P Q (Err e) is holds so = tt

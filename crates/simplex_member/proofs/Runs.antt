@@ -1,4 +1,4 @@
--- A run goes on by a step, and ends by one that is refused.
+-- A run continues by a step, and ends by a refused one.
 use Rattle.std.proofs.Common.{◌≡◌, refl, sym, ◌∙◌, ℕ, ◌+◌, ◌<◌, Bool, false, List, [], ◌∷◌, ◌++◌, map, take, drop, length, get_or, ap, Option, Some, None, inl, inr, ◌⊎◌}
 use Rattle.std.proofs.lemmas.List.{take-append-drop, drop_more}
 use Rattle.simplex_voter.specs.Facts.{Elect}
@@ -14,7 +14,7 @@ use Rattle.simplex_record.specs.Start.{StartFacts, IsErrorDue, new_state}
 use Rattle.simplex_member.specs.Start.{started_member}
 use Rattle.simplex_member.specs.Runs.{IsSetUp, AreSetUp, StepFacts, is_refusal, IsStep, IsRun, IsRefused, EndsRun, IsRunFrom, EndsRunFrom}
 
--- no reply tells of a restart that was refused
+-- no reply says that a restart was refused
 pub replies_answer : {S D K G C : Type 0} (bytes_of : C → List ℕ) (r : Reply S D K G C) → is_refusal (told bytes_of r) ≡ false
 replies_answer bytes_of reply.Unit = refl
 replies_answer bytes_of (reply.Flag taken) = refl
@@ -46,7 +46,7 @@ module _ {K L D : Type 0} (same : D → D → Bool) (elect : Elect L) where
   run_extends m (s ∷ steps) [] e step told next is taken = absurd is
   run_extends m (s ∷ steps) (r ∷ replies) e step told next is taken = (is.0, is.1, run_extends is.0 steps replies e step told next is.2 taken)
 
-  -- a step that is refused behind those that were answered, whatever comes after it
+  -- a refused step after those that had replies, whatever comes after it
   pub run_ends : {R : Type 0} (told_of : R → ReplyFacts K D) (m : MemberFacts K L D) (steps : List (StepFacts K L D)) (replies : List R) (e : MemberFacts K L D) (step : StepFacts K L D) (rest : List (StepFacts K L D)) (found : RecoverError)
       → ((r : R) → is_refusal (told_of r) ≡ false) → IsRun same elect m steps (map told_of replies) e → IsRefused same elect e step found → EndsRun same elect m (steps ++ step ∷ rest) found
   run_ends told_of m [] [] e step rest found answers is refused = inl (rw is refused)
@@ -61,7 +61,7 @@ module _ {K L D : Type 0} (same : D → D → Bool) (elect : Elect L) where
     unfolding IsRunFrom
     run_from m replies e begun accepted is = (accepted, e, rw begun at is)
 
-    -- one that was refused a later life
+    -- a run whose later lifetime was refused
     pub ends_later : (m : MemberFacts K L D) (found : RecoverError) → m ≡ started_member same elect (new_state start.setup) start.floor start.now → (found ≡ error.OutOfMemory) ⊎ EndsRun same elect m steps found → EndsRunFrom same elect start steps found
     unfolding EndsRunFrom
     ends_later m found begun (inl memory) = inl memory
@@ -73,7 +73,7 @@ module _ {K L D : Type 0} (same : D → D → Bool) (elect : Elect L) where
     ends_at_once None found is memory = inl memory
     ends_at_once (Some e) found is refused = inr (inl (is ∙ ap Some (sym refused)))
 
--- what a loop over a list has met, and the element that it meets next
+-- the elements that a loop over a list has met, and the one that it meets next
 pub met_next : {A : Type 0} (items met : List A) (x : A) → met ≡ take (length met) items → length met < length items → x ≡ get_or items (length met) x → items ≡ met ++ x ∷ drop (length met + 1) items
 met_next items met x is within at =
     sym (take-append-drop (length met) items) ∙ rw (← is, drop_more items (length met) x within, ← at) refl

@@ -1,4 +1,4 @@
--- A vote that is answered is decided: its kind is answered once in a view, and what contradicts it never.
+-- A returned vote is decided: its kind is returned once in a view, and a contradicting one never.
 use Rattle.std.proofs.Common.{◌≡◌, ℕ, Bool, true, false, cond, ◌&&◌, Option, Some, None, refl, sym, subst, ap, ◌∙◌}
 use Rattle.std.specs.Prelude.{is_some, option_map, option_and_then, IfSome, IsNone}
 use Rattle.std.proofs.lemmas.Bool.{false_from_ne_true, false≢true}
@@ -18,7 +18,7 @@ use Rattle.simplex_member.specs.CallSemantics.{nullify_vote, notarize_vote, fina
 use Rattle.simplex_member.specs.MethodContracts.{IsAnswered, HasNotarizeVote, HasNullifyVote, HasFinalizeVote}
 use Rattle.simplex_record.proofs.Growing.{round_of-same}
 
--- what is told alike is the same
+-- equal replies have equal votes
 module _ {K D : Type 0} where
   abbrev notarize_told : Option (ArtifactFacts D) → ReplyFacts K D
   notarize_told vote = Notarize vote
@@ -49,7 +49,7 @@ at_life P None x is holds = tt
 pub from_life : {A : Type 0} (P : A → Type 0) (life : Option A) (x : A) → life ≡ Some x → IfSome life P → P x
 from_life P life x is holds = rw is at holds
 
--- a vote that is answered had its rule, and where the rule forbids it, there is none
+-- a returned vote had its rule, and if the rule forbids it, there is none
 module _ {K L D : Type 0} (x : StateFacts K L D) (v : ℕ) where
   none_to_nullify : may_nullify x v ≡ false → nullify_vote x v ≡ None
   none_to_nullify forbidden = by_key x.me (is_some x.me) (may_nullify x v) forbidden
@@ -100,7 +100,7 @@ module _ {K L D : Type 0} (same : D → D → Bool) (elect : Elect L) (x : State
   round_notarized may =
       rw may (ap (λ (s : RoundFacts K D). s.notarize_decided) (round_of-prepared elect (notarize_cast x v) v ∙ round_of-same x v _))
 
--- what is there was allowed
+-- a value that is there was allowed
 was_allowed : {A : Type 0} (may : Bool) (vote : Option A) (a : A) → (may ≡ false → vote ≡ None) → Some a ≡ vote → may ≡ true
 was_allowed true vote a forbids is = refl
 was_allowed false vote a forbids is = absurd (nothing (is ∙ forbids refl))
@@ -108,7 +108,7 @@ was_allowed false vote a forbids is = absurd (nothing (is ∙ forbids refl))
     nothing : Some a ≡ None → ⊥
     nothing gone = cc
 
--- and what is told of none is none
+-- and the content of none is none
 none_told : {A B : Type 0} (f : A → B) (vote : Option A) → option_map f vote ≡ None → IsNone vote
 none_told f None is = refl
 none_told f (Some a) is = cc
@@ -138,7 +138,7 @@ module _ {K D : Type 0} (r : RoundFacts K D) where
   decided_once is = rw is refl
 
 module _ {K L D : Type 0} (same : D → D → Bool) (elect : Elect L) (m left : MemberFacts K L D) (v : ℕ) where
-  -- a vote to nullify, as it is told of an answer
+  -- a vote to nullify, as the reply has it
   module _ (told : Option (Bool × ArtifactFacts D)) (is : IsAnswered same elect m (ConstructNullify v) (Nullify told) left) where
     nullify_is : told ≡ nullify_vote is.state v
     nullify_is = nullify_same {K = K} told (nullify_vote is.state v) is.told_so
@@ -172,7 +172,7 @@ module _ {K L D : Type 0} (same : D → D → Bool) (elect : Elect L) (m left : 
             at_life (λ (x : StateFacts K L D). is_finalize (round_of x v).decision ≡ true) left.life (after_construct_finalize elect is.state v)
             (ap (λ (l : MemberFacts K L D). l.life) is.left_so) (round_finalized elect is.state v may)
 
-    -- where another decision stands
+    -- if another decision was made
     not_pending : (is_pending (round_of is.state v).decision ≡ true → ⊥) → {A : Type 0} (f : A → ArtifactFacts D) (vote : Option A) → told ≡ option_map f vote → IsNone vote
     not_pending decided f vote so =
         none_told f vote (sym so ∙ finalize_is ∙ none_to_finalize elect is.state v

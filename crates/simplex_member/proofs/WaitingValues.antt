@@ -1,4 +1,4 @@
--- Values by view, of which the newest stands apart: it takes the place of one of its view among the others.
+-- Values by view, of which the newest is stored apart: it replaces one of its view among the others.
 use Rattle.std.proofs.Common.{◌≡◌, ℕ, Bool, true, false, cond, eqb, not, filter, arith, Option, Some, None, is_some, refl, sym, ap, ◌∙◌}
 use Rattle.std.proofs.lemmas.Bool.{false≢true}
 use Rattle.std.proofs.lemmas.Bool.Decides.{nat_tests}
@@ -34,7 +34,7 @@ module _ {V : Type 0} where
   pub entries-insert : (m : map.FinMap nat_cmp V) (v : ℕ) (x : V) → map.entries (map.insert m v x) ≡ put nat_cmp v x (map.entries m)
   entries-insert m v x = map.entries-insert nat_cmp_total m v x
 
-  -- what is put where another was removed
+  -- a value stored after another was removed
   insert-removed : (m : map.FinMap nat_cmp V) (v : ℕ) (x : V) → map.insert (map.remove m v) v x ≡ map.insert m v x
   insert-removed m v x = same_maps _ _ (λ q. rw (get-insert (map.remove m v) v x q, get-insert m v x q, get-remove m v q) (by_test (eqb q v) (map.get m q)))
     where

@@ -1,4 +1,4 @@
--- What a call is told that is allowed and not refused, and what it makes of the state, of what is open and of the record.
+-- The reply to a call that is allowed and not refused, and its effect on the state, on the open requests and on the record.
 use Rattle.std.specs.Prelude.{ℕ, Bool, false, if◌then◌else◌, List, [], ◌∷◌, Option, Some, is_some, None, option_map, option_and_then}
 use Rattle.std.specs.Option.{option_map_or}
 use Rattle.simplex_types.specs.Certificates.{Notarized, Nullified, Finalized, ArtifactFacts, NotarizeVote, NullifyVote, FinalizeVote, Verdict, Accepted}
@@ -14,7 +14,7 @@ use Rattle.simplex_member.specs.Calls.{CallFacts, AddNotarization, AddNullificat
 use Rattle.simplex_member.specs.OutstandingWork.{OutstandingWork, context_at, without_context, with_open_request, without_verification, with_verification, without_offer, with_offers}
 
 module _ {K L D : Type 0} where
-  -- the vote to nullify a view that is answered, with whether it is a repeat
+  -- the returned vote to nullify a view, with whether it is a repeat
   abbrev pub nullify_vote : StateFacts K L D → ℕ → Option (Bool × ArtifactFacts D)
   nullify_vote x v =
       option_and_then
@@ -24,7 +24,7 @@ module _ {K L D : Type 0} where
       x.me
 
 module _ {K L D : Type 0} (elect : Elect L) where
-  -- the vote to finalize a view that is answered
+  -- the returned vote to finalize a view
   abbrev pub finalize_vote : StateFacts K L D → ℕ → Option (ArtifactFacts D)
   finalize_vote x v =
       option_and_then
@@ -32,14 +32,14 @@ module _ {K L D : Type 0} (elect : Elect L) where
       x.me
 
 module _ {K L D : Type 0} (same : D → D → Bool) (elect : Elect L) where
-  -- the vote to notarize a view that is answered
+  -- the returned vote to notarize a view
   abbrev pub notarize_vote : StateFacts K L D → ℕ → Option (ArtifactFacts D)
   notarize_vote x v =
       option_and_then
       (λ m. option_map (λ p. NotarizeVote p m) (notarize_answer same elect x v))
       x.me
 
--- what is newly there
+-- an entry, if it is new
 abbrev pub if_new : {D : Type 0} → Bool → ArtifactFacts D → List (ArtifactFacts D)
 if_new is_new e = if is_new then e ∷ [] else []
 
@@ -48,22 +48,25 @@ abbrev pub unrepeated_vote : {D : Type 0} → Option (Bool × ArtifactFacts D) �
 unrepeated_vote None = []
 unrepeated_vote (Some (retry, vote)) = if retry then [] else vote ∷ []
 
--- the entry that records a vote, where there is one
+-- the entry that records a vote, if there is one
 abbrev pub vote_entry : {D : Type 0} → Option (ArtifactFacts D) → List (ArtifactFacts D)
 vote_entry None = []
 vote_entry (Some vote) = vote ∷ []
 
 module _ {K L D : Type 0} (same : D → D → Bool) (elect : Elect L) where
-  -- what a call is told
+  -- the reply to a call
   abbrev pub answer : StateFacts K L D → OutstandingWork K D → CallFacts D → ReplyFacts K D
   answer x o (AddNotarization c) = Added (notarization_added same elect x c).0 (notarization_added same elect x c).1
   answer x o (AddNullification c _) = AddedNullification (nullification_added x c)
   answer x o (AddFinalization c _) = Added (finalization_added same elect x c).0 (finalization_added same elect x c).1
   answer x o (SetProposal v p) = Answered (set_proposal_answer x v)
   answer x o TryPropose = Requested (propose_answer same elect x)
-  answer x o (Proposed v payload _) = Answered (option_map_or (λ context. proposed_answer same elect x context payload) (context_at o v) false)
-  answer x o (SupersedeProposalRequest v) = Answered (option_map_or (λ context. supersede_answer same elect x context) (context_at o v) false)
-  answer x o (PendingHandoffAbandonment v) = Abandoned (option_map_or (λ context. abandonment_answer same elect x context) (context_at o v) None)
+  answer x o (Proposed v payload _) =
+      Answered (option_map_or (λ context. proposed_answer same elect x context payload) (context_at o v) false)
+  answer x o (SupersedeProposalRequest v) =
+      Answered (option_map_or (λ context. supersede_answer same elect x context) (context_at o v) false)
+  answer x o (PendingHandoffAbandonment v) =
+      Abandoned (option_map_or (λ context. abandonment_answer same elect x context) (context_at o v) None)
   answer x o (ReleaseProposalRequest v) = Released (is_some (context_at o v))
   answer x o TryVerify = Standing (verify_answer same elect x)
   answer x o (Verified v) = Answered (verified_answer same elect x v)
@@ -83,15 +86,17 @@ module _ {K L D : Type 0} (same : D → D → Bool) (elect : Elect L) where
   answer x o Prune = Dropped (prune_answer x)
 
 module _ {K L D : Type 0} (same : D → D → Bool) (elect : Elect L) where
-  -- what it makes of the state
+  -- the state after it
   abbrev pub after_call : StateFacts K L D → OutstandingWork K D → CallFacts D → StateFacts K L D
   after_call x o (AddNotarization c) = after_add_notarization same elect x c
   after_call x o (AddNullification c now) = after_add_nullification elect x c now
   after_call x o (AddFinalization c now) = after_add_finalization same elect x c now
   after_call x o (SetProposal v p) = after_set_proposal same elect x v p
   after_call x o TryPropose = after_try_propose same elect x
-  after_call x o (Proposed v payload now) = option_map_or (λ context. after_proposed same elect x context payload now) (context_at o v) x
-  after_call x o (SupersedeProposalRequest v) = option_map_or (λ context. after_supersede same elect x context) (context_at o v) x
+  after_call x o (Proposed v payload now) =
+      option_map_or (λ context. after_proposed same elect x context payload now) (context_at o v) x
+  after_call x o (SupersedeProposalRequest v) =
+      option_map_or (λ context. after_supersede same elect x context) (context_at o v) x
   after_call x o (PendingHandoffAbandonment _) = x
   after_call x o (ReleaseProposalRequest v) = after_release x v
   after_call x o TryVerify = after_try_verify same elect x
@@ -111,13 +116,14 @@ module _ {K L D : Type 0} (same : D → D → Bool) (elect : Elect L) where
   after_call x o (NextTimeout now) = after_next_timeout x now
   after_call x o Prune = after_prune x
 
-  -- what is open then: a request opens a view's context, which is closed once a payload was built in it, or the request was
+  -- the open requests after it: a request opens a view's context, which is closed once a payload was built in it, or the request was
   -- superseded or released; a proposal to verify is open until its answer, and an offer until its verdict
   abbrev pub outstanding_work_after : StateFacts K L D → OutstandingWork K D → CallFacts D → OutstandingWork K D
   outstanding_work_after x o TryPropose = with_open_request o (propose_answer same elect x)
   outstanding_work_after x o (Proposed v _ _) = without_context o v
   outstanding_work_after x o (SupersedeProposalRequest v) =
-      if option_map_or (λ context. supersede_answer same elect x context) (context_at o v) false then without_context o v else o
+      if option_map_or (λ context. supersede_answer same elect x context) (context_at o v) false
+      then without_context o v else o
   outstanding_work_after x o (ReleaseProposalRequest v) = without_context o v
   outstanding_work_after x o TryVerify = with_verification o (verify_answer same elect x)
   outstanding_work_after x o (Verified v) = without_verification o v
@@ -126,7 +132,7 @@ module _ {K L D : Type 0} (same : D → D → Bool) (elect : Elect L) where
   outstanding_work_after x o (Certified v _ _) = without_offer o v
   outstanding_work_after x o _ = o
 
-  -- what the record grows by: certificates that are newly added, a view's first verdict, votes that are no repeat
+  -- the new entries of the record: certificates that are newly added, a view's first verdict, votes that are no repeat
   abbrev pub recorded_by : StateFacts K L D → CallFacts D → List (ArtifactFacts D)
   recorded_by x (AddNotarization c) = if_new (notarization_added same elect x c).0 (Accepted (Notarized c))
   recorded_by x (AddNullification c _) = if_new (nullification_added x c) (Accepted (Nullified c))

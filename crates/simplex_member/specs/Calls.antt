@@ -1,4 +1,4 @@
--- What is asked of a member and what it answers, as plain data.
+-- The calls of a member and their replies, as plain data.
 use Rattle.std.specs.Prelude.{ℕ, Bool, List, Option, Some, option_map}
 use Rattle.simplex_types.specs.Certificates.{ProposalFacts, NullificationFacts, CertificateFacts, ArtifactFacts, NotarizeVote, NullifyVote, FinalizeVote, notarization_facts, nullification_facts, finalization_facts, certificate_facts}
 use Rattle.simplex_types.specs.declared.types.fault.Fault.{Fault}
@@ -74,7 +74,7 @@ asked bytes_of (call.TriggerTimeout v reason now) = TriggerTimeout v reason now
 asked bytes_of (call.NextTimeout now) = NextTimeout now
 asked bytes_of call.Prune = Prune
 
--- what a reply tells, with votes as the entries that they are recorded as; and why a restart was refused, which no reply tells
+-- the content of a reply, with votes as the entries that record them; and why a restart was refused, which no reply contains
 pub data ReplyFacts (K D : Type 0) : Type 0 where
   Added : Bool → Option K → ReplyFacts K D
   AddedNullification : Bool → ReplyFacts K D
@@ -99,13 +99,13 @@ pub data ReplyFacts (K D : Type 0) : Type 0 where
   NotAllowed : ReplyFacts K D
 
 module _ {S D K G C : Type 0} where
-  -- a vote as the entry that it is recorded as
+  -- a vote as the entry that records it
 
-  -- a vote to nullify that is answered, with whether it was sent before
+  -- a returned vote to nullify, with whether it was sent before
   abbrev pub reply_nullify : Option (Bool × vote.Nullify S K G C) → Option (Bool × ArtifactFacts D)
   reply_nullify vote = option_map (λ v. (v.0, NullifyVote v.1.round v.1.signer)) vote
 
-  -- a vote to finalize that is answered
+  -- a returned vote to finalize
   abbrev pub reply_finalize : Option (final.Finalize S D K G C) → Option (ArtifactFacts D)
   reply_finalize vote = option_map (λ v. FinalizeVote v.proposal v.signer) vote
 

@@ -7,12 +7,12 @@ use Rattle.simplex_member.specs.declared.member.refusal.Refusal.TheVariants as r
 use Rattle.simplex_member.specs.declared.member.resume.ResumeError.{ResumeError}
 use Rattle.simplex_member.specs.declared.member.resume.ResumeError.TheVariants as resume_error
 
--- why a member does not go on from its journal
+-- why a member cannot resume from its journal
 abbrev pub resume_error_name : ResumeError → List ℕ
 resume_error_name resume_error.EntriesLost = codes "EntriesLost"
 resume_error_name (resume_error.Recover e) = recover_error_name e
 
--- why a call has no answer
+-- why a call is refused
 abbrev pub refusal_name : Refusal → List ℕ
 refusal_name (refusal.Fault fault) = fault_name fault
 refusal_name refusal.NotAllowed = codes "NotAllowed"

@@ -6,12 +6,12 @@ use Rattle.simplex_member.specs.Calls as calls
 use Rattle.simplex_member.specs.Calls.{CallFacts}
 use Rattle.simplex_member.specs.OutstandingWork.{OutstandingWork, context_at}
 
--- the event of what a call does in a context, where one is open
+-- the event of a call in a context, if one is open
 abbrev pub in_context : {K D : Type 0} → (Context D K → Event K D) → Option (Context D K) → List (Event K D)
 in_context event None = []
 in_context event (Some context) = event context ∷ []
 
--- the events of a call of a member, with what it has open then: one, but for a call that changes nothing
+-- the events of a call of a member, given its open requests: one, except for a call that changes nothing
 abbrev pub events_of : {K D : Type 0} → OutstandingWork K D → CallFacts D → List (Event K D)
 events_of o (calls.AddNotarization c) = AddNotarization c ∷ []
 events_of o (calls.AddNullification c now) = AddNullification c now ∷ []

@@ -1,4 +1,4 @@
--- What a journal holds of a member, and how a member goes on from it.
+-- The journal of a member, and how a member resumes from it.
 use Rattle.std.specs.Prelude.{◌≡◌, ℕ, Bool, true, false, nat_lt, List, length, take, drop, filter, None, Ok, Err}
 use Rattle.simplex_types.specs.Certificates.{ArtifactFacts}
 use Rattle.simplex_voter.specs.Facts.{Elect}
@@ -15,9 +15,14 @@ use Rattle.simplex_record.specs.Votes.{SignedVote}
 module _ {K L D : Type 0} where
   -- what is stored beside the entries
   abbrev pub stored_of : MemberFacts K L D → Stored
-  stored_of m = record { closed = m.closed; is_pruned = m.is_pruned; retention = m.retention; least_retention = m.least_retention }
+  stored_of m = record {
+    closed = m.closed;
+    is_pruned = m.is_pruned;
+    retention = m.retention;
+    least_retention = m.least_retention;
+  }
 
-  -- a member that has ended, of which a journal holds all that is left
+  -- a member that has ended, of which only a journal remains
   abbrev pub stored_facts : Stored → List (ArtifactFacts D) → MemberFacts K L D
   stored_facts stored entries = record {
     life = None;
@@ -33,7 +38,7 @@ module _ {K L D : Type 0} where
   abbrev pub whole_restart : StartFacts K L D → RestartFacts K L D
   whole_restart start = record { drop = 0; prune = false; start = start }
 
--- the votes behind the first so many entries
+-- the votes after the first `count` entries
 abbrev pub votes_since : {K L D G : Type 0} → ℕ → SignedMember K L D G → List (SignedVote D G)
 votes_since count m = drop (length (filter is_vote (take count m.facts.entries))) m.votes
 
@@ -43,11 +48,12 @@ has_lost stored entries = nat_lt (length entries) stored.closed
 
 module _ {K L D : Type 0} (same : D → D → Bool) (elect : Elect L) where
   -- none is lost, and a restart of the member that has ended makes this one
-  pub record IsResumed (stored : Stored) (entries : List (ArtifactFacts D)) (start : StartFacts K L D) (m : MemberFacts K L D) : Type 0 where
+  pub record IsResumed (stored : Stored) (entries : List (ArtifactFacts D)) (start : StartFacts K L D)
+      (m : MemberFacts K L D) : Type 0 where
     pub whole : has_lost stored entries ≡ false
     pub restarted : IsRestart same elect (stored_facts stored entries) (whole_restart start) (Ok tt) m
 
-  -- some are lost; or none is, and its restart is refused, and leaves it as it was
+  -- some are lost; or none is, and its restart is refused, and leaves it unchanged
   abbrev pub IsNotResumed : Stored → List (ArtifactFacts D) → StartFacts K L D → ResumeError → Type 0
   IsNotResumed stored entries start error.EntriesLost = has_lost stored entries ≡ true
   IsNotResumed stored entries start (error.Recover e) =

@@ -1,4 +1,4 @@
--- What is known of a member, and what a call makes of it.
+-- What is known of a member, and how a call changes it.
 use Rattle.std.specs.Prelude.{ℕ, Bool, true, ◌≡◌, ◌⊎◌, if◌then◌else◌, List, ◌++◌, Option, Some, None}
 use Rattle.simplex_types.specs.Certificates.{ArtifactFacts}
 use Rattle.simplex_types.specs.declared.types.fault.Fault.{Fault}
@@ -12,17 +12,17 @@ use Rattle.simplex_member.specs.OutstandingWork.{OutstandingWork, no_outstanding
 
 -- what is known of a member
 pub record MemberFacts (K L D : Type 0) : Type 0 where
-  -- what its state knows; none while the member has failed
+  -- what its state knows; `None` while the member has failed
   pub life : Option (StateFacts K L D)
-  -- what it has open of its state's answers
+  -- its open requests
   pub outstanding_work : OutstandingWork K D
   -- its record, oldest entry first
   pub entries : List (ArtifactFacts D)
-  -- how many of its first entries no later drop takes
+  -- how many of its first entries are closed to later drops
   pub closed : ℕ
   -- its record was pruned
   pub is_pruned : Bool
-  -- how many views below the last finalized one its last life kept, and the least of its lives
+  -- how many views below the last finalized one its last lifetime retained, and the smallest such number of its lifetimes
   pub retention : ℕ
   pub least_retention : ℕ
 
@@ -32,7 +32,7 @@ pub record SignedMember (K L D G : Type 0) : Type 0 where
   -- oldest first
   pub votes : List (SignedVote D G)
 
--- of a failed member's state nothing is known, and nothing of it is open
+-- nothing is known of a failed member's state
 abbrev pub living : {K L D : Type 0} → Bool → StateFacts K L D → Option (StateFacts K L D)
 living failed x = if failed then None else Some x
 
@@ -41,7 +41,7 @@ abbrev pub open_while : {K D : Type 0} → Bool → OutstandingWork K D → Outs
 open_while failed o = if failed then no_outstanding_work else o
 
 module _ {K D : Type 0} where
-  -- told, unless a fault is due
+  -- the reply, unless there is a fault
   abbrev pub unless_refused : Option Fault → ReplyFacts K D → ReplyFacts K D
   unless_refused None told = told
   unless_refused (Some fault) told = Refused fault
@@ -51,21 +51,22 @@ module _ {K L D : Type 0} where
   abbrev pub without_lifetime : MemberFacts K L D → MemberFacts K L D
   without_lifetime m = record m { life = None; outstanding_work = no_outstanding_work }
 
-  -- its record is as it was, with more behind it
+  -- its record is as it was, with more after it
   abbrev pub HasGrown : MemberFacts K L D → MemberFacts K L D → Type 0
   HasGrown m left = (more : List (ArtifactFacts D)) × (left.entries ≡ m.entries ++ more)
 
-  -- left, unless a fault is due
+  -- the next member, unless there is a fault
   abbrev pub unless_retained : Option Fault → MemberFacts K L D → MemberFacts K L D → MemberFacts K L D
   unless_retained None m next = next
   unless_retained (Some fault) m next = m
 
 module _ {K L D : Type 0} (same : D → D → Bool) (elect : Elect L) where
-  -- what a living member tells
+  -- the reply of a member that has not failed
   abbrev pub reply_of : StateFacts K L D → OutstandingWork K D → CallFacts D → ReplyFacts K D
-  reply_of x o call = if is_allowed x o call then unless_refused (fault_of x call) (answer same elect x o call) else NotAllowed
+  reply_of x o call = if is_allowed x o call
+      then unless_refused (fault_of x call) (answer same elect x o call) else NotAllowed
 
-  -- with what a call makes of the state and of what is open, and with what the record grows by
+  -- with the state and the open requests after a call, and with its new entries of the record
   abbrev pub with_call : StateFacts K L D → MemberFacts K L D → CallFacts D → MemberFacts K L D
   with_call x m call = record m {
     life = Some (after_call same elect x m.outstanding_work call);
@@ -73,28 +74,31 @@ module _ {K L D : Type 0} (same : D → D → Bool) (elect : Elect L) where
     entries = m.entries ++ recorded_by same elect x call;
   }
 
-  -- what is left of a living member
+  -- a member that has not failed, after a call
   abbrev pub left_of : StateFacts K L D → MemberFacts K L D → CallFacts D → MemberFacts K L D
-  left_of x m call = if is_allowed x m.outstanding_work call then unless_retained (fault_of x call) m (with_call x m call) else m
+  left_of x m call = if is_allowed x m.outstanding_work call
+      then unless_retained (fault_of x call) m (with_call x m call) else m
 
-  -- what want of memory leaves: there was no room before the state was called, and nothing has changed; or no fault was due,
-  -- and the member has failed
+  -- after running out of memory: there was no room before the state was called, and nothing has changed; or there was no fault, and
+  -- the member has failed
   abbrev pub IsLeftOutOfMemory : StateFacts K L D → MemberFacts K L D → CallFacts D → MemberFacts K L D → Type 0
   IsLeftOutOfMemory x m call left =
       ((needs_room x call ≡ true) × (left ≡ m))
       ⊎ ((fault_of x call ≡ None) × (may_fall x call ≡ true) × (left ≡ without_lifetime m))
 
-  -- a living member answers by the definitions, or memory was wanting of a call that is allowed
+  -- a member that has not failed replies by the definitions, or an allowed call ran out of memory
   abbrev pub Answers : StateFacts K L D → MemberFacts K L D → CallFacts D → ReplyFacts K D → MemberFacts K L D → Type 0
   Answers x m call told left =
       ((told ≡ reply_of x m.outstanding_work call) × (left ≡ left_of x m call))
-      ⊎ ((is_allowed x m.outstanding_work call ≡ true) × (told ≡ Refused fault.OutOfMemory) × IsLeftOutOfMemory x m call left)
+      ⊎ ((is_allowed x m.outstanding_work call ≡ true) × (told ≡ Refused fault.OutOfMemory)
+      × IsLeftOutOfMemory x m call left)
 
-  -- a member that has failed refuses each call, and stays as it was
-  abbrev pub AnswersAlive : Option (StateFacts K L D) → MemberFacts K L D → CallFacts D → ReplyFacts K D → MemberFacts K L D → Type 0
+  -- a member that has failed refuses each call, and stays unchanged
+  abbrev pub AnswersAlive : Option (StateFacts K L D) → MemberFacts K L D → CallFacts D → ReplyFacts K D
+      → MemberFacts K L D → Type 0
   AnswersAlive None m call told left = (told ≡ Refused fault.Failed) × (left ≡ m)
   AnswersAlive (Some x) m call told left = Answers x m call told left
 
-  -- a call of a member, what it tells and what is left of the member
+  -- a call of a member, its reply and the member after it
   unfoldable pub IsCall : MemberFacts K L D → CallFacts D → ReplyFacts K D → MemberFacts K L D → Type 0
   IsCall m call told left = AnswersAlive m.life m call told left

@@ -1,4 +1,4 @@
--- What a call of its own type gives: an answer of its kind, or why there is none.
+-- The result of a call's own method: a reply of its kind, or why it is refused.
 use Rattle.std.specs.Prelude.{◌≡◌, ◌⊎◌, ℕ, Bool, true, false, Option, Some, None, IfSome, Result, Ok, Err}
 use Rattle.simplex_types.specs.declared.types.fault.Fault.TheVariants as fault
 use Rattle.simplex_round.specs.Round.{is_nullify, is_finalize}
@@ -11,17 +11,17 @@ use Rattle.simplex_member.specs.declared.member.refusal.Refusal.{Refusal}
 use Rattle.simplex_member.specs.declared.member.refusal.Refusal.TheVariants as refusal
 
 module _ {K D : Type 0} where
-  -- what is told of a refusal
+  -- the reply to a refused call
   abbrev pub told_refused : Refusal → ReplyFacts K D
   told_refused (refusal.Fault due) = Refused due
   told_refused refusal.NotAllowed = NotAllowed
 
-  -- what is told of a result: its answer, or why there is none
+  -- the reply for a result
   abbrev pub told_of : {T : Type 0} → (T → ReplyFacts K D) → Result T Refusal → ReplyFacts K D
   told_of tell (Ok answered) = tell answered
   told_of tell (Err refused) = told_refused refused
 
-  -- whether a call may be told so: an answer of its kind, or refused
+  -- whether a call may have this reply: one of its kind, or a refusal
   abbrev pub is_reply_to : ReplyFacts K D → CallFacts D → Bool
   is_reply_to (Refused due) call = true
   is_reply_to NotAllowed call = true
@@ -52,28 +52,29 @@ module _ {K D : Type 0} where
   is_reply_to (Dropped _) Prune = true
   is_reply_to _ _ = false
 
-  -- a claim of an answer, and one of a refusal
+  -- this holds if the reply is no refusal
   abbrev pub IfAnswered : ReplyFacts K D → Type 0 → Type 0
   IfAnswered (Refused due) claim = Unit {0}
   IfAnswered NotAllowed claim = Unit {0}
   IfAnswered _ claim = claim
 
-  -- this holds of the refusal, where it is one
+  -- this holds of the refusal, if it is one
   abbrev pub IfRefused : ReplyFacts K D → (Refusal → Type 0) → Type 0
   IfRefused (Refused due) claim = claim (refusal.Fault due)
   IfRefused NotAllowed claim = claim refusal.NotAllowed
   IfRefused _ claim = Unit {0}
 
 module _ {K L D : Type 0} where
-  -- a refusal changes nothing; but after want of memory the member may have failed
+  -- a refusal changes nothing; but after running out of memory the member may have failed
   abbrev pub UnchangedButLifetime : MemberFacts K L D → Refusal → MemberFacts K L D → Type 0
   UnchangedButLifetime m (refusal.Fault fault.OutOfMemory) left = (left ≡ m) ⊎ (left ≡ without_lifetime m)
   UnchangedButLifetime m _ left = left ≡ m
 
 module _ {K L D : Type 0} (same : D → D → Bool) (elect : Elect L) where
-  -- a call that is answered: the member lives, what the call asks is so, and no fault is due; it is told by its definition, and
-  -- leaves what its definition makes of the state, of what is open and of the record
-  pub record IsAnswered (m : MemberFacts K L D) (call : CallFacts D) (told : ReplyFacts K D) (left : MemberFacts K L D) : Type 0 where
+  -- a call that is answered: the member has not failed, what the call requires holds, and there is no fault; it has the reply of its
+  -- definition, and leaves the state, the open requests and the record of its definition
+  pub record IsAnswered (m : MemberFacts K L D) (call : CallFacts D) (told : ReplyFacts K D)
+      (left : MemberFacts K L D) : Type 0 where
     pub state : StateFacts K L D
     pub alive : m.life ≡ Some state
     pub allowed : is_allowed state m.outstanding_work call ≡ true
@@ -82,7 +83,7 @@ module _ {K L D : Type 0} (same : D → D → Bool) (elect : Elect L) where
     pub left_so : left ≡ with_call same elect state m call
 
 module _ {K L D : Type 0} where
-  -- while the member lives, a vote to notarize the view is decided
+  -- while the member has not failed, a vote to notarize the view is decided
   abbrev pub HasNotarizeVote : MemberFacts K L D → ℕ → Type 0
   HasNotarizeVote m v = IfSome m.life (λ x. (round_of x v).notarize_decided ≡ true)
 
@@ -94,6 +95,6 @@ module _ {K L D : Type 0} where
   abbrev pub HasFinalizeVote : MemberFacts K L D → ℕ → Type 0
   HasFinalizeVote m v = IfSome m.life (λ x. is_finalize (round_of x v).decision ≡ true)
 
-  -- while the member lives, nothing of the view is left for such a call to hand out
+  -- while the member has not failed, such a call has nothing more to return of the view
   abbrev pub HasNoneLeft : {A : Type 0} → (StateFacts K L D → ℕ → Option A) → MemberFacts K L D → ℕ → Type 0
   HasNoneLeft answer m v = IfSome m.life (λ x. answer x v ≡ None)

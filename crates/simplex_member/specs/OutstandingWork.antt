@@ -1,4 +1,4 @@
--- What a member has open of its state's answers: it is kept beside the state, and each life begins with nothing open.
+-- The open requests of a member's state: they are stored beside the state, and each lifetime begins with none.
 use Rattle.std.specs.Prelude.{ℕ, Bool, ◌==◌, not, List, [], map, filter, Option, Some, None}
 use Rattle.std.specs.BTreeSet.{insert_key}
 use Rattle.std.specs.FinMap.Entries.{find, put}
@@ -13,7 +13,7 @@ use Rattle.simplex_voter.specs.ProposalRequests.{request_context}
 
 -- what is open
 pub record OutstandingWork (K D : Type 0) : Type 0 where
-  -- by rising view, what this member was last asked to build on
+  -- by rising view, the context of the last request to build
   pub contexts : List (ℕ × Context D K)
   -- the views whose proposal is being verified, rising
   pub verifying : List ℕ
@@ -24,10 +24,10 @@ pub record OutstandingWork (K D : Type 0) : Type 0 where
 abbrev pub views_of : {V : Type 0} → List (ℕ × V) → List ℕ
 views_of entries = map (λ e. e.0) entries
 
--- what is open, as a member keeps it
+-- the open requests, as a member stores them
 pub record KeptWork (K D : Type 0) : Type 0 where
   pub open_now : OutstandingWork K D
-  -- a request and a verification more are opened without memory
+  -- one more request and one more verification take no memory
   pub has_room : Bool
 
 -- nothing is open
@@ -57,7 +57,7 @@ module _ {K D : Type 0} where
   abbrev pub with_context : OutstandingWork K D → Context D K → OutstandingWork K D
   with_context o context = record o { contexts = put nat_cmp context.round.view context o.contexts }
 
-  -- what a request opens
+  -- a request opens its context
   abbrev pub with_open_request : OutstandingWork K D → Option (ProposalRequest D K) → OutstandingWork K D
   with_open_request o None = o
   with_open_request o (Some request) = with_context o (request_context request)
@@ -72,7 +72,7 @@ module _ {K D : Type 0} where
   abbrev pub without_verification : OutstandingWork K D → ℕ → OutstandingWork K D
   without_verification o v = record o { verifying = all_but v o.verifying }
 
-  -- what an answer of the scan opens
+  -- a result of the scan opens its verification
   abbrev pub with_verification : OutstandingWork K D → Verify D K → OutstandingWork K D
   with_verification o (Ready context p) = record o { verifying = insert_key nat_cmp o.verifying p.round.view }
   with_verification o (Resolve proposal view kind target) = o
@@ -90,4 +90,5 @@ module _ {K D : Type 0} where
 
   -- offers are opened
   abbrev pub with_offers : OutstandingWork K D → List (Proposal D) → OutstandingWork K D
-  with_offers o proposals = record o { offered = fold (λ views (p : Proposal D). insert_key nat_cmp views p.round.view) o.offered proposals }
+  with_offers o proposals =
+      record o { offered = fold (λ views (p : Proposal D). insert_key nat_cmp views p.round.view) o.offered proposals }

@@ -8,7 +8,7 @@ use Rattle.simplex_member.specs.Restarts.{IsByView}
 use Rattle.simplex_record.specs.Start.{StartFacts, new_state}
 
 module _ {K L D : Type 0} (same : D → D → Bool) where
-  -- no state is made, by the error that is due for a copy of the entries by view
+  -- no state is made, by the error that applies to a copy of the entries by view
   abbrev pub IsRefusedBy : StartFacts K L D → List (ArtifactFacts D) → RecoverError → Type 0
   IsRefusedBy start entries error =
       (copy : List (ArtifactFacts D))

@@ -14,20 +14,23 @@ use Rattle.simplex_member.specs.Pruning.{pruned_member}
 use Rattle.simplex_record.specs.Start.{StartFacts, new_state}
 use Rattle.simplex_member.specs.Start.{started_member}
 
--- a step of a run: a call, a pruning of the record within the life, or a restart
+-- a step of a run: a call, a pruning of the record within the lifetime, or a restart
 pub data StepFacts (K L D : Type 0) : Type 0 where
   Calls : CallFacts D → StepFacts K L D
   Prunes : StepFacts K L D
   Restarts : RestartFacts K L D → StepFacts K L D
 
 -- a step, as plain data
-abbrev pub step_facts : {S L D K G C : Type 0} → (S → Option ℕ) → (S → List K) → (L → Terms) → (L → Bool) → (C → List ℕ) → Step S L D K G C → StepFacts K L D
+abbrev pub step_facts : {S L D K G C : Type 0} → (S → Option ℕ) → (S → List K) → (L → Terms) → (L → Bool) → (C → List ℕ)
+    → Step S L D K G C → StepFacts K L D
 step_facts me members terms elects_early bytes_of (step.Call call) = Calls (asked bytes_of call)
 step_facts me members terms elects_early bytes_of step.PruneRecord = Prunes
-step_facts me members terms elects_early bytes_of (step.Restart restart) = Restarts (restart_facts me members terms elects_early bytes_of restart)
+step_facts me members terms elects_early bytes_of (step.Restart restart) =
+    Restarts (restart_facts me members terms elects_early bytes_of restart)
 
 -- each of these
-abbrev pub steps_of : {S L D K G C : Type 0} → (S → Option ℕ) → (S → List K) → (L → Terms) → (L → Bool) → (C → List ℕ) → List (Step S L D K G C)
+abbrev pub steps_of : {S L D K G C : Type 0} → (S → Option ℕ) → (S → List K) → (L → Terms) → (L → Bool) → (C → List ℕ)
+    → List (Step S L D K G C)
     → List (StepFacts K L D)
 steps_of me members terms elects_early bytes_of steps = map (step_facts me members terms elects_early bytes_of) steps
 
@@ -35,33 +38,34 @@ steps_of me members terms elects_early bytes_of steps = map (step_facts me membe
 abbrev pub IsSetUp : {S L D K G C : Type 0} → (S → List K) → (L → ℕ) → Step S L D K G C → Type 0
 IsSetUp participants members (step.Call _) = Unit {0}
 IsSetUp participants members step.PruneRecord = Unit {0}
-IsSetUp participants members (step.Restart restart) = members restart.start.settings.elector ≡ length (participants restart.start.settings.scheme)
+IsSetUp participants members (step.Restart restart) =
+    members restart.start.settings.elector ≡ length (participants restart.start.settings.scheme)
 
--- so is each of these
+-- the same for each of these
 abbrev pub AreSetUp : {S L D K G C : Type 0} → (S → List K) → (L → ℕ) → List (Step S L D K G C) → Type 0
 AreSetUp participants members [] = Unit {0}
 AreSetUp participants members (step ∷ steps) = IsSetUp participants members step × AreSetUp participants members steps
 
 module _ {K D : Type 0} where
-  -- what a restart is told
+  -- the reply to a restart
   abbrev pub restart_reply : Result (Unit {0}) RecoverError → ReplyFacts K D
   restart_reply (Ok _) = Restarted
   restart_reply (Err e) = NotRestarted e
 
-  -- a restart is told that it was refused
+  -- the reply says that a restart was refused
   abbrev pub is_refusal : ReplyFacts K D → Bool
   is_refusal (NotRestarted _) = true
   is_refusal _ = false
 
 module _ {K L D : Type 0} (same : D → D → Bool) (elect : Elect L) where
-  -- a call is answered, a pruning is done, and a restart succeeds or is refused
+  -- a call has its reply, a pruning is done, and a restart succeeds or is refused
   abbrev pub IsStep : MemberFacts K L D → StepFacts K L D → ReplyFacts K D → MemberFacts K L D → Type 0
   IsStep m (Calls call) told next = IsCall same elect m call told next
   IsStep m Prunes told next = (told ≡ Done) × (next ≡ pruned_member m)
   IsStep m (Restarts r) told next =
       (result : Result (Unit {0}) RecoverError) × IsRestart same elect m r result next × (told ≡ restart_reply result)
 
-  -- each step is told something, by what the steps before it left
+  -- each step has its reply, by what the steps before it left
   abbrev pub IsRun : MemberFacts K L D → List (StepFacts K L D) → List (ReplyFacts K D) → MemberFacts K L D → Type 0
   IsRun m [] [] end = m ≡ end
   IsRun m [] (told ∷ rest) end = ⊥
@@ -75,7 +79,7 @@ module _ {K L D : Type 0} (same : D → D → Bool) (elect : Elect L) where
   IsRefused m Prunes found = ⊥
   IsRefused m (Restarts r) found = (left : MemberFacts K L D) × IsRestart same elect m r (Err found) left
 
-  -- some step is, and none before it
+  -- some step is refused, and none before it
   abbrev pub EndsRun : MemberFacts K L D → List (StepFacts K L D) → RecoverError → Type 0
   EndsRun m [] found = ⊥
   EndsRun m (step ∷ steps) found =

@@ -8,7 +8,8 @@ use Rattle.simplex_member.specs.OutstandingWork.{no_outstanding_work}
 use Rattle.simplex_member.specs.MemberFacts.{MemberFacts}
 
 -- a member whose state sets the floor, and whose record is the floor's finalization
-abbrev pub started_member : {K L D : Type 0} → (D → D → Bool) → Elect L → StateFacts K L D → FloorFacts D → ℕ → MemberFacts K L D
+abbrev pub started_member : {K L D : Type 0} → (D → D → Bool) → Elect L → StateFacts K L D → FloorFacts D → ℕ
+    → MemberFacts K L D
 started_member same elect x floor now = record {
   life = Some (after_set_floor same elect x floor now);
   outstanding_work = no_outstanding_work;

@@ -1,4 +1,4 @@
-//! A member: its state, with the record from which it can be made again.
+//! A member: its state, and the record from which the state can be rebuilt.
 #![tactic(auto)]
 
 pub mod member;

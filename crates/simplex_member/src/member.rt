@@ -1,4 +1,4 @@
-//! What a member records, what a restart asks of its record and leaves of it.
+//! A member's record: what it holds, and how a restart reads and changes it.
 
 mod broadcasts;
 mod calls;

@@ -7,7 +7,7 @@ use Rattle.std.specs.Io.BufRead.{take_through}
 use Rattle.std.specs.Io.KnownBytes.{Consumes, IsAtEnd, Keeps}
 use Rattle.simplex_program.specs.Line.{IsFirstLine, IsNextLine, ReadsNextLine, GivesByte}
 
--- no feed stands among the bytes: a line goes on behind them
+-- no feed is among the bytes: a line continues after them
 pub record IsPassed (bs : List ℕ) : Type 0 where
   pub continues : (others : List ℕ) → take_through 10 (bs ++ others) ≡ bs ++ take_through 10 others
 

@@ -31,7 +31,7 @@ passed_both bs more first second = record {
       ∙ (ap (λ (rest : List ℕ). bs ++ rest) (second.continues others) ∙ sym (append_assoc bs more (take_through 10 others))));
 }
 
--- a line that goes on with a part
+-- a line that continues with a part
 
 module _ (a b c : Option (List ℕ)) (bs grown : List ℕ) (passed : IsPassed bs) (before : Consumes a b bs) (most : length bs ≤ 201) (some : 0 < length bs) where
   pub part_ends : MovesPart true bs grown b c → IsNextLine a grown c
@@ -56,7 +56,7 @@ module _ (a b c : Option (List ℕ)) (bs grown : List ℕ) (passed : IsPassed bs
           let all = length-append bs more in
           rw is (passed_both bs more passed (passed_all more none), taken a b c bs more before gone, omega (arith, all), omega (arith, all, short))
 
--- where the feed stands
+-- where the feed is
 
 pub up_to_feed : (bs : List ℕ) (place more : ℕ) → more ≡ place + 1 → place < length bs → place ≡ position_or_len (λ b. b == 10) bs → (take more bs ≡ take place bs ++ 10 ∷ []) × HasNoFeed (take place bs)
 up_to_feed [] place more next less at = absurd (omega arith)

@@ -1,4 +1,4 @@
--- A report that is taken is answered with its effects.
+-- A report that is taken returns its effects.
 use Rattle.std.proofs.Common.{◌≡◌, ℕ, ◌≤◌, Bool, true, false, cond, List, [], ◌∷◌, Result, Ok, Err, IfOk, OnOk, Vec, Global, refl, arith}
 use Rattle.std.proofs.Math.Nat.{lt_irrefl, max-eq_left}
 use Rattle.simplex_types.specs.declared.types.numbers.Round.{Round}
@@ -15,7 +15,7 @@ use Rattle.simplex_program.specs.declared.resolver.Answer.TheVariants.{Effects}
 use Rattle.simplex_program.specs.ResolverReplies.{Reports, IsProposedAt, nullification_call, verdict_call}
 use Rattle.simplex_program.specs.Plain.{round_in_epoch}
 
--- `made` is the call that was made, `call` the one that the line stands for
+-- `made` is the call that was made, `call` the line's call
 pub reported : {E : Type 0} (r : Result Answer E) (x y : ResolverFacts) (fetching left : List ℕ) (v : ℕ) (made call : Call) (es : Vec Effect Global) → 1 ≤ v → made ≡ call → x.is_failed ≡ false → es.items ≡ effects x made → y ≡ after x made → IfOk r (λ a. a ≡ Effects es) → OnOk r (IsApplied fetching es.items left) → IfOk r (λ a. Reports x fetching v call a y left)
 reported (Err e) x y fetching left v made call es above same live told is answer applied = tt
 reported (Ok a) x y fetching left v made call es above same live told is answer applied =

@@ -1,4 +1,4 @@
--- Words behind one another, each behind a space, are the text of these words; and bytes in hexadecimal.
+-- Words one after another, each after a space, are the text of these words; and bytes in hexadecimal.
 use Rattle.std.proofs.Common.{◌≡◌, ℕ, ◌+◌, ◌-◌, ◌^◌, ◌<◌, false, List, [], ◌∷◌, ◌++◌, length, get_or, take, map, ap, refl, sym, ◌∙◌, append_assoc, append-nil}
 use Rattle.std.proofs.lemmas.Fmt.{hex_byte}
 use Rattle.std.proofs.lemmas.List.{take_more, flat_map_more}

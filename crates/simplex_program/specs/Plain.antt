@@ -1,4 +1,4 @@
--- How the plain parts compare payloads, elect and write certificates, and the epoch that all lines are of.
+-- How the plain parts compare payloads, elect and encode certificates, and the epoch of all lines.
 use Rattle.std.specs.Prelude.{ℕ, Bool, List, [], ◌∷◌, Option, if◌then◌else◌}
 use Rattle.std.specs.Str.{bytes_eq}
 use Rattle.simplex_types.specs.declared.types.numbers.Round.{Round}
@@ -14,7 +14,7 @@ use Rattle.simplex_member.specs.MemberFacts.{MemberFacts}
 abbrev pub same_payload : PlainDigest → PlainDigest → Bool
 same_payload d e = bytes_eq (digest_bytes d) (digest_bytes e)
 
--- members lead in turn, a term each
+-- members lead round-robin, a term each
 abbrev pub plain_leader : PlainElector → Round → Option (List ℕ) → ℕ
 plain_leader e round seed = leader_in_turn e round.view
 

@@ -1,11 +1,11 @@
--- The lines that ask a resolver, by their words.
+-- The lines that call a resolver, by their words.
 use Rattle.std.specs.Prelude.{◌≡◌, ◌≢◌, ℕ, ◌^◌, ◌<◌, List, [], ◌∷◌, length, decimal, codes, Option, MatchOption, ⊤}
 use Rattle.simplex_types.specs.Reasons.{kind_text}
 use Rattle.simplex_program.specs.Words.{flag_word}
 use Rattle.simplex_program.specs.declared.resolver_line.ResolverLine.{ResolverLine}
 use Rattle.simplex_program.specs.declared.resolver_line.ResolverLine.TheVariants.{Notarization, Nullification, Finalization, Certified, Replayed, Settled, KeySettled, Uncertifiable, Produce, Outstanding}
 
--- the words that ask for a line
+-- the words of a line
 abbrev pub line_words : ResolverLine → List (List ℕ)
 line_words (Notarization view) = codes "notarization" ∷ decimal view ∷ []
 line_words (Nullification view) = codes "nullification" ∷ decimal view ∷ []
@@ -31,17 +31,17 @@ HasSmallView (Uncertifiable view) = view < 2 ^ 64
 HasSmallView (Produce view) = view < 2 ^ 64
 HasSmallView Outstanding = ⊤
 
--- the line has so many words
+-- the line has this number of words
 abbrev pub HasLineWords : ℕ → ResolverLine → Type 0
 HasLineWords count line = length (line_words line) ≡ count
 
--- the line that the words ask for, and none where they ask for none with so many words
+-- the line that the words ask for, and none if they ask for none with this number of words
 abbrev pub ReadsLineOf : ℕ → List (List ℕ) → Option ResolverLine → Type 0
 ReadsLineOf count words r = MatchOption r
     ((line : ResolverLine) → HasLineWords count line → HasSmallView line → words ≢ line_words line)
     (λ line. words ≡ line_words line)
 
--- the line that the words ask for, and none where they ask for none
+-- the line that the words ask for, and none if they ask for none
 abbrev pub ReadsLine : List (List ℕ) → Option ResolverLine → Type 0
 ReadsLine words r = MatchOption r
     ((line : ResolverLine) → HasSmallView line → words ≢ line_words line)

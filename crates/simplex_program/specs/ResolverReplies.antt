@@ -1,4 +1,4 @@
--- What a resolver behind lines replies to each line, and what it leaves: its facts, and the views whose fetch is open.
+-- What a resolver that lines call replies to each line, and its facts and the views with an open fetch then.
 use Rattle.std.specs.Prelude.{◌≡◌, ◌≢◌, ℕ, ◌-◌, ◌≤◌, Bool, false, ◌&&◌, if◌then◌else◌, List, [], ◌∷◌}
 use Rattle.std.specs.FinMap as map
 use Rattle.std.specs.Int.{w64, to_be_bytes}
@@ -18,9 +18,9 @@ use Rattle.simplex_program.specs.declared.resolver.Answer.{Answer}
 use Rattle.simplex_program.specs.declared.resolver.Answer.TheVariants as answer
 use Rattle.simplex_program.specs.Plain.{round_in_epoch}
 
--- the certificates that lines stand for: good ones of epoch 1, whose proposal follows the view before, with payload 0
+-- the certificates that lines name: valid ones of epoch 1, whose proposal follows the view before, with payload 0
 
--- the certificate that stands for any proposal of a view
+-- the certificate for any proposal of a view
 abbrev pub proposed_at : ℕ → ProposalFacts (List ℕ)
 proposed_at v = record {
   proposal = record { round = round_in_epoch v; parent = v - 1; payload = to_be_bytes w64 0 };
@@ -31,16 +31,16 @@ proposed_at v = record {
 abbrev pub nullified_at : ℕ → NullificationFacts
 nullified_at v = record { round = round_in_epoch v; bytes = 1 ∷ [] }
 
--- a proposal is the one that a line stands for
+-- a proposal is the one that a line names
 pub record IsProposedAt (v : ℕ) (p : Proposal PlainDigest) : Type 0 where
   pub above : 1 ≤ v
   pub round : p.round ≡ round_in_epoch v
   pub parent : p.parent ≡ v - 1
   pub payload : digest_bytes p.payload ≡ to_be_bytes w64 0
 
--- what a line hands to the resolver, by the bytes of the payload
+-- a line's calls of the resolver, by the bytes of the payload
 
--- what a line on a notarization tells the resolver
+-- the resolver's call for a line on a notarization
 abbrev pub notarization_call : ℕ → Call
 notarization_call v = update {D = List ℕ} (λ payload. payload) (Notarized (proposed_at v))
 
@@ -60,7 +60,7 @@ verdict_call v success = verdict {D = List ℕ} (λ payload. payload) (proposed_
 abbrev pub IsUnchanged : {F : Type 0} → F → List ℕ → F → List ℕ → Type 0
 IsUnchanged x fetching y left = (y ≡ x) × (left ≡ fetching)
 
--- a call is answered with its effects, which are applied to the open fetches, or refused
+-- a call returns its effects, which are applied to the open fetches, or is refused
 abbrev pub Calls : ResolverFacts → List ℕ → ℕ → Call → Answer → ResolverFacts → List ℕ → Type 0
 Calls x fetching v call (answer.Effects told) y left =
     (x.is_failed ≡ false) × (told.items ≡ effects x call) × (y ≡ after x call) × IsApplied fetching told.items left
@@ -72,22 +72,25 @@ abbrev pub Reports : ResolverFacts → List ℕ → ℕ → Call → Answer → 
 Reports x fetching v call a y left =
     (v ≡ 0 → (a ≡ answer.NotAllowed) × IsUnchanged x fetching y left) × (1 ≤ v → Calls x fetching v call a y left)
 
--- the views whose fetch is open are the reply
+-- the views with an open fetch are the reply
 abbrev pub Lists : List ℕ → Answer → Type 0
 Lists fetching (answer.Outstanding views) = views.items ≡ fetching
 Lists _ _ = ⊥
 
--- the reply to a line, and what it leaves
+-- the reply to a line, and the facts and open fetches after it
 abbrev pub ResolverAnswers : ResolverFacts → List ℕ → ResolverLine → Answer → ResolverFacts → List ℕ → Type 0
 ResolverAnswers x fetching (Notarization v) a y left = Reports x fetching v (notarization_call v) a y left
 ResolverAnswers x fetching (Nullification v) a y left = Reports x fetching v (nullification_call v) a y left
 ResolverAnswers x fetching (Finalization v) a y left = Reports x fetching v (finalization_call v) a y left
 ResolverAnswers x fetching (Certified v success) a y left = Reports x fetching v (verdict_call v success) a y left
 ResolverAnswers x fetching Replayed a y left = Calls x fetching 0 EndOfReplay a y left
-ResolverAnswers x fetching (Settled v kind) a y left = (a ≡ answer.Flag (is_settled x v kind)) × IsUnchanged x fetching y left
+ResolverAnswers x fetching (Settled v kind) a y left =
+    (a ≡ answer.Flag (is_settled x v kind)) × IsUnchanged x fetching y left
 ResolverAnswers x fetching (KeySettled v) a y left =
     (a ≡ answer.Flag (is_settled x v OfNullification && is_settled x v OfNotarization)) × IsUnchanged x fetching y left
-ResolverAnswers x fetching (Uncertifiable v) a y left = (a ≡ answer.Flag (map.contains_key x.uncertifiable v)) × IsUnchanged x fetching y left
+ResolverAnswers x fetching (Uncertifiable v) a y left =
+    (a ≡ answer.Flag (map.contains_key x.uncertifiable v)) × IsUnchanged x fetching y left
 ResolverAnswers x fetching (Produce v) a y left =
-    (a ≡ (if x.is_failed then answer.Fault Failed else answer.Encoding (served_encoding x v))) × IsUnchanged x fetching y left
+    (a ≡ (if x.is_failed then answer.Fault Failed else answer.Encoding (served_encoding x v)))
+    × IsUnchanged x fetching y left
 ResolverAnswers x fetching Outstanding a y left = Lists fetching a × IsUnchanged x fetching y left

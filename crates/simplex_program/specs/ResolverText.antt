@@ -17,7 +17,7 @@ effect_words (effect.Settled kind start end) = codes "settled" ∷ kind_text kin
 effect_words (effect.Finalized view) = codes "finalized" ∷ decimal view ∷ []
 effect_words (effect.Raised view) = codes "raised" ∷ decimal view ∷ []
 
--- the effects of a call, with a semicolon behind each but the last, or a dash where there is none
+-- the effects of a call, with a semicolon after each but the last, or a dash if there is none
 abbrev pub effects_text : List Effect → List ℕ
 effects_text [] = codes "-"
 effects_text (e ∷ es) = text_of (effect_words e) ++ flat_map (λ other. codes "; " ++ text_of (effect_words other)) es

@@ -35,7 +35,8 @@ abbrev pub network_terms : Network → Terms
 network_terms n = record { term_length = n.term_length; optimistic_views = n.optimistic; stall_timeout = None }
 
 -- a configuration of a member of the network
-pub record IsNetworkConfig {C G : Type 0} (n : Network) (c : Config PlainScheme PlainElector PlainKey C G) : Type 0 where
+pub record IsNetworkConfig {C G : Type 0} (n : Network)
+    (c : Config PlainScheme PlainElector PlainKey C G) : Type 0 where
   pub count : members_of c.elector ≡ n.members
   pub terms : terms_of c.elector ≡ network_terms n
   pub signer : signer_of c.scheme ≡ n.me
@@ -69,11 +70,13 @@ IsGenesisStart n now start =
     (e : PlainElector) × (payload : PlainDigest) × IsGenesis n e payload × (start ≡ genesis_start n e payload now)
 
 -- a start of plain parts, as facts
-abbrev pub plain_start : Start PlainScheme PlainElector PlainDigest PlainKey PlainSignature PlainCertificate → StartFacts PlainKey PlainElector PlainDigest
+abbrev pub plain_start : Start PlainScheme PlainElector PlainDigest PlainKey PlainSignature PlainCertificate
+    → StartFacts PlainKey PlainElector PlainDigest
 plain_start start = start_facts signer_of keys_of terms_of (λ _. true) plain_bytes start
 
 -- a member that has started at genesis of the network, at moment 0
 abbrev pub StartsAtGenesis : Network → PlainMember → Type 0
 StartsAtGenesis n m =
     (start : StartFacts PlainKey PlainElector PlainDigest)
-    × IsGenesisStart n 0 start × (m ≡ started_member same_payload plain_leader (new_state start.setup) start.floor start.now)
+    × IsGenesisStart n 0 start
+    × (m ≡ started_member same_payload plain_leader (new_state start.setup) start.floor start.now)

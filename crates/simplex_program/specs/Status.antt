@@ -1,9 +1,9 @@
--- How the program ends where it can't serve on.
+-- How the program ends if it can't continue to serve.
 use Rattle.std.specs.Prelude.{ℕ}
 use Rattle.simplex_program.specs.declared.serve_error.ServeError.{ServeError}
 use Rattle.simplex_program.specs.declared.serve_error.ServeError.TheVariants.{NotACall, OutOfMemory, Read, Write}
 
--- the status that tells why the program ended
+-- the exit status for the reason why the program ended
 abbrev pub exit_status : ServeError → ℕ
 exit_status (NotACall _) = 3
 exit_status OutOfMemory = 4

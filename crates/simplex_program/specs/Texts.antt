@@ -1,4 +1,4 @@
--- How replies are written: words parted by one space, as those of a line are.
+-- The text of replies: one space separates words, as in a line.
 use Rattle.std.specs.Prelude.{ℕ, List, [], ◌∷◌, codes, decimal}
 use Rattle.std.specs.List.{join_with_byte}
 use Rattle.simplex_types.specs.declared.types.fault.Fault.{Fault}
@@ -12,7 +12,7 @@ use Rattle.simplex_record.specs.Errors.{recover_error_name}
 abbrev pub text_of : List (List ℕ) → List ℕ
 text_of words = join_with_byte 32 words
 
--- the number by which a fault is told
+-- the number of a fault
 abbrev pub fault_number : Fault → ℕ
 fault_number fault.OutOfMemory = 1
 fault_number fault.Failed = 2
@@ -23,7 +23,7 @@ fault_number fault.TimeOverflow = 4
 abbrev pub fault_words : Fault → List (List ℕ)
 fault_words f = codes "fault" ∷ decimal (fault_number f) ∷ fault_name f ∷ []
 
--- the number by which a refused restart is told
+-- the number of a refused restart
 abbrev pub refusal_number : RecoverError → ℕ
 refusal_number error.OutOfOrder = 1
 refusal_number error.OtherEpoch = 2

@@ -24,7 +24,7 @@ use Rattle.simplex_program.specs.VoterLine.{HasSmallNumbers, voter_words}
 use Rattle.simplex_program.specs.VoterText.{voter_reply_words}
 use Rattle.simplex_program.specs.Words.{words_in}
 
--- what lines are asked of: a member of a network, or a resolver and the views whose fetch is open
+-- what lines call: a member of a network, or a resolver and the views with an open fetch
 pub data Asked : Type 0 where
   Member : Network → PlainMember → Asked
   Resolver : ResolverFacts → List ℕ → Asked
@@ -34,7 +34,7 @@ abbrev pub IsNamed : ℕ → Option ℕ → ℕ → ℕ → Network → Type 0
 IsNamed members me term_length optimistic n =
     (n.members ≡ members) × (n.me ≡ me) × (n.term_length ≡ term_length) × (n.optimistic ≡ optimistic)
 
--- how what lines are asked of begins
+-- how what lines call begins
 abbrev pub Begins : Mode → Asked → Type 0
 Begins (mode.Voter members me term_length optimistic) (Member n m) =
     IsNamed members me term_length optimistic n × StartsAtGenesis n m
@@ -45,7 +45,7 @@ Begins _ _ = ⊥
 abbrev pub reply_line : List ℕ → List ℕ
 reply_line text = text ++ 10 ∷ []
 
--- the text asks for a line, which is answered; what the reply is, and what is left
+-- the text asks for a line, which has a reply; the reply, and what lines call after it
 abbrev pub Replies : Asked → List ℕ → List ℕ → Asked → Type 0
 Replies (Member n m) text reply (Member o left) =
     (line : VoterLine) × (answer : VoterAnswer) × (words_in text ≡ voter_words line)
@@ -60,12 +60,12 @@ abbrev pub IsOfNoLine : Asked → List ℕ → Type 0
 IsOfNoLine (Member _ _) text = (line : VoterLine) → HasSmallNumbers line → words_in text ≢ voter_words line
 IsOfNoLine (Resolver _ _) text = (line : ResolverLine) → HasSmallView line → words_in text ≢ line_words line
 
--- a line is no call: it is longer than 200 bytes, not UTF-8, or asks for nothing that there is
+-- a line is no call: it is longer than 200 bytes, not UTF-8, or no line of the program
 abbrev pub IsNoCall : Asked → List ℕ → Type 0
-IsNoCall asked line = (200 < length (without_feed line)) ⊎ (¬ (IsUtf8 (without_feed line)) ⊎ IsOfNoLine asked (without_feed line))
+IsNoCall asked line = (200 < length (without_feed line))
+    ⊎ (¬ (IsUtf8 (without_feed line)) ⊎ IsOfNoLine asked (without_feed line))
 
--- how far serving has come: what the next line is asked of, the bytes that the reader has left and those that the writer
--- holds, where they are known
+-- the state of serving: what the next line calls, the bytes that the reader has left and those that the writer has, if they are known
 pub record Point : Type 0 where
   pub asked : Asked
   pub left : Option (List ℕ)
@@ -75,42 +75,46 @@ pub record Point : Type 0 where
 abbrev pub IsCalled : Point → List ℕ → List ℕ → Asked → Option (List ℕ) → Type 0
 IsCalled p line reply asked left = IsNextLine p.left line left × Replies p.asked (without_feed line) reply asked
 
--- a line is answered, and its reply is written
+-- a line is replied to, and its reply is written
 abbrev pub IsLineAnswered : Point → List ℕ → Point → Type 0
 IsLineAnswered p line q = (reply : List ℕ) × IsCalled p line reply q.asked q.left × Appends p.held q.held reply
 
--- lines are answered one by one
+-- lines are replied to one by one
 abbrev pub AreAnswered : Point → List (List ℕ) → Point → Type 0
 AreAnswered p [] q = p ≡ q
 AreAnswered p (line ∷ lines) q = (r : Point) × IsLineAnswered p line r × AreAnswered r lines q
 
--- some front of the bytes is written
+-- a prefix of the bytes is written
 abbrev pub AppendsFront : Option (List ℕ) → Option (List ℕ) → List ℕ → Type 0
 AppendsFront old new bytes = (front : List ℕ) × (others : List ℕ) × (bytes ≡ front ++ others) × Appends old new front
 
--- how serving ends before line k, and what the writer holds then: where no byte is left, or after 2^64 - 2 lines; at a line
--- that is no call; where a read or a write failed; for want of memory. No byte is written of a reply, but where a write failed
+-- how serving ends before line k, and what the writer has then: because no byte is left, or after 2^64 - 2 lines; at a line that is no
+-- call; because a read or a write failed; or because memory ran out. No byte of a reply is written, unless a write failed
 abbrev pub EndsServing : Point → ℕ → Result (Unit {0}) ServeError → Option (List ℕ) → Type 0
 EndsServing p k (Ok _) held = (IsAtEnd p.left ⊎ (k ≡ 2 ^ 64 - 1)) × Keeps p.held held
 EndsServing p k (Err (NotACall n)) held =
-    (n ≡ k) × Keeps p.held held × ((line : List ℕ) × (rest : Option (List ℕ)) × IsNextLine p.left line rest × IsNoCall p.asked line)
+    (n ≡ k) × Keeps p.held held
+    × ((line : List ℕ) × (rest : Option (List ℕ)) × IsNextLine p.left line rest × IsNoCall p.asked line)
 EndsServing p k (Err OutOfMemory) held = Keeps p.held held
 EndsServing p k (Err Read) held = Keeps p.held held
 EndsServing p k (Err Write) held =
-    (line : List ℕ) × (reply : List ℕ) × (asked : Asked) × (left : Option (List ℕ)) × IsCalled p line reply asked left × AppendsFront p.held held reply
+    (line : List ℕ) × (reply : List ℕ) × (asked : Asked) × (left : Option (List ℕ)) × IsCalled p line reply asked left
+    × AppendsFront p.held held reply
 
--- one turn of serving, before line k: a line is answered; or no byte is left; or serving ends
+-- one turn of serving, before line k: a line is replied to; or no byte is left; or serving ends
 abbrev pub Advances : Point → ℕ → Result Bool ServeError → Point → Type 0
 Advances p k (Ok true) q = (line : List ℕ) × IsLineAnswered p line q
 Advances p k (Ok false) q = IsAtEnd p.left × Keeps p.held q.held
 Advances p k (Err e) q = EndsServing p k (Err e) q.held
 
--- from some point on: lines are answered, and then serving ends
+-- from some point on: lines are replied to, and then serving ends
 abbrev pub Continues : Point → Result (Unit {0}) ServeError → Option (List ℕ) → Type 0
-Continues p r held = (lines : List (List ℕ)) × (q : Point) × AreAnswered p lines q × EndsServing q (length lines + 1) r held
+Continues p r held = (lines : List (List ℕ)) × (q : Point) × AreAnswered p lines q
+    × EndsServing q (length lines + 1) r held
 
--- serving in a mode: what the reader has to give and what the writer holds before, how it ends, and what the writer holds then
-abbrev pub Transcribes : Mode → Option (List ℕ) → Option (List ℕ) → Result (Unit {0}) ServeError → Option (List ℕ) → Type 0
+-- serving in a mode: what the reader has left and what the writer has before, how it ends, and what the writer has then
+abbrev pub Transcribes : Mode → Option (List ℕ) → Option (List ℕ) → Result (Unit {0}) ServeError
+    → Option (List ℕ) → Type 0
 Transcribes mode left held r after =
     ((r ≡ Err OutOfMemory) × Keeps held after)
     ⊎ ((asked : Asked) × Begins mode asked × Continues (record { asked = asked; left = left; held = held }) r after)

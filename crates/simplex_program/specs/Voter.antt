@@ -1,4 +1,4 @@
--- What a voter behind lines does: the call that each line stands for, its reply, and what it leaves of the member.
+-- What a voter that lines call does: the call of each line, its reply, and the member after it.
 use Rattle.std.specs.Prelude.{◌≡◌, ◌⊎◌, ℕ, Bool, true, false, [], ◌∷◌, length, Option, Some, None}
 use Rattle.std.specs.Int.{w64, to_be_bytes}
 use Rattle.simplex_types.specs.declared.types.messages.Proposal.{Proposal}
@@ -22,24 +22,26 @@ use Rattle.simplex_program.specs.declared.voter.VoterAnswer.TheVariants as answe
 use Rattle.simplex_program.specs.Plain.{PlainMember, PlainCall, same_payload, plain_leader, plain_bytes, round_in_epoch}
 use Rattle.simplex_program.specs.Setup.{IsGenesisStart}
 
--- the payload and the proposal that the numbers of a line stand for
+-- the payload and the proposal that the numbers of a line name
 
 -- a payload is the bytes of this number
 abbrev pub IsPayload : ℕ → PlainDigest → Type 0
 IsPayload d payload = digest_bytes payload ≡ to_be_bytes w64 d
 
--- a proposal is of these numbers
+-- a proposal has these numbers
 pub record IsProposal (v p d : ℕ) (q : Proposal PlainDigest) : Type 0 where
   pub round : q.round ≡ round_in_epoch v
   pub parent : q.parent ≡ p
   pub payload : IsPayload d q.payload
 
--- the call that a line stands for; its certificate is good, its proposal is of the view that it is handed in for, and a
--- proposal that is rejected is invalid
+-- the call that a line names; its certificate is valid, its proposal is of the view that it is passed for, and a rejected proposal is
+-- invalid
 abbrev pub DenotesCall : VoterLine → PlainCall → Type 0
 DenotesCall (Notarization v p d) (AddNotarization c) = IsProposal v p d c.proposal × (c.bytes ≡ 1 ∷ [])
-DenotesCall (Nullification v now) (AddNullification c moment) = (c.round ≡ round_in_epoch v) × (c.bytes ≡ 1 ∷ []) × (moment ≡ now)
-DenotesCall (Finalization v p d now) (AddFinalization c moment) = IsProposal v p d c.proposal × (c.bytes ≡ 1 ∷ []) × (moment ≡ now)
+DenotesCall (Nullification v now) (AddNullification c moment) =
+    (c.round ≡ round_in_epoch v) × (c.bytes ≡ 1 ∷ []) × (moment ≡ now)
+DenotesCall (Finalization v p d now) (AddFinalization c moment) =
+    IsProposal v p d c.proposal × (c.bytes ≡ 1 ∷ []) × (moment ≡ now)
 DenotesCall (Verdict v success now) call = call ≡ Certified v success now
 DenotesCall (ProposalOf v p d) (SetProposal w q) = (w ≡ v) × IsProposal v p d q
 DenotesCall Propose call = call ≡ TryPropose
@@ -64,7 +66,7 @@ DenotesCall (Timeout now) call = call ≡ NextTimeout now
 DenotesCall Prune call = call ≡ PruneCall
 DenotesCall _ _ = ⊥
 
--- the lines that stand for calls: a certificate or a verdict is brought
+-- the lines that are calls: a certificate or a verdict is passed
 abbrev pub brings : VoterLine → Bool
 brings (Notarization _ _ _) = true
 brings (Nullification _ _) = true
@@ -72,7 +74,7 @@ brings (Finalization _ _ _ _) = true
 brings (Verdict _ _ _) = true
 brings _ = false
 
--- this member builds_proposals a proposal
+-- this member builds a proposal
 abbrev pub builds_proposals : VoterLine → Bool
 builds_proposals Propose = true
 builds_proposals (Built _ _ _) = true
@@ -81,7 +83,7 @@ builds_proposals (Abandon _) = true
 builds_proposals (Release _) = true
 builds_proposals _ = false
 
--- a leader's proposal comes, is verified or certified
+-- a leader's proposal arrives, is verified or certified
 abbrev pub is_about_proposals : VoterLine → Bool
 is_about_proposals (ProposalOf _ _ _) = true
 is_about_proposals Verify = true
@@ -103,17 +105,17 @@ asks (Timeout _) = true
 asks Prune = true
 asks _ = false
 
--- what a member shows of its state
+-- what a member reports of its state
 abbrev pub shown_views : Option (StateFacts PlainKey PlainElector PlainDigest) → VoterAnswer
 shown_views None = answer.Failed
 shown_views (Some x) = answer.Views x.current x.finalized (min_active x)
 
--- the reply to a call, and what it leaves
+-- the reply to a call, and the member after it
 abbrev pub IsReplied : PlainMember → PlainCall → VoterAnswer → PlainMember → Type 0
 IsReplied m call (answer.Reply reply) left = IsCall same_payload plain_leader m call (told plain_bytes reply) left
 IsReplied _ _ _ _ = ⊥
 
--- what a restart of the network's member answers, and what it leaves; the record is cut as asked, and pruned or not
+-- the result of a restart of the network's member, and the member after it; the record is cut as asked, and pruned or not
 abbrev pub IsRestarted : Network → PlainMember → ℕ → Bool → ℕ → VoterAnswer → PlainMember → Type 0
 IsRestarted n m drop prune now (answer.Restarted result) left =
     (start : StartFacts PlainKey PlainElector PlainDigest)
@@ -121,7 +123,7 @@ IsRestarted n m drop prune now (answer.Restarted result) left =
     × IsRestart same_payload plain_leader m (record { drop = drop; prune = prune; start = start }) result left
 IsRestarted _ _ _ _ _ _ _ = ⊥
 
--- whether a line stands for no call
+-- whether a line is no call of the member
 abbrev pub is_no_call : VoterLine → Bool
 is_no_call (Restart _ _) = true
 is_no_call (RestartPruned _ _) = true
@@ -136,7 +138,7 @@ IsDone n m (RestartPruned drop now) a left = IsRestarted n m drop true now a lef
 IsDone n m Record a left = (a ≡ answer.Entries (length m.entries)) × (left ≡ m)
 IsDone n m _ a left = (a ≡ shown_views m.life) × (left ≡ m)
 
--- the reply to a line, and what it leaves
+-- the reply to a line, and the member after it
 abbrev pub VoterAnswers : Network → PlainMember → VoterLine → VoterAnswer → PlainMember → Type 0
 VoterAnswers n m line a left =
     ((is_no_call line ≡ true) × IsDone n m line a left)

@@ -1,4 +1,4 @@
--- The lines that ask a voter, by their words.
+-- The lines that call a voter, by their words.
 use Rattle.std.specs.Prelude.{◌≡◌, ◌≢◌, ℕ, ◌^◌, ◌<◌, List, [], ◌∷◌, length, decimal, codes, Option, MatchOption, ⊤}
 use Rattle.simplex_types.specs.Reasons.{timeout_reason_text}
 use Rattle.simplex_program.specs.Words.{flag_word, ReadsWord}
@@ -17,7 +17,7 @@ kind_word kind.Finalization = codes "finalization"
 abbrev pub ReadsCertificateKind : List ℕ → Option CertificateKind → Type 0
 ReadsCertificateKind = ReadsWord kind_word
 
--- the words that ask for a line
+-- the words of a line
 abbrev pub voter_words : VoterLine → List (List ℕ)
 voter_words (Notarization view parent payload) = codes "notarization" ∷ decimal view ∷ decimal parent ∷ decimal payload ∷ []
 voter_words (Nullification view now) = codes "nullification" ∷ decimal view ∷ decimal now ∷ []
@@ -51,7 +51,8 @@ voter_words Views = codes "view" ∷ []
 abbrev pub HasSmallNumbers : VoterLine → Type 0
 HasSmallNumbers (Notarization view parent payload) = (view < 2 ^ 64) × (parent < 2 ^ 64) × (payload < 2 ^ 64)
 HasSmallNumbers (Nullification view now) = (view < 2 ^ 64) × (now < 2 ^ 64)
-HasSmallNumbers (Finalization view parent payload now) = (view < 2 ^ 64) × (parent < 2 ^ 64) × (payload < 2 ^ 64) × (now < 2 ^ 64)
+HasSmallNumbers (Finalization view parent payload now) =
+    (view < 2 ^ 64) × (parent < 2 ^ 64) × (payload < 2 ^ 64) × (now < 2 ^ 64)
 HasSmallNumbers (Verdict view success now) = (view < 2 ^ 64) × (now < 2 ^ 64)
 HasSmallNumbers (Notarize view) = view < 2 ^ 64
 HasSmallNumbers (Nullify view) = view < 2 ^ 64
@@ -77,17 +78,17 @@ HasSmallNumbers (RestartPruned drop now) = (drop < 2 ^ 64) × (now < 2 ^ 64)
 HasSmallNumbers Record = ⊤
 HasSmallNumbers Views = ⊤
 
--- the line has so many words
+-- the line has this number of words
 abbrev pub HasVoterWords : ℕ → VoterLine → Type 0
 HasVoterWords count line = length (voter_words line) ≡ count
 
--- the line that the words ask for, and none where they ask for none with so many words
+-- the line that the words ask for, and none if they ask for none with this number of words
 abbrev pub ReadsVoterLineOf : ℕ → List (List ℕ) → Option VoterLine → Type 0
 ReadsVoterLineOf count words r = MatchOption r
     ((line : VoterLine) → HasVoterWords count line → HasSmallNumbers line → words ≢ voter_words line)
     (λ line. words ≡ voter_words line)
 
--- the line that the words ask for, and none where they ask for none
+-- the line that the words ask for, and none if they ask for none
 abbrev pub ReadsVoterLine : List (List ℕ) → Option VoterLine → Type 0
 ReadsVoterLine words r = MatchOption r
     ((line : VoterLine) → HasSmallNumbers line → words ≢ voter_words line)

@@ -34,7 +34,7 @@ PlainReply = Reply PlainScheme PlainDigest PlainKey PlainSignature PlainCertific
 abbrev pub PlainCertified : Type 0
 PlainCertified = Certificate PlainScheme PlainDigest PlainKey PlainSignature PlainCertificate
 
--- a payload is told as a number, whose bytes it is
+-- a payload is written as a number, whose bytes it is
 abbrev pub payload_word : PlainDigest → List ℕ
 payload_word payload = decimal (from_be_bytes w64 (digest_bytes payload))
 
@@ -53,7 +53,8 @@ proposal_words first p = first ∷ decimal p.round.view ∷ decimal p.parent ∷
 
 -- a view, its leader, and the view and the payload of the parent to build on; then other words
 abbrev pub context_words : List ℕ → Context PlainDigest PlainKey → List (List ℕ) → List (List ℕ)
-context_words first x others = first ∷ decimal x.round.view ∷ key_word x.leader ∷ decimal x.parent.0 ∷ payload_word x.parent.1 ∷ others
+context_words first x others =
+    first ∷ decimal x.round.view ∷ key_word x.leader ∷ decimal x.parent.0 ∷ payload_word x.parent.1 ∷ others
 
 -- a request to build, in words
 abbrev pub request_words : ProposalRequest PlainDigest PlainKey → List (List ℕ)
@@ -67,7 +68,7 @@ verify_words (verify.Resolve proposal view kind target) =
     codes "resolve" ∷ decimal proposal ∷ decimal view ∷ kind_text kind ∷ key_word target ∷ []
 verify_words verify.Wait = codes "wait" ∷ []
 
--- the view of a proposal that is offered; and of one that waits, with the view whose notarization is to be fetched
+-- the view of an offered proposal; and of one that waits, with the view whose notarization is to be fetched
 abbrev pub offer_word : Proposal PlainDigest → List ℕ
 offer_word p = decimal p.round.view
 

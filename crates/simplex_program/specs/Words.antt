@@ -6,11 +6,11 @@ use Rattle.simplex_types.specs.declared.reasons.Kind.{Kind}
 use Rattle.simplex_types.specs.declared.reasons.TimeoutReason.{TimeoutReason}
 use Rattle.simplex_types.specs.Reasons.{kind_text, timeout_reason_text}
 
--- the bytes behind each `&str`
+-- the bytes of each `&str`
 abbrev pub texts_of : List (Bor (List ℕ)) → List (List ℕ)
 texts_of words = map (λ word. word.now) words
 
--- the words of a line: what one space parts from the next
+-- the words of a line, separated by one space each
 abbrev pub words_in : List ℕ → List (List ℕ)
 words_in text = slice_split (λ byte. byte == 32) text
 
@@ -23,14 +23,14 @@ flag_word false = codes "false"
 abbrev pub ReadsWord : {T : Type 0} → (T → List ℕ) → List ℕ → Option T → Type 0
 ReadsWord {T = T} spelled word r = MatchOption r ((x : T) → word ≢ spelled x) (λ x. word ≡ spelled x)
 
--- the word names a truth
+-- the word names a Boolean
 abbrev pub ReadsFlag : List ℕ → Option Bool → Type 0
 ReadsFlag = ReadsWord flag_word
 
--- a kind
+-- the word names a kind
 abbrev pub ReadsKind : List ℕ → Option Kind → Type 0
 ReadsKind = ReadsWord kind_text
 
--- a reason to give a view up
+-- the word names a reason of a timeout
 abbrev pub ReadsTimeoutReason : List ℕ → Option TimeoutReason → Type 0
 ReadsTimeoutReason = ReadsWord timeout_reason_text

@@ -1,9 +1,9 @@
-//! Numbers as lines and arguments write them.
+//! Decimal numbers in lines and arguments.
 
 ghost use Rattle.std.specs.Prelude.{◌↔◌, IsTrue};
 ghost use Rattle.simplex_program.specs.Decimal.{ReadsDecimal, ReadsBetween, IsUnpadded};
 
-/// The number that a word writes in decimal, without a sign or leading zeros.
+/// Returns the number that a word writes in decimal, without a sign or leading zeros.
 pub(crate) fn decimal(word: &str) -> Option<u64>
     ensures { ReadsDecimal word.now result }
 {
@@ -13,7 +13,7 @@ pub(crate) fn decimal(word: &str) -> Option<u64>
     word.parse().ok()
 }
 
-/// The number from `least` to `most` that a word writes in decimal.
+/// Returns the number from `least` to `most` that a word writes in decimal.
 pub(crate) fn decimal_between(word: &str, least: u64, most: u64) -> Option<u64>
     ensures { ReadsBetween least most word.now result }
 {
@@ -24,7 +24,7 @@ pub(crate) fn decimal_between(word: &str, least: u64, most: u64) -> Option<u64>
     Some(number)
 }
 
-/// Whether the word has no plus sign in front, and a zero in front only alone.
+/// Returns whether the word has no plus sign in front, and no leading zero unless it is `0`.
 fn is_unpadded(word: &[u8]) -> bool
     ensures { IsTrue result ↔ IsUnpadded word.now }
 {

@@ -12,9 +12,9 @@ use std::{io, str};
 /// The most bytes of a line, without its line feed.
 pub(crate) const LONGEST_LINE: usize = 200;
 
-/// Reads the next line, with its line feed, in place of what stands in `line`: of a longer line than `LONGEST_LINE` only
-/// its first bytes, which show that it is too long. Answers whether there was a line. The last one may lack its line feed.
-/// An interrupted read is tried again.
+/// Reads the next line, with its line feed, into `line`, and replaces its contents. Of a line longer than `LONGEST_LINE` it reads only the
+/// first bytes, which show that the line is too long. Returns whether there was a line. The last one may have no line feed. An interrupted
+/// read is tried again.
 pub(crate) fn read_line<R: Read + Drop>(
     reader: &mut BufReader<R>,
     line: &mut Vec<u8>,
@@ -38,10 +38,11 @@ pub(crate) fn read_line<R: Read + Drop>(
     Ok(true)
 }
 
-/// Moves to a line what the buffer holds of it. Answers whether the line ends there: with its line feed, or where its bytes
-/// show that it is too long.
+/// Moves the line's bytes in the buffer to a line. Returns whether the line ends there: with its line feed, or because its bytes show that
+/// it is too long.
 fn take_buffered<R: Read + Drop>(reader: &mut BufReader<R>, line: &mut Vec<u8>) -> io::Result<bool>
-    ensures { IfOk result (λ ended. MovesPart ended line.old.items line.new.items (reader_remaining R.remaining reader.old)
+    ensures { IfOk result (λ ended.
+        MovesPart ended line.old.items line.new.items (reader_remaining R.remaining reader.old)
         (reader_remaining R.remaining reader.new)) }
 {
     let room = (LONGEST_LINE + 1).saturating_sub(line.len());
@@ -58,14 +59,14 @@ fn take_buffered<R: Read + Drop>(reader: &mut BufReader<R>, line: &mut Vec<u8>) 
     }
 }
 
-/// Where the first line feed stands.
+/// Returns the place of the first line feed.
 fn feed_in(bytes: &[u8]) -> Option<usize>
     ensures { FindsFeed bytes.now result }
 {
     memchr(b'\n', bytes)
 }
 
-/// Moves so many bytes of the buffer to a line.
+/// Moves `count` bytes of the buffer to a line.
 fn move_buffered<R: Read + Drop>(
     reader: &mut BufReader<R>,
     line: &mut Vec<u8>,
@@ -73,7 +74,8 @@ fn move_buffered<R: Read + Drop>(
 ) -> io::Result<()>
     requires { count ≤ length (reader_buffer reader.old) }
     ensures line { OnOk result (line.new.items ≡ line.old.items ++ take count (reader_buffer reader.old)) }
-    ensures reader { OnOk result (Consumes (reader_remaining R.remaining reader.old) (reader_remaining R.remaining reader.new)
+    ensures reader { OnOk result
+        (Consumes (reader_remaining R.remaining reader.old) (reader_remaining R.remaining reader.new)
         (take count (reader_buffer reader.old))) }
 {
     line.extend_from_slice(&reader.buffer()[..count])?;
@@ -81,7 +83,7 @@ fn move_buffered<R: Read + Drop>(
     Ok(())
 }
 
-/// The next byte, if there is one.
+/// Returns the next byte, if there is one.
 fn next_byte<R: Read + Drop>(reader: &mut R) -> io::Result<Option<u8>>
     ensures { IfOk result (GivesByte (R.remaining reader.old) (R.remaining reader.new)) }
 {
@@ -97,7 +99,7 @@ fn next_byte<R: Read + Drop>(reader: &mut R) -> io::Result<Option<u8>>
     Err(io::Error::from(io::ErrorKind::Interrupted))
 }
 
-/// The text of a line, unless it is too long or not UTF-8.
+/// Returns the text of a line, unless it is too long or not UTF-8.
 pub(crate) fn line_text(line: &[u8]) -> Option<&str>
     ensures { ReadsText line.now result }
 {
@@ -108,7 +110,7 @@ pub(crate) fn line_text(line: &[u8]) -> Option<&str>
     str::from_utf8(bytes).ok()
 }
 
-/// The line without its line feed, if it has one.
+/// Returns the line without its line feed, if it has one.
 fn without_feed(line: &[u8]) -> &[u8]
     ensures { result.now ≡ without_feed line.now }
 {

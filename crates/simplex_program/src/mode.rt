@@ -13,24 +13,24 @@ const MOST_MEMBERS: u64 = 1000;
 /// What the program serves.
 #[derive(Clone, Copy)]
 pub enum Mode {
-    /// One of so many members, which signs by its key or has none. Terms have so many views, and so many views ahead of
-    /// the current one may be voted for.
+    /// One of this number of members, which signs by its key or has none. It fixes the views of a term, and how many views ahead of the
+    /// current one may be voted for.
     Voter {
         members: u32,
         me: Option<u32>,
         term_length: TermLength,
         optimistic: u64,
     },
-    /// A resolver whose terms have so many views.
+    /// A resolver with terms of this length.
     Resolver(TermLength),
 }
 
 impl Mode {
     ghost use Rattle.simplex_program.specs.Mode.{ReadsMode};
 
-    /// The mode that the arguments after the program's name ask for, if they ask for one: `voter`, from 1 to 1000
-    /// members, the index of one of them or `-`, a term length, and views ahead; or `resolver` and a term length. Numbers
-    /// are decimal, without a sign or leading zeros; a term length is from 1 to 2^32 - 1.
+    /// Returns the mode that the arguments after the program's name ask for, if they ask for one. That is `voter`, from 1 to 1000 members,
+    /// the index of one of them or `-`, a term length, and views ahead; or `resolver` and a term length. Numbers are decimal, without a
+    /// sign or leading zeros; a term length is from 1 to 2^32 - 1.
     pub fn read(arguments: &[String]) -> Option<Mode>
         ensures { ReadsMode (map string_bytes arguments.now) result }
     {
@@ -49,7 +49,7 @@ impl Mode {
     }
 }
 
-/// The mode that the words after `voter` ask for.
+/// Returns the mode that the words after `voter` ask for.
 fn voter_mode(members: &str, me: &str, term_length: &str, optimistic: &str) -> Option<Mode>
     ensures { ReadsVoterMode members.now me.now term_length.now optimistic.now result }
 {
@@ -62,7 +62,7 @@ fn voter_mode(members: &str, me: &str, term_length: &str, optimistic: &str) -> O
     })
 }
 
-/// The index of a member below `members`, or no key.
+/// Returns the index of a member below `members`, or no key.
 fn member_of(word: &str, members: u32) -> Option<Option<u32>>
     requires { 0 < members }
     ensures { ReadsMember word.now members result }

@@ -5,8 +5,7 @@ ghost use Rattle.simplex_program.specs.Mode.{IsNetwork};
 
 use simplex_types::types::TermLength;
 
-/// So many members, one of which signs or none; terms of so many views, and so many views ahead of the current one that
-/// may be voted for.
+/// The number of members, one of which signs or none; the length of terms, and how many views ahead of the current one may be voted for.
 #[derive(Clone, Copy)]
 pub struct Network {
     pub members: u32,

@@ -13,12 +13,16 @@ use crate::session::Session;
 use std::alloc::Global;
 use std::io::{BufReader, Read, Write};
 
-/// Answers each line of the reader by a line of the writer, before it reads the next. It asks for a mode that
-/// `Mode::read` can give.
+/// Writes a reply line for each line of the reader, before it reads the next. It asks for a mode that `Mode::read` can return.
 ///
-/// It ends at the end of the reader (or after 2^64 - 2 lines), at the first line that is no call, where a read or a write
-/// fails, or for want of memory. What it wrote is the replies of the lines before, whole and in order; only where a write
-/// failed, a front of one more reply may follow.
+/// It ends at the first of these:
+///
+/// - the end of the reader, or 2^64 - 2 lines;
+/// - a line that is no call;
+/// - a read or a write that fails;
+/// - out of memory.
+///
+/// It wrote the replies of the lines before, whole and in order. Only if a write failed, a prefix of one more reply may follow.
 pub fn serve<R: Read + Drop, W: Write + Drop>(
     alloc: Global,
     mode: Mode,
@@ -49,14 +53,14 @@ pub fn serve<R: Read + Drop, W: Write + Drop>(
     Ok(())
 }
 
-/// Where a line and its reply stand.
+/// The buffers for a line and its reply.
 #[derive(Drop)]
 struct Room {
     line: Vec<u8>,
     reply: String,
 }
 
-/// Answers the next line, which has this number. Answers whether there was one.
+/// Replies to the next line, which has this number. Returns whether there was one.
 fn answer_line<R: Read + Drop, W: Write + Drop>(
     session: &mut Session,
     alloc: Global,
@@ -65,8 +69,16 @@ fn answer_line<R: Read + Drop, W: Write + Drop>(
     room: &mut Room,
     writer: &mut W,
 ) -> Result<bool, ServeError>
-    ensures { Advances (record { asked = asked_of session.old; left = reader_remaining R.remaining reader.old; held = W.contents writer.old })
-        number result (record { asked = asked_of session.new; left = reader_remaining R.remaining reader.new; held = W.contents writer.new }) }
+    ensures { Advances (record {
+      asked = asked_of session.old;
+      left = reader_remaining R.remaining reader.old;
+      held = W.contents writer.old;
+    })
+        number result (record {
+          asked = asked_of session.new;
+          left = reader_remaining R.remaining reader.new;
+          held = W.contents writer.new;
+        }) }
 {
     let Ok(found) = read_line(reader, &mut room.line) else {
         return Err(ServeError::Read);

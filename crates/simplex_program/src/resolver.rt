@@ -1,4 +1,4 @@
-//! A resolver behind lines: what each line does, and its reply.
+//! A resolver that lines call: what each line does, and its reply.
 
 ghost use Rattle.std.specs.Prelude.{◌≡◌, ◌≢◌, [], IfOk, OnOk, MatchOption, true};
 ghost use Rattle.simplex_types.specs.declared.types.fault.Fault.TheVariants.{OutOfMemory};
@@ -19,10 +19,10 @@ use simplex_types::types::{
 use std::alloc::{AllocError, Global};
 use std::collections::BTreeSet;
 
-/// The payload of every proposal that a line stands for.
+/// The payload of every proposal that a line names.
 const PAYLOAD: u64 = 0;
 
-/// A resolver, and the views whose fetch is open.
+/// A resolver, and the views with an open fetch.
 #[derive(Drop)]
 pub(crate) struct Resolver {
     state: State,
@@ -41,7 +41,7 @@ pub enum Answer {
 }
 
 impl Resolver {
-    /// A resolver that replays its journal: it fetches nothing before the line `replayed`.
+    /// Returns a resolver that replays its journal: it fetches nothing before the line `replayed`.
     pub(crate) fn new(alloc: Global, term_length: TermLength) -> Resolver
         ensures state { result.state ≡ empty term_length }
         ensures outstanding { result.outstanding.keys ≡ [] }
@@ -52,9 +52,11 @@ impl Resolver {
         }
     }
 
-    /// Does what the line asks. The one error is want of memory.
+    /// Does what the line asks. The only error is out of memory.
     pub(crate) fn answer(&mut self, alloc: Global, line: ResolverLine) -> Result<Answer, AllocError>
-        ensures { IfOk result (λ answer. ResolverAnswers self.old.state self.old.outstanding.keys line answer self.new.state self.new.outstanding.keys) }
+        ensures { IfOk result (λ answer.
+            ResolverAnswers self.old.state self.old.outstanding.keys line answer self.new.state
+            self.new.outstanding.keys) }
     {
         match line {
             ResolverLine::Notarization(view) => self.notarize(view),
@@ -81,7 +83,8 @@ impl Resolver {
     #[tactic(auto, using(crate::proofs::Reported::named_at))]
     fn notarize(&mut self, view: View) -> Result<Answer, AllocError>
         ensures { IfOk result (λ answer.
-            Reports self.old.state self.old.outstanding.keys view (notarization_call view) answer self.new.state self.new.outstanding.keys) }
+            Reports self.old.state self.old.outstanding.keys view (notarization_call view) answer self.new.state
+            self.new.outstanding.keys) }
     {
         let Some(notarization) = notarization_of(view) else {
             return Ok(Answer::NotAllowed);
@@ -94,7 +97,8 @@ impl Resolver {
 
     fn nullify(&mut self, view: View) -> Result<Answer, AllocError>
         ensures { IfOk result (λ answer.
-            Reports self.old.state self.old.outstanding.keys view (nullification_call view) answer self.new.state self.new.outstanding.keys) }
+            Reports self.old.state self.old.outstanding.keys view (nullification_call view) answer self.new.state
+            self.new.outstanding.keys) }
     {
         if view.is_zero() {
             return Ok(Answer::NotAllowed);
@@ -111,7 +115,8 @@ impl Resolver {
     #[tactic(auto, using(crate::proofs::Reported::named_at))]
     fn finalize(&mut self, view: View) -> Result<Answer, AllocError>
         ensures { IfOk result (λ answer.
-            Reports self.old.state self.old.outstanding.keys view (finalization_call view) answer self.new.state self.new.outstanding.keys) }
+            Reports self.old.state self.old.outstanding.keys view (finalization_call view) answer self.new.state
+            self.new.outstanding.keys) }
     {
         let Some(finalization) = finalization_of(view) else {
             return Ok(Answer::NotAllowed);
@@ -125,7 +130,8 @@ impl Resolver {
     #[tactic(auto, using(crate::proofs::Reported::named_at))]
     fn certify(&mut self, view: View, success: bool) -> Result<Answer, AllocError>
         ensures { IfOk result (λ answer.
-            Reports self.old.state self.old.outstanding.keys view (verdict_call view success) answer self.new.state self.new.outstanding.keys) }
+            Reports self.old.state self.old.outstanding.keys view (verdict_call view success) answer self.new.state
+            self.new.outstanding.keys) }
     {
         let Some(notarization) = notarization_of(view) else {
             return Ok(Answer::NotAllowed);
@@ -137,7 +143,8 @@ impl Resolver {
     }
 
     fn end_replay(&mut self) -> Result<Answer, AllocError>
-        ensures { IfOk result (λ answer. Calls self.old.state self.old.outstanding.keys 0 Replayed answer self.new.state self.new.outstanding.keys) }
+        ensures { IfOk result (λ answer.
+            Calls self.old.state self.old.outstanding.keys 0 Replayed answer self.new.state self.new.outstanding.keys) }
     {
         match self.state.replayed() {
             Ok(effects) => self.apply(effects),
@@ -145,7 +152,7 @@ impl Resolver {
         }
     }
 
-    /// Replies with the effects of a call, which are applied to the open fetches.
+    /// Replies with the effects of a call, and applies them to the open fetches.
     fn apply(&mut self, effects: Vec<Effect>) -> Result<Answer, AllocError>
         ensures state { self.new.state ≡ self.old.state }
         ensures applied { OnOk result (IsApplied self.old.outstanding.keys effects.items self.new.outstanding.keys) }
@@ -158,7 +165,7 @@ impl Resolver {
     }
 }
 
-/// The reply to a refused call, unless it found no memory.
+/// Returns the reply to a refused call, or an error if memory ran out.
 fn refused(fault: Fault) -> Result<Answer, AllocError>
     ensures { IfOk result (λ answer. (answer ≡ IsFault fault) × (fault ≢ OutOfMemory)) }
 {
@@ -168,7 +175,7 @@ fn refused(fault: Fault) -> Result<Answer, AllocError>
     }
 }
 
-/// The proposal of a view that a line stands for, which names the view before it as its parent.
+/// Returns the proposal of a view that a line names; its parent is the view before.
 fn proposal_of(view: View) -> Option<Proposal<PlainDigest>>
     ensures { MatchOption result (view ≡ 0) (IsProposedAt view) }
 {

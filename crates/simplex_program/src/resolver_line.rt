@@ -1,4 +1,4 @@
-//! The lines that ask a resolver.
+//! The lines that call a resolver.
 
 ghost use Rattle.std.specs.Prelude.{◌∷◌, []};
 ghost use Rattle.simplex_program.specs.Words.{words_in, ReadsKind};
@@ -8,7 +8,7 @@ use crate::words::{first_word, flag_of, view_of};
 use simplex_types::reasons::Kind;
 use simplex_types::types::View;
 
-/// What a line asks of a resolver.
+/// A line's call of a resolver.
 #[derive(Clone, Copy)]
 pub enum ResolverLine {
     Notarization(View),
@@ -24,8 +24,8 @@ pub enum ResolverLine {
 }
 
 impl ResolverLine {
-    /// What the text asks, or `None` where it is no call. Words are parted by one space. Lines are told apart by how many words
-    /// they have, and then by the first.
+    /// Returns the call of the text, or `None` if it is no call. One space separates words. A line is recognised by its number of words,
+    /// and then by the first.
     pub(crate) fn parse(text: &str) -> Option<ResolverLine>
         ensures { ReadsLine (words_in text.now) result }
     {
@@ -36,7 +36,7 @@ impl ResolverLine {
     }
 }
 
-/// What a word asks with what stands behind it.
+/// Returns the call of a word and the text after it.
 fn longer_line(word: &str, rest: &str) -> Option<ResolverLine>
     ensures { ReadsLine (word.now ∷ words_in rest.now) result }
 {
@@ -46,7 +46,7 @@ fn longer_line(word: &str, rest: &str) -> Option<ResolverLine>
     }
 }
 
-/// What a word and two more ask, of which the last one is all that is left.
+/// Returns the call of a word and two more, of which the last one is all that is left.
 fn longest_line(word: &str, view: &str, rest: &str) -> Option<ResolverLine>
     ensures { ReadsLine (word.now ∷ view.now ∷ words_in rest.now) result }
 {
@@ -56,7 +56,7 @@ fn longest_line(word: &str, view: &str, rest: &str) -> Option<ResolverLine>
     }
 }
 
-/// What a word alone asks.
+/// Returns the call of a single word.
 fn bare_line(word: &str) -> Option<ResolverLine>
     ensures { ReadsLineOf 1 (word.now ∷ []) result }
 {
@@ -67,7 +67,7 @@ fn bare_line(word: &str) -> Option<ResolverLine>
     }
 }
 
-/// What a word and a view ask.
+/// Returns the call of a word and a view.
 fn line_of_view(word: &str, view: &str) -> Option<ResolverLine>
     ensures { ReadsLineOf 2 (word.now ∷ view.now ∷ []) result }
 {
@@ -83,7 +83,7 @@ fn line_of_view(word: &str, view: &str) -> Option<ResolverLine>
     }
 }
 
-/// What a word, a view and one word more ask.
+/// Returns the call of a word, a view and one word more.
 fn line_of_two(word: &str, view: &str, second: &str) -> Option<ResolverLine>
     ensures { ReadsLineOf 3 (word.now ∷ view.now ∷ second.now ∷ []) result }
 {

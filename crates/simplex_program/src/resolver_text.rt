@@ -38,7 +38,7 @@ fn write_effects<W: fmt::Write>(f: &mut Formatter<W>, effects: &[Effect]) -> fmt
     write_others(f, others)
 }
 
-/// Each effect behind a semicolon and a space.
+/// Writes each effect after a semicolon and a space.
 fn write_others<W: fmt::Write>(f: &mut Formatter<W>, effects: &[Effect]) -> fmt::Result
     ensures { WritesOnOk W.write_str_gives f.old result (flat_map (λ effect. codes "; " ++ text_of (effect_words effect)) effects.now) f.new }
 {

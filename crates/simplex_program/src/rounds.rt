@@ -1,4 +1,4 @@
-//! The rounds of the certificates that lines stand for.
+//! The rounds of the certificates that lines name.
 
 ghost use Rattle.std.specs.Prelude.{◌≡◌, true};
 ghost use Rattle.simplex_program.specs.Plain.{round_in_epoch};
@@ -6,10 +6,10 @@ ghost use Rattle.simplex_program.specs.Plain.{round_in_epoch};
 use simplex_types::types::plain::{PlainCertificate, PlainScheme};
 use simplex_types::types::{Epoch, Nullification, Round, View};
 
-/// The epoch of every certificate and proposal that a line stands for.
+/// The epoch of every certificate and proposal that a line names.
 pub(crate) const EPOCH: u64 = 1;
 
-/// The round of a view.
+/// Returns the round of a view.
 pub(crate) fn round_of(view: View) -> Round
     ensures { result ≡ round_in_epoch view }
 {
@@ -19,7 +19,7 @@ pub(crate) fn round_of(view: View) -> Round
     }
 }
 
-/// The nullification of a view, which is good.
+/// Returns the nullification of a view, which is valid.
 pub(crate) fn nullification_of(view: View) -> Nullification<PlainScheme>
     ensures round { result.round ≡ round_in_epoch view }
     ensures good { result.certificate.good ≡ true }

@@ -1,4 +1,4 @@
-//! How serving ends before the end of the input.
+//! The ways in which serving ends before the end of the input.
 
 ghost use Rattle.std.specs.Prelude.{◌≡◌};
 
@@ -20,7 +20,7 @@ pub enum ServeError {
 impl ServeError {
     ghost use Rattle.simplex_program.specs.Status.{exit_status};
 
-    /// The program's exit status: 3 for a line that is no call, 4 for want of memory, 5 where reading or writing failed.
+    /// Returns the program's exit status: 3 for a line that is no call, 4 for out of memory, 5 if reading or writing failed.
     pub fn status(&self) -> u8
         ensures { result ≡ exit_status self.now }
     {

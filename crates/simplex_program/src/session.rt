@@ -1,4 +1,4 @@
-//! What lines are asked of, and the replies that it writes.
+//! The voter or resolver that lines call, and the replies that it writes.
 
 ghost use Rattle.std.specs.Prelude.{◌≡◌, ◌++◌, ◌∷◌, [], IfOk, OnOk, IfErr, IfSome, string_bytes};
 ghost use Rattle.simplex_program.specs.Mode.{IsServed};
@@ -16,7 +16,7 @@ use crate::voter_line::VoterLine;
 use std::alloc::{AllocError, Global};
 use std::fmt::{Display, Write as _};
 
-/// What the lines are asked of.
+/// The voter or resolver that lines call.
 #[derive(Drop)]
 pub(crate) enum Session {
     Voter(Voter),
@@ -24,7 +24,7 @@ pub(crate) enum Session {
 }
 
 impl Session {
-    /// What a mode asks for, as it begins.
+    /// Starts the session that a mode asks for.
     pub(crate) fn start(alloc: Global, mode: Mode) -> Result<Session, AllocError>
         requires { IsServed mode }
         ensures { IfOk result (λ session. Begins mode (asked_of session)) }
@@ -48,7 +48,7 @@ impl Session {
         }
     }
 
-    /// Writes the reply to the text of a line, with a line feed, in place of what stands in `reply`. The line has this number.
+    /// Writes the reply to the text of a line, with a line feed, in place of the contents of `reply`. The line has this number.
     pub(crate) fn reply_to(
         &mut self,
         alloc: Global,
@@ -56,7 +56,8 @@ impl Session {
         text: &str,
         reply: &mut String,
     ) -> Result<(), ServeError>
-        ensures replied { OnOk result (Replies (asked_of self.old) text.now (string_bytes reply.new) (asked_of self.new)) }
+        ensures replied { OnOk result
+            (Replies (asked_of self.old) text.now (string_bytes reply.new) (asked_of self.new)) }
         ensures refused { IfErr result (IsNotReplied number (asked_of self.old) text.now) }
     {
         match self {
@@ -82,7 +83,7 @@ impl Session {
     }
 }
 
-/// Writes an answer and a line feed in place of what stands in `reply`.
+/// Writes an answer and a line feed in place of the contents of `reply`.
 fn write_reply<D: Display + Drop>(reply: &mut String, answer: D) -> Result<(), ServeError>
     ensures text { OnOk result (IfSome (D.output answer) (λ text. string_bytes reply.new ≡ reply_line text)) }
     ensures refused { IfErr result (λ error. error ≡ OutOfMemory) }

@@ -1,4 +1,4 @@
-//! How faults, refusals and views are written.
+//! The texts of faults, refusals and views.
 
 ghost use Rattle.std.specs.Prelude.{◌≡◌, ◌∷◌, map, decimal};
 ghost use Rattle.std.specs.List.{flat_map};
@@ -10,14 +10,14 @@ use simplex_types::types::{Fault, View};
 use std::fmt;
 use std::fmt::Formatter;
 
-/// A fault, by its number and its name.
+/// Writes a fault, by its number and its name.
 pub(crate) fn write_fault<W: fmt::Write>(f: &mut Formatter<W>, fault: Fault) -> fmt::Result
     ensures { WritesOnOk W.write_str_gives f.old result (text_of (fault_words fault)) f.new }
 {
     write!(f, "fault {} {fault}", fault_number(fault))
 }
 
-/// The number by which a fault is told.
+/// Returns the number of a fault.
 fn fault_number(fault: Fault) -> u8
     ensures { result ≡ fault_number fault }
 {
@@ -29,14 +29,14 @@ fn fault_number(fault: Fault) -> u8
     }
 }
 
-/// Why a restart was refused, by its number and its name.
+/// Writes why a restart was refused, by its number and its name.
 pub(crate) fn write_refusal<W: fmt::Write>(f: &mut Formatter<W>, error: RecoverError) -> fmt::Result
     ensures { WritesOnOk W.write_str_gives f.old result (text_of (refusal_words error)) f.new }
 {
     write!(f, "refused {} {error}", refusal_number(error))
 }
 
-/// The number by which a refusal is told.
+/// Returns the number of a refusal.
 fn refusal_number(error: RecoverError) -> u8
     ensures { result ≡ refusal_number error }
 {
@@ -58,7 +58,7 @@ fn refusal_number(error: RecoverError) -> u8
     }
 }
 
-/// A word, and each view behind a space.
+/// Writes a word, and each view after a space.
 pub(crate) fn write_list<W: fmt::Write>(
     f: &mut Formatter<W>,
     first: &str,
@@ -70,7 +70,7 @@ pub(crate) fn write_list<W: fmt::Write>(
     write_views(f, views)
 }
 
-/// Each view behind a space.
+/// Writes each view after a space.
 fn write_views<W: fmt::Write>(f: &mut Formatter<W>, views: &[View]) -> fmt::Result
     ensures { WritesOnOk W.write_str_gives f.old result (flat_map (λ view. 32 ∷ decimal view) views.now) f.new }
 {

@@ -1,4 +1,4 @@
-//! A voter behind lines: a member of a network of plain parts.
+//! A voter that lines call: a member of a network of plain parts.
 
 ghost use Rattle.std.specs.Prelude.{◌≡◌, false, true, IfOk, length};
 ghost use Rattle.simplex_types.specs.Plain.{members_of, keys_of};
@@ -19,7 +19,7 @@ use std::alloc::{AllocError, Global};
 /// The payload of genesis.
 const GENESIS: u64 = 0;
 
-/// How many views below the last finalized one are kept.
+/// How many views below the last finalized one are retained.
 const RETENTION: u64 = 10;
 
 /// From the entry of a view to its deadline for a proposal, in milliseconds.
@@ -31,7 +31,7 @@ const CERTIFICATION_TIMEOUT: u64 = 2000;
 /// From the first poll after a nullify vote until it is repeated, in milliseconds.
 const TIMEOUT_RETRY: u64 = 500;
 
-/// A member that lines are asked of, and its network.
+/// A member that lines call, and its network.
 #[derive(Drop)]
 pub(crate) struct Voter {
     network: Network,
@@ -41,13 +41,13 @@ pub(crate) struct Voter {
 /// A reply line.
 #[derive(Drop)]
 pub enum VoterAnswer {
-    /// The reply to the call that a line stands for.
+    /// The reply to a line's call.
     Reply(Reply<PlainScheme, PlainDigest>),
     /// Whether the member was restarted.
     Restarted(Result<(), RecoverError>),
     /// How many entries the record has.
     Entries(usize),
-    /// The current view, the last finalized one and the lowest that is kept.
+    /// The current view, the last finalized one and the lowest retained one.
     Views {
         current: View,
         finalized: View,
@@ -58,7 +58,7 @@ pub enum VoterAnswer {
 }
 
 impl Voter {
-    /// A member of the network that starts at genesis, at moment 0.
+    /// Returns a member of the network that starts at genesis, at moment 0.
     pub(crate) fn start(alloc: Global, network: Network) -> Result<Voter, AllocError>
         ensures network { IfOk result (λ voter. voter.network ≡ network) }
         ensures member { IfOk result (λ voter. StartsAtGenesis network voter.member.facts) }
@@ -70,14 +70,15 @@ impl Voter {
         }
     }
 
-    /// Does what the line asks. The one error is want of memory.
+    /// Does what the line asks. The only error is out of memory.
     pub(crate) fn answer(
         &mut self,
         alloc: Global,
         line: VoterLine,
     ) -> Result<VoterAnswer, AllocError>
         ensures network { self.new.network ≡ self.old.network }
-        ensures answer { IfOk result (λ answer. VoterAnswers self.old.network self.old.member.facts line answer self.new.member.facts) }
+        ensures answer { IfOk result
+            (λ answer. VoterAnswers self.old.network self.old.member.facts line answer self.new.member.facts) }
     {
         let Some(call) = call_of(&line) else {
             return self.other(alloc, line);
@@ -89,11 +90,12 @@ impl Voter {
         Ok(VoterAnswer::Reply(reply))
     }
 
-    /// Does what a line asks that stands for no call: a restart, or to be shown something.
+    /// Does what a line asks that is no call of the member: a restart, or to show something.
     fn other(&mut self, alloc: Global, line: VoterLine) -> Result<VoterAnswer, AllocError>
         requires { is_no_call line ≡ true }
         ensures network { self.new.network ≡ self.old.network }
-        ensures done { IfOk result (λ answer. IsDone self.old.network self.old.member.facts line answer self.new.member.facts) }
+        ensures done { IfOk result
+            (λ answer. IsDone self.old.network self.old.member.facts line answer self.new.member.facts) }
     {
         match line {
             VoterLine::Restart { drop, now } => self.restart(alloc, drop, false, now),
@@ -103,7 +105,7 @@ impl Voter {
         }
     }
 
-    /// Begins another life of the member, at genesis and with the same settings.
+    /// Begins another lifetime of the member, at genesis and with the same settings.
     fn restart(
         &mut self,
         alloc: Global,
@@ -112,7 +114,8 @@ impl Voter {
         now: u64,
     ) -> Result<VoterAnswer, AllocError>
         ensures network { self.new.network ≡ self.old.network }
-        ensures restarted { IfOk result (λ answer. IsRestarted self.old.network self.old.member.facts drop prune now answer self.new.member.facts) }
+        ensures restarted { IfOk result
+            (λ answer. IsRestarted self.old.network self.old.member.facts drop prune now answer self.new.member.facts) }
     {
         let start = start_at(alloc, &self.network, now)?;
         let result = self.member.restart(Restart { drop, prune, start });
@@ -136,14 +139,15 @@ impl Voter {
     }
 }
 
-/// How a member of the network starts at genesis.
+/// Returns how a member of the network starts at genesis.
 fn start_at(
     alloc: Global,
     network: &Network,
     now: u64,
 ) -> Result<Start<PlainScheme, PlainElector, PlainDigest>, AllocError>
     ensures facts { IfOk result (λ start. IsGenesisStart network.now now (plain_start start)) }
-    ensures members { IfOk result (λ start. members_of start.settings.elector ≡ length (keys_of start.settings.scheme)) }
+    ensures members { IfOk result
+        (λ start. members_of start.settings.elector ≡ length (keys_of start.settings.scheme)) }
 {
     let settings = settings(alloc, network)?;
     Ok(Start {
@@ -153,7 +157,7 @@ fn start_at(
     })
 }
 
-/// How a member of the network is set up.
+/// Returns the settings of a member of the network.
 fn settings(
     alloc: Global,
     network: &Network,

@@ -1,4 +1,4 @@
-//! The calls that lines stand for. Their certificates and proposals are of one epoch, and the certificates good.
+//! The member's calls that lines name. Their certificates and proposals are of one epoch, and the certificates are valid.
 
 ghost use Rattle.std.specs.Prelude.{◌≡◌, MatchOption, true, false};
 ghost use Rattle.simplex_types.specs.Plain.{digest_bytes};
@@ -14,7 +14,7 @@ use simplex_types::reasons::TimeoutReason;
 use simplex_types::types::plain::{PlainCertificate, PlainDigest, PlainScheme};
 use simplex_types::types::{Finalization, Notarization, Proposal, View};
 
-/// The call that a line stands for, if it stands for one.
+/// Returns the call that a line names, if it names one.
 pub(crate) fn call_of(line: &VoterLine) -> Option<Call<PlainScheme, PlainDigest>>
     ensures { MatchOption result (is_no_call line.now ≡ true) (λ call. DenotesCall line.now (asked plain_bytes call)) }
 {
@@ -30,7 +30,7 @@ pub(crate) fn call_of(line: &VoterLine) -> Option<Call<PlainScheme, PlainDigest>
     asking_call(line)
 }
 
-/// The call of a line that brings a certificate or a verdict.
+/// Returns the call of a line that passes a certificate or a verdict.
 fn certificate_call(line: &VoterLine) -> Option<Call<PlainScheme, PlainDigest>>
     ensures { MatchOption result (brings line.now ≡ false) (λ call. DenotesCall line.now (asked plain_bytes call)) }
 {
@@ -57,9 +57,10 @@ fn certificate_call(line: &VoterLine) -> Option<Call<PlainScheme, PlainDigest>>
     }
 }
 
-/// The call of a line on what this member builds_proposals.
+/// Returns the call of a line about building a proposal.
 fn building_call(line: &VoterLine) -> Option<Call<PlainScheme, PlainDigest>>
-    ensures { MatchOption result (builds_proposals line.now ≡ false) (λ call. DenotesCall line.now (asked plain_bytes call)) }
+    ensures { MatchOption result (builds_proposals line.now ≡ false)
+        (λ call. DenotesCall line.now (asked plain_bytes call)) }
 {
     match *line {
         VoterLine::Propose => Some(Call::TryPropose),
@@ -73,9 +74,10 @@ fn building_call(line: &VoterLine) -> Option<Call<PlainScheme, PlainDigest>>
     }
 }
 
-/// The call of a line on the proposals of leaders, and on how they are judged.
+/// Returns the call of a line about the proposals of leaders, and about their verification and certification.
 fn judging_call(line: &VoterLine) -> Option<Call<PlainScheme, PlainDigest>>
-    ensures { MatchOption result (is_about_proposals line.now ≡ false) (λ call. DenotesCall line.now (asked plain_bytes call)) }
+    ensures { MatchOption result (is_about_proposals line.now ≡ false)
+        (λ call. DenotesCall line.now (asked plain_bytes call)) }
 {
     match *line {
         VoterLine::Proposal {
@@ -95,7 +97,7 @@ fn judging_call(line: &VoterLine) -> Option<Call<PlainScheme, PlainDigest>>
     }
 }
 
-/// The call of a line that asks for a vote, a certificate, the next timeout or a pruning, or brings a timeout.
+/// Returns the call of a line that asks for a vote, a certificate, the next timeout or a pruning, or passes a timeout.
 fn asking_call(line: &VoterLine) -> Option<Call<PlainScheme, PlainDigest>>
     ensures { MatchOption result (asks line.now ≡ false) (λ call. DenotesCall line.now (asked plain_bytes call)) }
 {

@@ -1,4 +1,4 @@
-//! The lines that ask a voter.
+//! The lines that call a voter.
 
 ghost use Rattle.std.specs.Prelude.{◌≡◌, ◌∷◌, [], codes, decimal};
 ghost use Rattle.simplex_program.specs.Words.{words_in};
@@ -17,7 +17,7 @@ pub enum CertificateKind {
     Finalization,
 }
 
-/// What a line asks of a voter. Moments are milliseconds.
+/// A line's call of a voter. Moments are milliseconds.
 #[derive(Clone, Copy)]
 pub enum VoterLine {
     Notarization {
@@ -95,8 +95,8 @@ pub enum VoterLine {
 }
 
 impl VoterLine {
-    /// What the text asks, or `None` where it is no call. Words are parted by one space. Lines are told apart by how many words
-    /// they have, and then by the first.
+    /// Returns the call of the text, or `None` if it is no call. One space separates words. A line is recognised by its number of words,
+    /// and then by the first.
     pub(crate) fn parse(text: &str) -> Option<VoterLine>
         ensures { ReadsVoterLine (words_in text.now) result }
     {
@@ -107,7 +107,7 @@ impl VoterLine {
     }
 }
 
-/// What a word asks with what stands behind it.
+/// Returns the call of a word and the text after it.
 fn longer_line(word: &str, rest: &str) -> Option<VoterLine>
     ensures { ReadsVoterLine (word.now ∷ words_in rest.now) result }
 {
@@ -135,7 +135,7 @@ fn line_behind_two(word: &str, first: &str, second: &str, rest: &str) -> Option<
     }
 }
 
-/// What a word and four more ask, of which the last one is all that is left.
+/// Returns the call of a word and four more, of which the last one is all that is left.
 fn longest_line(
     word: &str,
     view: &str,
@@ -151,7 +151,7 @@ fn longest_line(
     }
 }
 
-/// What a word alone asks.
+/// Returns the call of a single word.
 fn bare_line(word: &str) -> Option<VoterLine>
     ensures { ReadsVoterLineOf 1 (word.now ∷ []) result }
 {
@@ -167,7 +167,7 @@ fn bare_line(word: &str) -> Option<VoterLine>
     }
 }
 
-/// What a word and a number ask: a moment of `timeout`, and else a view.
+/// Returns the call of a word and a number: a moment for `timeout`, and otherwise a view.
 fn line_of_number(word: &str, number: &str) -> Option<VoterLine>
     ensures { ReadsVoterLineOf 2 (word.now ∷ number.now ∷ []) result }
 {
@@ -185,7 +185,7 @@ fn line_of_number(word: &str, number: &str) -> Option<VoterLine>
     }
 }
 
-/// What a word and two more ask.
+/// Returns the call of a word and two more.
 fn line_of_two(word: &str, first: &str, second: &str) -> Option<VoterLine>
     ensures { ReadsVoterLineOf 3 (word.now ∷ first.now ∷ second.now ∷ []) result }
 {
@@ -218,7 +218,7 @@ fn line_of_two(word: &str, first: &str, second: &str) -> Option<VoterLine>
     }
 }
 
-/// What a word, a view and two more words ask.
+/// Returns the call of a word, a view and two more words.
 fn line_of_three(word: &str, view: &str, second: &str, third: &str) -> Option<VoterLine>
     ensures { ReadsVoterLineOf 4 (word.now ∷ view.now ∷ second.now ∷ third.now ∷ []) result }
 {
@@ -283,7 +283,7 @@ fn trigger_line(view: View, reason: &str, now: &str) -> Option<VoterLine>
     })
 }
 
-/// What a word, a view and three more words ask.
+/// Returns the call of a word, a view and three more words.
 fn line_of_four(word: &str, view: &str, parent: &str, payload: &str, now: &str) -> Option<VoterLine>
     ensures { ReadsVoterLineOf 5 (word.now ∷ view.now ∷ parent.now ∷ payload.now ∷ now.now ∷ []) result }
 {

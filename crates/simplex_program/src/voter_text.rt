@@ -109,7 +109,7 @@ fn write_request<W: fmt::Write>(
     }
 }
 
-/// A word, a view, its leader, and the view and the payload of the parent to build on.
+/// Writes a word, a view, its leader, and the view and the payload of the parent to build on.
 fn write_context<W: fmt::Write>(
     f: &mut Formatter<W>,
     first: &str,
@@ -155,7 +155,7 @@ fn write_work<W: fmt::Write>(
     }
 }
 
-/// The views that are offered, and for others the views whose notarization is to be fetched.
+/// Writes the offered views, and for other views those whose notarization is to be fetched.
 fn write_candidates<W: fmt::Write>(
     f: &mut Formatter<W>,
     proposals: &[Proposal<PlainDigest>],
@@ -170,7 +170,7 @@ fn write_candidates<W: fmt::Write>(
     write_fetches(f, fetches)
 }
 
-/// Each view behind a space.
+/// Writes each view after a space.
 fn write_offers<W: fmt::Write>(
     f: &mut Formatter<W>,
     proposals: &[Proposal<PlainDigest>],
@@ -183,7 +183,7 @@ fn write_offers<W: fmt::Write>(
     Ok(())
 }
 
-/// Each pair of views behind a space.
+/// Writes each pair of views after a space.
 fn write_fetches<W: fmt::Write>(f: &mut Formatter<W>, fetches: &[CertificateFetch]) -> fmt::Result
     ensures { WritesOnOk W.write_str_gives f.old result (flat_map (λ fetch. 32 ∷ fetch_word fetch) fetches.now) f.new }
 {
@@ -208,7 +208,7 @@ fn write_certificate<W: fmt::Write>(
     )
 }
 
-/// The word for a certificate's kind.
+/// Returns the word for a certificate's kind.
 fn certificate_kind(certificate: &Certificate<PlainScheme, PlainDigest>) -> &'static str
     ensures { result.now ≡ certificate_word certificate.now }
 {

@@ -9,7 +9,7 @@ use crate::decimal::decimal;
 use simplex_types::reasons::TimeoutReason;
 use simplex_types::types::View;
 
-/// The first word of a text, and what stands behind the space after it, where there is one. One space parts words.
+/// Returns the first word of a text, and the text after the space that follows it, if there is one. One space separates words.
 pub(crate) fn first_word(text: &str) -> (&str, Option<&str>)
     ensures { words_in text.now ≡ result.0.now ∷ option_map_or (λ rest. words_in rest.now) result.1 [] }
 {
@@ -19,14 +19,14 @@ pub(crate) fn first_word(text: &str) -> (&str, Option<&str>)
     }
 }
 
-/// The view that a word writes.
+/// Returns the view that a word writes.
 pub(crate) fn view_of(word: &str) -> Option<View>
     ensures { ReadsDecimal word.now result }
 {
     Some(View::new(decimal(word)?))
 }
 
-/// The truth that a word names.
+/// Returns the Boolean that a word names.
 pub(crate) fn flag_of(word: &str) -> Option<bool>
     ensures { ReadsFlag word.now result }
 {
@@ -37,7 +37,7 @@ pub(crate) fn flag_of(word: &str) -> Option<bool>
     }
 }
 
-/// The reason of a timeout that a word names.
+/// Returns the reason of a timeout that a word names.
 pub(crate) fn timeout_reason_of(word: &str) -> Option<TimeoutReason>
     ensures { ReadsTimeoutReason word.now result }
 {

@@ -24,7 +24,7 @@ use Rattle.simplex_record.proofs.GrowingStates.{added_kept}
 use Rattle.simplex_record.proofs.EntryRules.{GoodRound, Allowed, entry_parent, allowed, round_of_entry, small_entry, none_first}
 use Rattle.simplex_record.proofs.Bearing.{Bears, BearsAll, bears_kept, bears_on, added_bears, replayed_bears, given_bears}
 
--- what does not stand in the entries is not in the round
+-- what is not in the entries is not in the round
 not_there : (held standing : Bool) → (held ≡ true → standing ≡ true) → standing ≡ false → held ≡ false
 not_there false standing shows none = refl
 not_there true standing shows none = absurd (let so = shows refl in cc)
@@ -42,7 +42,7 @@ both_so : (a b : Bool) → a ≡ true → b ≡ false → (a && not b) ≡ true
 both_so a b h k = rw (h, k) refl
 
 module _ {K L D : Type 0} where
-  -- a round of this epoch, of a view that is kept
+  -- a round of this epoch, of a retained view
   round_taken : (x : StateFacts K L D) (round : Round) (parent : Option ℕ) → is_started x ≡ true → GoodRound x.settings.epoch round parent → min_active x ≤ round.view → takes_round x round ≡ true
   round_taken x round parent started good kept =
       let above = good.above in
@@ -68,7 +68,7 @@ module _ {S K D G C : Type 0} (bytes_of : C → List ℕ) (same : D → D → Bo
   round_takes (artifact.Finalization _) r ok b = tt
 
 module _ {K L D : Type 0} (same : D → D → Bool) (elect : Elect L) (now : ℕ) where
-  -- a verdict may be given once it stands again
+  -- a verdict may be given once it is restored
   may_give : (before : List (ArtifactFacts D)) (x : StateFacts K L D) (e : ArtifactFacts D) → is_started x ≡ true → min_active x ≤ entry_view e → BearsAll before x → Allowed same x.settings.epoch x.me before e → GivesVerdict (after_replaying same elect (after_adding same elect x now e) e) e
   may_give before x (Verdict r success) started kept bears ok =
       let v = r.view in
@@ -87,7 +87,7 @@ module _ {K L D : Type 0} (same : D → D → Bool) (elect : Elect L) (now : ℕ
   may_give before x (Accepted c) started kept bears ok = tt
 
 module _ {S K L D G C : Type 0} (bytes_of : C → List ℕ) (same : D → D → Bool) (elect : Elect L) (now : ℕ) where
-  -- an allowed entry of a view that is kept
+  -- an allowed entry of a retained view
   takes_entry : (before : List (ArtifactFacts D)) (x : StateFacts K L D) (a : Artifact S D K G C) → is_started x ≡ true → min_active x ≤ entry_view (artifact_facts bytes_of a) → BearsAll before x → Allowed same x.settings.epoch x.me before (artifact_facts bytes_of a) → TakesEntry bytes_of same elect x now a
   takes_entry before x a started kept bears ok =
       let e = artifact_facts bytes_of a in
@@ -112,7 +112,7 @@ module _ {S K L D G C : Type 0} (bytes_of : C → List ℕ) (same : D → D → 
   }
 
 module _ {K L D : Type 0} (same : D → D → Bool) (elect : Elect L) where
-  -- after an entry was taken, or passed over
+  -- after an entry was taken, or skipped
   taken_bears : (before : List (ArtifactFacts D)) (x : StateFacts K L D) (now : ℕ) (e : ArtifactFacts D) → BearsAll before x → BearsAll (e ∷ before) (after_kept_entry same elect x now e)
   unfolding after_kept_entry
   taken_bears before x now e bears =
@@ -121,7 +121,7 @@ module _ {K L D : Type 0} (same : D → D → Bool) (elect : Elect L) where
       (λ _. let y = after_adding same elect x now e in given_bears same elect before (after_replaying same elect y e) now e (replayed_bears same elect before y e (added_bears same elect before x now e bears)))
 
 module _ {S K L D G C : Type 0} (bytes_of : C → List ℕ) (same : D → D → Bool) (elect : Elect L) (now : ℕ) where
-  -- entries that break no rule behind those that were taken
+  -- entries that break no rule after those that were taken
   pub takes_entries : (entries : List (Artifact S D K G C)) (before : List (ArtifactFacts D)) (x : StateFacts K L D) → is_started x ≡ true → BearsAll before x → first_broken_after same x.settings.epoch x.me before (entries_of bytes_of entries) ≡ None → TakesEntries bytes_of same elect x now entries
   takes_entries [] before x started bears unbroken = tt
   takes_entries (a ∷ rest) before x started bears unbroken =

@@ -1,4 +1,4 @@
--- What a state holds of its views stands in the entries that it took, and their notarizations stand in the state.
+-- What a state holds of its views is in the entries that it took, and their notarizations are in the state.
 use Rattle.std.proofs.Common.{◌≡◌, ◌⊎◌, refl, sym, ◌∙◌, ℕ, ◌+◌, ◌≤◌, Bool, true, false, ◌&&◌, ◌==◌, cond, List, ◌∷◌, Option, Some, None, is_some, arith, inl, inr}
 use Rattle.std.proofs.lemmas.Bool.{cases_eq, eq-eqb, ne_eqb, eqb-true, or_cases, or_right}
 use Rattle.simplex_types.specs.Proposal.{same_proposal}
@@ -27,14 +27,14 @@ both_true true b h = (refl, h)
 both_true false b h = absurd cc
 
 module _ {D : Type 0} where
-  -- an entry of a kind stands from then on
+  -- there is an entry of a kind from then on
   stands_here : (k : ArtifactFacts D → Bool) (e : ArtifactFacts D) (before : List (ArtifactFacts D)) → k e ≡ true → stands (entry_view e) k (e ∷ before) ≡ true
   stands_here k e before is = rw (eq-eqb (entry_view e) (entry_view e) refl, is) refl
 
   stands_on : (v : ℕ) (k : ArtifactFacts D → Bool) (e : ArtifactFacts D) (before : List (ArtifactFacts D)) → stands v k before ≡ true → stands v k (e ∷ before) ≡ true
   stands_on v k e before there = or_right (entry_view e == v && k e) (stands v k before) there
 
-  -- it is the newest, or stood before
+  -- it is the newest, or was there before
   stands_where : (v : ℕ) (k : ArtifactFacts D → Bool) (e : ArtifactFacts D) (before : List (ArtifactFacts D)) → stands v k (e ∷ before) ≡ true → ((v ≡ entry_view e) × (k e ≡ true)) ⊎ (stands v k before ≡ true)
   stands_where v k e before there = elim (or_cases (entry_view e == v && k e) (stands v k before) there) [
     | inl here ↦ let both = both_true (entry_view e == v) (k e) here in inl (sym (eqb-true (entry_view e) v both.0), both.1)
@@ -42,7 +42,7 @@ module _ {D : Type 0} where
   ]
 
 module _ {K D : Type 0} where
-  -- a view's round and the entries of that view; a notarization may be missing where the view is no longer kept
+  -- a view's round and the entries of that view; a notarization may be missing if the view is no longer retained
   pub record Bears (signs : Option ℕ) (lowest : ℕ) (before : List (ArtifactFacts D)) (v : ℕ) (r : RoundFacts K D) : Type 0 where
     pub me : r.me ≡ signs
     pub notarized : lowest ≤ v → stands v is_notarization before ≡ true → is_some r.notarization ≡ true
@@ -64,7 +64,7 @@ module _ {K L D : Type 0} where
   abbrev pub BearsAll : List (ArtifactFacts D) → StateFacts K L D → Type 0
   BearsAll before x = (v : ℕ) → Bears x.me (min_active x) before v (round_of x v)
 
-  -- what a state keeps bears the same entries
+  -- unchanged parts of a state match the same entries
   pub bears_kept : (u : ℕ) (before : List (ArtifactFacts D)) (x y : StateFacts K L D) → GrowsUpTo u x y → BearsAll before x → BearsAll before y
   bears_kept u before x y k bears v =
       let b = bears_grown x.me (min_active x) before v (round_of x v) (round_of y v) (k.rounds v) (bears v) in
@@ -77,7 +77,7 @@ module _ {K L D : Type 0} where
     | inr apart ↦ rw (round_of-put x v w r, ne_eqb v w apart) (bears v)
   ]
 
-  -- an entry that is passed over, or no notarization
+  -- an entry that is skipped, or no notarization
   pub bears_on : (before : List (ArtifactFacts D)) (e : ArtifactFacts D) (x : StateFacts K L D) → (min_active x ≤ entry_view e → is_notarization e ≡ true → is_some (round_of x (entry_view e)).notarization ≡ true) → BearsAll before x → BearsAll (e ∷ before) x
   bears_on before e x here bears v =
       let b = bears v in
@@ -110,7 +110,7 @@ module _ {K D : Type 0} (signs : Option ℕ) (lowest : ℕ) (before : List (Arti
       is_this false false is = stands_here (is_verdict false) (Verdict round false) before refl
 
 module _ {K L D : Type 0} (same : D → D → Bool) (elect : Elect L) where
-  -- a notarization that is added stands
+  -- a notarization that is added is there
   added_notarized : (x : StateFacts K L D) (now : ℕ) (e : ArtifactFacts D) → is_notarization e ≡ true → is_some (round_of (after_adding same elect x now e) (entry_view e)).notarization ≡ true
   added_notarized x now (Accepted (Notarized c)) is =
       let v = c.proposal.round.view in

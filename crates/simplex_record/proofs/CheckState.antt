@@ -1,4 +1,4 @@
--- What was seen of a view stands for the entries before.
+-- What was seen of a view represents the entries before.
 use Rattle.std.proofs.Common.{◌≡◌, refl, sym, ap, ◌∙◌, ℕ, ◌<◌, Bool, true, false, not, ◌&&◌, ◌||◌, ◌==◌, nat_lt, List, [], ◌∷◌, ◌++◌, Option, Some, None, is_some, arith, length, drop, get_or, ◌+◌}
 use Rattle.std.proofs.lemmas.Bool.Decides.{nat_tests}
 use Rattle.std.specs.List.{list_any}
@@ -30,7 +30,7 @@ not_above : (n v w : ℕ) (b : Bool) → n < v → nat_lt n w ≡ false → (w =
 not_above n v w b above most = let other : (w == v) ≡ false = grind (arith, nat_tests) in rw other refl
 
 module _ {D : Type 0} where
-  -- no entry stands above the view
+  -- no entry is above the view
   abbrev pub AtMost : ℕ → List (ArtifactFacts D) → Type 0
   AtMost n before = list_any (λ e. nat_lt n (entry_view e)) before ≡ false
 
@@ -71,7 +71,7 @@ pub from_not_false : (b : Bool) → not b ≡ false → b ≡ true
 from_not_false true h = refl
 from_not_false false h = absurd cc
 
--- the first rule of a list that is kept is kept
+-- if no rule of a list is broken, the first one is not
 pub unbroken : (b : Bool) (e : RecoverError) (rest : List (Bool × RecoverError)) → first_error ((b, e) ∷ rest) ≡ None → b ≡ false
 unbroken false e rest h = refl
 unbroken true e rest h = absurd cc
@@ -212,7 +212,7 @@ module _ {D : Type 0} (same : D → D → Bool) (alike : (d e : D) → same d e 
       }
 
 module _ {D : Type 0} (same : D → D → Bool) where
-  -- what an entry breaks is told by what was seen of its view
+  -- the rules that an entry breaks follow from what was seen of its view
   pub beside_seen : (before : List (ArtifactFacts D)) (s : Seen D) (e : ArtifactFacts D) → entry_view e ≡ s.view → ShowsBefore same before s → first_error (beside_rules same before e) ≡ first_error (seen_rules same s e)
   beside_seen before s (NotarizeVote p m) at shows = rw (level (notarizes_other same p) before _ _ at ∙ shows.notarize p) refl
   beside_seen before s (NullifyVote r m) at shows = rw (level is_finalize_vote before _ _ at ∙ shows.finalized) refl
@@ -270,7 +270,7 @@ module _ {D : Type 0} (same : D → D → Bool) (epoch : ℕ) (me : Option ℕ) 
     left = refl;
   }
 
-  -- what an entry breaks by all before it is what it breaks by what was seen
+  -- the rules that an entry breaks by all before it are those that it breaks by what was seen
   rules_seen : (all rest : List (ArtifactFacts D)) (s : Seen D) (e : ArtifactFacts D) (tested : Tested all (e ∷ rest) s) → first_error (entry_rules same epoch me tested.before e) ≡ first_error (next_rules same epoch me s e)
   rules_seen all rest s e tested = ordered _ refl
     where

@@ -1,4 +1,4 @@
--- Dropping entries one by one, and what a list of artifacts is as entries.
+-- Dropping entries one by one, and a list of artifacts as entries.
 use Rattle.std.proofs.Common.{◌≡◌, refl, sym, ap, ◌∙◌, ℕ, zero, suc, ◌+◌, ◌-◌, ◌<◌, Bool, true, false, List, [], ◌∷◌, length, take, drop, filter, max, arith, slice_get, option_map, nat_lt, ◌&&◌, get_or, not, ◌≤◌, Some}
 use Rattle.std.proofs.lemmas.Bool.Decides.{nat_tests}
 use Rattle.std.proofs.lemmas.Option.{slice_get-map}
@@ -66,7 +66,7 @@ module _ {S D K G C : Type 0} (bytes_of : C → List ℕ) where
   unfolding may_drop
   last_open closed items a more last = let open_yet : nat_lt closed (length items) ≡ true = grind (arith, nat_tests) in rw (length_entries items, entry_at items (length items - 1), last, open_yet) refl
 
-  -- what stays of the artifacts stays of the entries
+  -- the artifacts that remain give the entries that remain
   pub entries_kept : (stays : ℕ → Bool) (items : List (Artifact S D K G C)) → entries_of bytes_of (filter (λ a. stays (artifact_view a)) items) ≡ filter (λ e. stays (entry_view e)) (entries_of bytes_of items)
   entries_kept stays [] = refl
   entries_kept stays (a ∷ items) = kept (entries_kept stays items) _ refl

@@ -1,4 +1,4 @@
--- What an entry is that breaks no rule.
+-- The properties of an entry that breaks no rule.
 use Rattle.std.proofs.Common.{◌≡◌, refl, sym, ap, ◌∙◌, ℕ, Bool, true, false, not, ◌||◌, ◌==◌, nat_le, List, [], ◌∷◌, ◌++◌, Option, Some, None}
 use Rattle.std.proofs.lemmas.Bool.{eqb-true}
 use Rattle.std.specs.Option.{option_map_or, option_or}
@@ -47,7 +47,7 @@ signer_is : (me : Option ℕ) (signer : ℕ) → signs_as me signer ≡ true →
 signer_is None signer h = absurd cc
 signer_is (Some m) signer h = ap Some (eqb-true m signer h)
 
--- the rules of a vote behind those of its round
+-- the rules of a vote after those of its round
 abbrev signer_rule : Option ℕ → ℕ → List (Bool × RecoverError)
 signer_rule me signer = (not (signs_as me signer), error.ForeignSigner) ∷ []
 
@@ -91,7 +91,7 @@ module _ {D : Type 0} (epoch : ℕ) (me : Option ℕ) where
   entry_own (Accepted c) kept = tt
 
 module _ {D : Type 0} (same : D → D → Bool) (epoch : ℕ) (me : Option ℕ) where
-  -- an entry that the rules allow behind others
+  -- an entry that the rules allow after others
   pub record Allowed (before : List (ArtifactFacts D)) (e : ArtifactFacts D) : Type 0 where
     pub good : GoodRound epoch (entry_round e) (entry_parent e)
     pub own : IsOwn me e

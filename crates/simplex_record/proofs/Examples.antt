@@ -146,7 +146,7 @@ nothing_broken :
 unfolding first_recover_error
 nothing_broken = refl
 
--- a drop stops at the last vote, and at what is closed
+-- a drop stops at the last vote, and at the closed entries
 
 dropped_to_the_vote : without_last 0 5 (nullify 1 ∷ notarization 1 ∷ verdict 1 true ∷ []) ≡ nullify 1 ∷ []
 unfolding may_drop
@@ -160,7 +160,7 @@ dropped_to_what_is_closed : without_last 2 9 (notarization 1 ∷ verdict 1 true 
 unfolding may_drop
 dropped_to_what_is_closed = refl
 
--- a pruning takes what stands below the highest finalized view by more than the retention, votes too
+-- a pruning removes the entries below the highest finalized view by more than the retention, votes too
 
 pruned_below_the_retention : pruned_entries 10 (nullify 1 ∷ finalization 20 ∷ notarization 9 ∷ notarization 10 ∷ []) ≡ finalization 20 ∷ notarization 10 ∷ []
 unfolding pruned_entries

@@ -61,7 +61,7 @@ module _ {K D : Type 0} where
   token_grows r = grows_where r (is_some (token_of r.certification)) _ r (ended_grows r) (alike r)
 
   module _ (same : Proposal D → Proposal D → Bool) where
-    -- a notarization that is added stands
+    -- a notarization that is added is there
     pub notarization_stands : (r : RoundFacts K D) (c : ProposalFacts D) → is_some (with_notarization same r c).notarization ≡ true
     notarization_stands r c = stands (is_some r.notarization) refl
       where
@@ -70,7 +70,7 @@ module _ {K D : Type 0} where
         stands false is = rw is refl
 
 module _ {K L D : Type 0} where
-  -- the round of a view after another one stands there
+  -- the round of a view after another one was stored
   pub round_of-put : (x : StateFacts K L D) (v w : ℕ) (r : RoundFacts K D) → round_of (with_round x w r) v ≡ cond (eqb v w) r (round_of x v)
   round_of-put x v w r =
       ap (λ found. unwrap_or found (new_round x.me x.members (round_number x v))) (find-put nat_cmp nat_cmp_total v w r x.rounds ∙ ap (λ b. cond b (Some r) (find nat_cmp v x.rounds)) (is_eq-nat_cmp v w))

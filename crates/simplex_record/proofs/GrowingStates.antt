@@ -1,5 +1,5 @@
--- What each change of a state keeps: its member, of each view's round what the rules of a record speak of, and that no
--- view is kept again that was not kept before.
+-- What each change of a state keeps: its member, of each view's round what the rules of a record are about, and that no dropped view is retained
+-- again.
 use Rattle.std.proofs.Common.{◌≡◌, refl, ap, sym, ◌∙◌, ℕ, ◌≤◌, Bool, true, false, None, arith}
 use Rattle.std.proofs.lemmas.Bool.{false≢true}
 use Rattle.simplex_types.specs.Config.{FloorFacts, Genesis, Finalized}

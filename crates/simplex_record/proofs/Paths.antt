@@ -1,5 +1,5 @@
--- For the laws by steps: what each event keeps, and what a run keeps by it.
--- Each word of the voter's definitions goes on by primitive changes, and so each event is a path of them.
+-- For the laws by steps: the invariants of each event, and those of a run by them.
+-- Each definition of the voter makes primitive changes, and so each event is a path of them.
 use Rattle.std.proofs.Common.{◌≡◌, refl, ap, sym, ◌∙◌, ℕ, zero, suc, ◌+◌, ◌-◌, ◌<◌, ◌≤◌, ◌⊎◌, inl, inr, Bool, true, false, ◌&&◌, not, if◌then◌else◌, nat_lt, nat_le, min, List, [], Option, Some, None, is_some, unwrap_or, arith}
 use Rattle.std.specs.Prelude.{◌==◌}
 use Rattle.std.specs.List.{fold, range_with_len}
@@ -45,7 +45,7 @@ use Rattle.simplex_record.proofs.Steps as step
 use Rattle.simplex_record.proofs.Rounds.{round_put}
 use Rattle.simplex_record.proofs.Steps.{is_timed, RoundStep, Path, Still, Then, Puts, Moves, Founds, Names, Unnames, Covers, Notes, Reaches, Raises, Scans, Prunes, notarization_by, nullification_by, finalization_by, nullify_by}
 
--- what holds of a view's round and of no new one is of a tracked view
+-- a claim that holds of a view's round, and of no new one, is about a tracked view
 pub tracked_by : {K L D : Type 0} (x : StateFacts K L D) (v : ℕ) (test : RoundFacts K D → Bool) → test (new_round x.me x.members (round_number x v)) ≡ false → test (round_of x v) ≡ true → is_tracked x v ≡ true
 tracked_by x v test fails = by_round (round_at x v)
   where
@@ -138,7 +138,7 @@ module _ {K L D : Type 0} {same : D → D → Bool} {elect : Elect L} {low : ℕ
       either (in_issuance_window y (v + 1)) (with_leader_of y v (v + 1)) (if own then later else y) (λ opens. to_inherited v (v + 1) (omega arith) path)
       (λ shut. either own later y (λ mine. to_elected (v + 1) None (omega arith) path) (λ other. path))
 
-  -- entries, timeouts and what waits for certification
+  -- entries, timeouts and the views that wait for certification
 
   to_entered : {y : StateFacts K L D} (v now : ℕ) → (y.current < v → low ≤ v) → Path same elect x e low from y → Path same elect x e low from (with_view_entered y v now)
   to_entered {y} v now over path =
@@ -194,7 +194,7 @@ module _ {K L D : Type 0} {same : D → D → Bool} {elect : Elect L} {low : ℕ
       let r = round_of y v in
       put_either v (is_some r.finalization) r (record (with_recovered (same_proposal same) r c.proposal) { finalization = Some c }) (inl over) (λ set. step.Kept) (λ none. step.Finalized c says refl none) path
 
-  -- from a notarization that stands on
+  -- from an existing notarization on
   pub from_notarized : (c : ProposalFacts D) → low ≤ c.proposal.round.view → Path same elect x e low from (with_notarization_at same elect (with_elected_leader elect x (c.proposal.round.view + 1) (Some c.bytes)) c) → Path same elect x e low from (after_add_notarization same elect x c)
   from_notarized c over path = either (is_some (round_of x c.proposal.round.view).notarization) _ _ (λ old. path) (λ new. to_slid c.proposal.round.view over (to_named c.proposal.round.view (notarization_stands same elect (with_elected_leader elect x (c.proposal.round.view + 1) (Some c.bytes)) c) path))
 
@@ -213,7 +213,7 @@ module _ {K L D : Type 0} {same : D → D → Bool} {elect : Elect L} {low : ℕ
   to_finalization c now says raises over path =
       from_raised c now says over (to_raised c.proposal.round.view raises (Then path (Moves now)))
 
--- what an event asks of its views, so that none below `low` comes to be tracked
+-- what an event requires of its views, so that none below `low` becomes tracked
 
 module _ {K L D : Type 0} where
   abbrev pub AskedFrom : ℕ → StateFacts K L D → Event K D → Type 0
@@ -240,7 +240,7 @@ module _ {K L D : Type 0} where
   asked_of_all x _ = tt
 
 module _ {K L D : Type 0} (x : StateFacts K L D) (v : ℕ) where
-  -- no other verdict stands where one may be given, and none where a certification may be under way
+  -- there is no other verdict if one may be given, and none if a certification may be under way
 
   verdict_fits : (success : Bool) → is_tracked x v ≡ true → takes_verdict x v success ≡ true → is_judged (not success) (round_of x v).certification ≡ false
   verdict_fits success there takes = by_round (round_at x v) there (and_parts (is_started x) _ takes).1

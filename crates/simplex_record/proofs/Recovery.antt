@@ -1,4 +1,4 @@
--- An artifact is replayed as its entry is, and taking an entry leaves a state that goes on.
+-- An artifact is replayed as its entry is, and after an entry was taken the state has not failed.
 use Rattle.std.proofs.Common.{◌≡◌, refl, ℕ, nat_lt, Bool, true, false, List}
 use Rattle.simplex_types.specs.Certificates.{ArtifactFacts, Accepted, Notarized, Nullified, Finalized, artifact_facts}
 use Rattle.simplex_types.specs.declared.types.messages.Artifact.{Artifact}
@@ -27,7 +27,7 @@ module _ {K L D : Type 0} (same : D → D → Bool) (elect : Elect L) where
   added_goes x now (Accepted (Finalized c)) = event_goes same elect x (AddFinalization c now)
   added_goes x now _ = stays x
 
-  -- an entry of a view that is kept is taken, and another is passed over
+  -- an entry of a retained view is taken, and another is skipped
   pub kept_taken : (x : StateFacts K L D) (now : ℕ) (e : ArtifactFacts D) → nat_lt (entry_view e) (min_active x) ≡ false → after_kept_entry same elect x now e ≡ after_entry same elect x now e
   unfolding after_kept_entry
   kept_taken x now e kept = rw kept refl

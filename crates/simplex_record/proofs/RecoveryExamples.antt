@@ -1,5 +1,5 @@
--- Recoveries by the definitions, of four members in terms of one view, of whom this is member 0. Keys, payloads and
--- signatures are numbers; 10 views are kept.
+-- Recoveries by the definitions, of four members in terms of one view, of whom this is member 0. Keys, payloads and signatures are numbers; 10 views
+-- are retained.
 use Rattle.std.proofs.Common.{◌≡◌, refl, ℕ, ◌%◌, true, false, List, [], ◌∷◌, Some, None, nat_eq, is_some}
 use Rattle.simplex_types.specs.Terms.{term_index}
 use Rattle.simplex_types.specs.Config.{FloorFacts, Genesis}
@@ -32,7 +32,7 @@ fresh = new_facts settings (Some 0) (0 ∷ 1 ∷ 2 ∷ 3 ∷ []) 1 (record { ter
 abbrev state_of : FloorFacts ℕ → List Entry → StateFacts ℕ ℕ ℕ
 state_of floor entries = recovered_state nat_eq in_turn fresh floor 0 entries
 
--- above a finalized floor, what stands below its retention is passed over
+-- above a finalized floor, entries below its retention are skipped
 floor_far_ahead : (state_of (floor_at 1 20) (nullification 3 ∷ notarization 15 ∷ [])).current ≡ 21
 unfolding recovered_state after_kept_entry
 floor_far_ahead = refl
@@ -68,7 +68,7 @@ finalize_once : finalize_answer in_turn (state_of (Genesis 0) (notarization 1 �
 unfolding recovered_state after_kept_entry may_finalize is_admitted has_conflicting_nullify required_certification_parent
 finalize_once = refl
 
--- a deadline that passes 64 bits, behind the rules of the record
+-- a deadline that passes 64 bits, after the rules of the record
 too_late : recover_error nat_eq fresh (Genesis 0) 18446744073709551615 (nullify 1 ∷ []) ≡ Some error.TimeOverflow
 unfolding first_recover_error
 too_late = refl

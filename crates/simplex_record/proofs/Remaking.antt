@@ -1,4 +1,4 @@
--- What a recovery refuses, and what it hands to its entries.
+-- What a recovery refuses, and what it passes to its entries.
 use Rattle.std.proofs.Common.{◌≡◌, refl, ap, ◌∙◌, ℕ, Bool, true, false, if◌then◌else◌, List, [], Option, Some, None, MatchOption, Result, Ok, Err}
 use Rattle.std.specs.Option.{option_or}
 use Rattle.simplex_types.specs.Certificates.{ArtifactFacts}
@@ -64,7 +64,7 @@ module _ {K L D : Type 0} (same : D → D → Bool) (elect : Elect L) (x : State
   pub set_in_time : has_late_deadline x now ≡ false → has_late_deadline (after_set_floor same elect x floor now) now ≡ false
   set_in_time in_time = still_in_time x (after_set_floor same elect x floor now) now (event_goes same elect x (SetFloor floor now)) in_time
 
-  -- the state of a recovery goes on
+  -- the state of a recovery has not failed
   pub recovered_goes_on : (entries : List (ArtifactFacts D)) → x.failed ≡ false → ((after_entries same elect (after_set_floor same elect x floor now) now entries).failed ≡ false) × (is_started (after_entries same elect (after_set_floor same elect x floor now) now entries) ≡ true)
   recovered_goes_on entries going =
       let set = floor_goes same elect x floor now going in

@@ -1,5 +1,5 @@
--- For the laws by steps: what each event keeps, and what a run keeps by it.
--- A round that is put at a view, rounds that are changed by their views, and what entries, latches, aborts and retries leave of its decision and its verdict.
+-- For the laws by steps: the invariants of each event, and those of a run by them.
+-- A round that is stored at a view, rounds that are changed by their views, and the decision and verdict after entries, latches, aborts and retries.
 use Rattle.std.proofs.Common.{◌≡◌, refl, ap, sym, ◌∙◌, subst, ℕ, true, false, not, cond, Option, Some, None, is_some, unwrap_or}
 use Rattle.std.specs.Prelude.{map, option_map}
 use Rattle.std.specs.Ordering.{nat_cmp}
@@ -18,7 +18,7 @@ use Rattle.simplex_voter.proofs.Gaps.{and_parts}
 use Rattle.simplex_voter.proofs.Walked.{find-changed}
 
 module _ {K L D : Type 0} where
-  -- the round that was put at a view stands there
+  -- the round that was stored at a view is there
   pub round_put : (x : StateFacts K L D) (v : ℕ) (r : RoundFacts K D) → round_of (with_round x v r) v ≡ r
   round_put x v r =
       ap (λ found. unwrap_or found (new_round x.me x.members (round_number x v)))

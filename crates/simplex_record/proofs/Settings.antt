@@ -1,4 +1,4 @@
--- What a start by settings is told, from the first rule that they break and from the elector's members.
+-- The result of a start by settings, from the first rule that they break and from the elector's members.
 use Rattle.std.proofs.Common.{◌≡◌, refl, ap, ℕ, ◌==◌, Bool, true, false, Option, Some, None, Result, Ok, Err, MatchOption, arith}
 use Rattle.std.proofs.lemmas.Bool.Decides.{nat_tests}
 use Rattle.simplex_types.specs.declared.config.Config.{Config}
@@ -8,7 +8,7 @@ use Rattle.simplex_record.specs.declared.record.settings.StartError.TheVariants 
 use Rattle.simplex_record.specs.declared.record.start.Start.{Start}
 use Rattle.simplex_record.specs.Settings.{start_error}
 
--- a test that answered so, of settings whose first broken rule is this
+-- a test with this result, of settings whose first broken rule is this
 abbrev pub IsTested : Option ConfigError → Result (Unit {0}) ConfigError → Type 0
 IsTested found r = MatchOption found (r ≡ Ok tt) (λ broken. r ≡ Err broken)
 
@@ -44,7 +44,7 @@ module _ {T : Type 0} (start : T) where
   broken_told None same_members broken tested = cc
   broken_told (Some first) same_members broken tested = cc
 
-  -- so many members where there are other participants
+  -- a number of members that is not that of the participants
   pub others_told : (found : Option ConfigError) (members participants : ℕ) (t : Unit {0}) → IsTested found (Ok t) → (members ≡ participants → ⊥) → IsTold found (members == participants) (Err error.OtherMembers)
   others_told None members participants t tested apart = rw (other_number members participants apart) refl
   others_told (Some first) members participants t tested apart = cc

@@ -1,4 +1,4 @@
--- For the laws by steps: what each event keeps, and what a run keeps by it.
+-- For the laws by steps: the invariants of each event, and those of a run by them.
 -- The primitive changes of a state's facts, of which each event makes some, one after another.
 use Rattle.std.proofs.Common.{◌≡◌, ℕ, ◌+◌, ◌<◌, ◌≤◌, ◌⊎◌, Bool, true, false, ◌||◌, not, if◌then◌else◌, nat_le, nat_lt, [], Option, Some, None, is_some}
 use Rattle.std.specs.Prelude.{map, filter}
@@ -30,7 +30,7 @@ use Rattle.simplex_voter.specs.Replay.{restored_binding}
 use Rattle.simplex_record.specs.Events.{Event, IsEvent, SetFloor, AddNotarization, AddNullification, AddFinalization, Certified, ConstructNotarize, ConstructNullify, ConstructFinalize, SetProposal, Proposed, TryVerify, Verified, VerificationFailed, SetCertifyHandle, NextTimeout, Replay}
 use Rattle.simplex_record.specs.Events.{covers_from, finalized_by_event, is_prune}
 
--- what an event brings
+-- the data of an event
 
 module _ {K D : Type 0} where
   abbrev pub notarization_by : Event K D → Option (ProposalFacts D)
@@ -51,7 +51,7 @@ module _ {K D : Type 0} where
   verdict_by (Replay (Verdict round success)) = Some (round.view, success)
   verdict_by _ = None
 
-  -- a proposal that is heard of, with its view, and one that was voted for before
+  -- a proposal that is received, with its view, and one that was voted for before
   abbrev pub proposal_by : Event K D → Option (ℕ × Proposal D)
   proposal_by (SetProposal v p) = Some (v, p)
   proposal_by _ = None
@@ -110,7 +110,7 @@ module _ {K L D : Type 0} (same : D → D → Bool) (elect : Elect L) (begun : S
     Judged : (success : Bool) → verdict_by e ≡ Some (v, success) → (IsEvent begun e → is_judged (not success) r.certification ≡ false) → RoundStep x v r (certified_round r success)
     Certifying : (token : ℕ) → e ≡ SetCertifyHandle v token → (IsEvent begun e → (success : Bool) → is_judged success r.certification ≡ false) → RoundStep x v r (record r { certification = certification.Outstanding token })
     Ended : is_some (token_of r.certification) ≡ true → RoundStep x v r (record r { certification = after_abort r.certification })
-    -- what is handed out, or was before it is replayed
+    -- what is returned for broadcast, or was before it is replayed
     HandedNotarization : RoundStep x v r (record r { notarization_broadcast = r.notarization_broadcast || is_some r.notarization })
     HandedNullification : RoundStep x v r (record r { nullification_broadcast = r.nullification_broadcast || is_some r.nullification })
     HandedFinalization : RoundStep x v r (record r { finalization_broadcast = r.finalization_broadcast || is_some r.finalization })
@@ -157,7 +157,7 @@ module _ {K L D : Type 0} (same : D → D → Bool) (elect : Elect L) (begun : S
     Still : Path low x x
     Then : {y z : StateFacts K L D} → Path low x y → Step low y z → Path low x z
 
-  -- what each change keeps holds at the end
+  -- a claim that each change keeps holds at the end
   pub along : (low : ℕ) (P : StateFacts K L D → Type 0) → ((x y : StateFacts K L D) → Step low x y → P x → P y) → (x y : StateFacts K L D) → Path low x y → P x → P y
   along low P keeps x y Still p = p
   along low P keeps x y (Then {y = w} path step) p = keeps w y step (along low P keeps x w path p)

@@ -1,4 +1,4 @@
--- What is left of a record while its entries are taken leads to the same state as the whole.
+-- The remaining entries of a record, while it is taken, lead to the same state as the whole.
 use Rattle.std.proofs.Common.{◌≡◌, sym, ap, ◌∙◌, ℕ, ◌+◌, ◌<◌, Bool, false, nat_lt, List, [], ◌∷◌, drop, length, get_or}
 use Rattle.std.proofs.lemmas.List.{drop_more}
 use Rattle.simplex_types.specs.Certificates.{ArtifactFacts, NotarizeVote, NullifyVote, FinalizeVote, Verdict, Accepted, artifact_facts}
@@ -36,7 +36,7 @@ module _ {K L D : Type 0} (same : D → D → Bool) (elect : Elect L) where
   all_taken_goes x now (e ∷ rest) = let y = after_kept_entry same elect x now e in joined x y (after_entries same elect y now rest) (taken_goes x now e) (all_taken_goes y now rest)
 
 module _ {S K L D G C : Type 0} (bytes_of : C → List ℕ) (same : D → D → Bool) (elect : Elect L) (first : StateFacts K L D) (all : List (Artifact S D K G C)) (now : ℕ) where
-  -- the state goes on, allows what is left, and will be what taking all makes of the first one
+  -- the state has not failed, allows the remaining entries, and leads to the state that taking all makes of the first one
   pub record Taking (x : StateFacts K L D) (rest : List (Artifact S D K G C)) : Type 0 where
     pub failed : x.failed ≡ false
     pub in_time : has_late_deadline x now ≡ false

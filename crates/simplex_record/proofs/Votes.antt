@@ -1,4 +1,4 @@
--- What a cut leaves of the votes.
+-- The votes after a cut.
 use Rattle.std.proofs.Common.{◌≡◌, refl, sym, ap, ◌∙◌, ℕ, suc, ◌-◌, Bool, true, false, List, [], ◌∷◌, ◌++◌, length, take, filter, arith, slice_get, not, nat_lt, ◌&&◌, cond}
 use Rattle.std.specs.Option.{option_map_or}
 use Rattle.std.proofs.lemmas.List.Elements.{filter-append}
@@ -51,7 +51,7 @@ module _ {S D K G C : Type 0} (stays : ℕ → Bool) where
   one_stays (artifact.Nullification n) = neither (stays n.round.view)
   one_stays (artifact.Finalization f) = neither (stays f.proposal.round.view)
 
-  -- what stays of the artifacts stays of the votes
+  -- the artifacts that remain give the votes that remain
   pub votes_kept : (items : List (Artifact S D K G C)) → votes_of (filter (λ a. stays (artifact_view a)) items) ≡ filter (λ v. stays (entry_view v.vote)) (votes_of items)
   votes_kept [] = refl
   votes_kept (a ∷ items) =

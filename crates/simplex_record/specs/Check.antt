@@ -1,4 +1,4 @@
--- The first rule that a record breaks. An entry is tested by what stands before it, the newest first.
+-- The first rule that a record breaks. An entry is tested against those before it, the newest first.
 use Rattle.std.specs.Prelude.{ℕ, Bool, true, false, not, ◌&&◌, ◌||◌, ◌==◌, nat_le, nat_lt, if◌then◌else◌, List, [], ◌∷◌, ◌++◌, Option, Some, None}
 use Rattle.std.specs.List.{list_any}
 use Rattle.std.specs.Option.{option_map_or, option_or}
@@ -92,7 +92,7 @@ module _ {D : Type 0} (same : D → D → Bool) where
   contradicts_vote before (FinalizeVote p _) = stands p.round.view (finalizes_other p) before
   contradicts_vote before _ = false
 
-  -- what an entry has to be, by the entries before it
+  -- the rules of an entry against the entries before it
   abbrev pub beside_rules : List (ArtifactFacts D) → ArtifactFacts D → List (Bool × RecoverError)
   beside_rules before e =
       (lacks_notarization before e, error.VerdictWithoutNotarization)
@@ -118,11 +118,12 @@ vote_rules epoch me signer p =
     ∷ (nat_le p.round.view p.parent, error.ParentNotBelow)
     ∷ []
 
--- what an entry has to be by itself
+-- the rules of an entry by itself
 abbrev pub own_rules : {D : Type 0} → ℕ → Option ℕ → ArtifactFacts D → List (Bool × RecoverError)
 own_rules epoch me (NotarizeVote p signer) = vote_rules epoch me signer p
 own_rules epoch me (FinalizeVote p signer) = vote_rules epoch me signer p
-own_rules epoch me (NullifyVote round signer) = round_rules epoch round None ++ (not (signs_as me signer), error.ForeignSigner) ∷ []
+own_rules epoch me (NullifyVote round signer) =
+    round_rules epoch round None ++ (not (signs_as me signer), error.ForeignSigner) ∷ []
 own_rules epoch me (Verdict round _) = round_rules epoch round None
 own_rules epoch me (Accepted c) = round_rules epoch (certificate_round c) (certificate_parent c)
 
@@ -137,11 +138,13 @@ module _ {D : Type 0} (same : D → D → Bool) (epoch : ℕ) (me : Option ℕ) 
   entry_rules before e =
       (nat_lt (entry_view e) (last_view before), error.OutOfOrder) ∷ own_rules epoch me e ++ beside_rules same before e
 
-  -- the first rule that the entries break one after another, behind those before them
+  -- the first rule that the entries break one after another, following those before them
   abbrev pub first_broken_after : List (ArtifactFacts D) → List (ArtifactFacts D) → Option RecoverError
   first_broken_after before [] = None
-  first_broken_after before (e ∷ rest) = option_or (first_error (entry_rules before e)) (first_broken_after (e ∷ before) rest)
+  first_broken_after before (e ∷ rest) =
+      option_or (first_error (entry_rules before e)) (first_broken_after (e ∷ before) rest)
 
   -- the first rule that the floor breaks, or else the record, oldest entry first
   unfoldable pub first_recover_error : FloorFacts D → List (ArtifactFacts D) → Option RecoverError
-  first_recover_error floor record_entries = option_or (first_error (recovery_floor_rules epoch floor)) (first_broken_after [] record_entries)
+  first_recover_error floor record_entries =
+      option_or (first_error (recovery_floor_rules epoch floor)) (first_broken_after [] record_entries)

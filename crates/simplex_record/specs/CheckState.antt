@@ -1,4 +1,4 @@
--- How the test of a record keeps what it has seen. No public clause names these.
+-- How the test of a record stores what it has seen. No public clause names these.
 use Rattle.std.specs.Prelude.{ℕ, Bool, true, false, not, nat_lt, if◌then◌else◌, List, [], ◌∷◌, ◌++◌, Option, Some, None, is_some}
 use Rattle.std.specs.Option.{option_map_or}
 use Rattle.simplex_types.specs.Proposal.{same_proposal}
@@ -20,7 +20,14 @@ is_other same seen p = option_map_or (λ q. not (same_proposal same q p)) seen f
 
 -- nothing was seen of the view
 abbrev pub nothing_seen : {D : Type 0} → ℕ → Seen D
-nothing_seen v = record { view = v; notarized = false; verdict = None; nullified = false; notarize = None; finalize = None }
+nothing_seen v = record {
+  view = v;
+  notarized = false;
+  verdict = None;
+  nullified = false;
+  notarize = None;
+  finalize = None;
+}
 
 -- of a view above the last one nothing was seen
 abbrev pub turned_to : {D : Type 0} → Seen D → ℕ → Seen D
@@ -38,7 +45,7 @@ module _ {D : Type 0} where
   seen_with s (Accepted (Finalized _)) = s
 
 module _ {D : Type 0} (same : D → D → Bool) where
-  -- what a vote to finalize breaks by what was seen of its view
+  -- the rules that a vote to finalize breaks, by what was seen of its view
   abbrev pub finalize_rules : Seen D → Proposal D → List (Bool × RecoverError)
   finalize_rules s p =
       (s.nullified, error.NullifyBesideFinalize)
@@ -46,7 +53,7 @@ module _ {D : Type 0} (same : D → D → Bool) where
       ∷ (not (is_given true s.verdict), error.FinalizeWithoutVerdict)
       ∷ []
 
--- what a verdict breaks
+-- the rules that a verdict breaks
 abbrev pub verdict_rules : {D : Type 0} → Seen D → Bool → List (Bool × RecoverError)
 verdict_rules s success =
     (not s.notarized, error.VerdictWithoutNotarization)
@@ -54,7 +61,7 @@ verdict_rules s success =
     ∷ []
 
 module _ {D : Type 0} (same : D → D → Bool) where
-  -- what an entry breaks
+  -- the rules that an entry breaks
   abbrev pub seen_rules : Seen D → ArtifactFacts D → List (Bool × RecoverError)
   seen_rules s (NotarizeVote p _) = (is_other same s.notarize p, error.ContradictingVotes) ∷ []
   seen_rules s (NullifyVote _ _) = (is_some s.finalize, error.NullifyBesideFinalize) ∷ []
@@ -63,7 +70,8 @@ module _ {D : Type 0} (same : D → D → Bool) where
   seen_rules s (Accepted _) = []
 
 module _ {D : Type 0} (same : D → D → Bool) (epoch : ℕ) (me : Option ℕ) where
-  -- all that the next entry breaks
+  -- all rules that the next entry breaks
   abbrev pub next_rules : Seen D → ArtifactFacts D → List (Bool × RecoverError)
   next_rules s e =
-      (nat_lt (entry_view e) s.view, error.OutOfOrder) ∷ own_rules epoch me e ++ seen_rules same (turned_to s (entry_view e)) e
+      (nat_lt (entry_view e) s.view, error.OutOfOrder) ∷ own_rules epoch me e
+      ++ seen_rules same (turned_to s (entry_view e)) e

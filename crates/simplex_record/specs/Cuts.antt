@@ -1,4 +1,4 @@
--- What a restart leaves of a record, oldest entry first.
+-- The cuts that a restart makes in a record, oldest entry first.
 use Rattle.std.specs.Prelude.{ℕ, zero, suc, ◌-◌, Bool, true, false, ◌&&◌, not, nat_le, nat_lt, max, if◌then◌else◌, List, [], ◌∷◌, length, take, filter, slice_get}
 use Rattle.std.specs.Option.{option_map_or}
 use Rattle.simplex_types.specs.Certificates.{Finalized, ArtifactFacts, NotarizeVote, NullifyVote, FinalizeVote, Verdict, Accepted}
@@ -18,7 +18,7 @@ module _ {D : Type 0} where
   may_drop closed entries =
       nat_lt closed (length entries) && not (option_map_or is_vote (slice_get entries (length entries - 1)) true)
 
-  -- so many last entries are dropped, but no vote or closed entry, nor anything before one
+  -- `count` last entries are dropped, but no vote or closed entry, nor anything before one
   abbrev pub without_last : ℕ → ℕ → List (ArtifactFacts D) → List (ArtifactFacts D)
   without_last closed zero entries = entries
   without_last closed (suc count) entries =
@@ -34,6 +34,6 @@ module _ {D : Type 0} where
   finalized_in [] = 0
   finalized_in (e ∷ rest) = max (finalized_by e) (finalized_in rest)
 
-  -- without what stands below the highest finalized view by more than the retention
+  -- without the entries below the highest finalized view by more than the retention
   unfoldable pub pruned_entries : ℕ → List (ArtifactFacts D) → List (ArtifactFacts D)
   pruned_entries retention entries = filter (λ e. nat_le (finalized_in entries - retention) (entry_view e)) entries

@@ -1,4 +1,4 @@
--- What the entries of a record are about. An entry is an artifact by its facts.
+-- The subjects of a record's entries. An entry is an artifact by its facts.
 use Rattle.std.specs.Prelude.{ℕ, List, Option, Some, None, map}
 use Rattle.simplex_types.specs.Certificates.{CertificateFacts, Notarized, Nullified, Finalized, ArtifactFacts, NotarizeVote, NullifyVote, FinalizeVote, Verdict, Accepted, artifact_facts}
 use Rattle.simplex_types.specs.declared.types.messages.Artifact.{Artifact}
@@ -9,7 +9,7 @@ abbrev pub entries_of : {S D K G C : Type 0} → (C → List ℕ) → List (Arti
 entries_of bytes_of artifacts = map (artifact_facts bytes_of) artifacts
 
 module _ {D : Type 0} where
-  -- the view that a certificate is of
+  -- the view of a certificate
   abbrev pub certificate_round : CertificateFacts D → Round
   certificate_round (Notarized c) = c.proposal.round
   certificate_round (Nullified c) = c.round
@@ -22,7 +22,7 @@ module _ {D : Type 0} where
   certificate_parent (Finalized c) = Some c.proposal.parent
 
 module _ {D : Type 0} where
-  -- the view that an entry is of, with its epoch
+  -- the view of an entry, with its epoch
   abbrev pub entry_round : ArtifactFacts D → Round
   entry_round (NotarizeVote p _) = p.round
   entry_round (NullifyVote round _) = round

@@ -6,7 +6,7 @@ use Rattle.simplex_types.specs.Config.{config_error_name}
 use Rattle.simplex_record.specs.declared.record.settings.StartError.{StartError}
 use Rattle.simplex_record.specs.declared.record.settings.StartError.TheVariants as start_error
 
--- why no state is made of a record
+-- why no state is made from a record
 abbrev pub recover_error_name : RecoverError → List ℕ
 recover_error_name error.OutOfOrder = codes "OutOfOrder"
 recover_error_name error.OtherEpoch = codes "OtherEpoch"

@@ -1,4 +1,4 @@
--- The events of a life as plain data, and what each makes of a state's facts.
+-- The events of a lifetime as plain data, and their effect on a state's facts.
 use Rattle.std.specs.Prelude.{◌≡◌, ℕ, Bool, true, false, ◌==◌}
 use Rattle.simplex_types.specs.Certificates.{ProposalFacts, NullificationFacts, ArtifactFacts, Accepted, Nullified}
 use Rattle.simplex_types.specs.Config.{FloorFacts, Finalized}
@@ -16,8 +16,8 @@ use Rattle.simplex_voter.specs.Verification.{takes_proposal, after_set_proposal,
 use Rattle.simplex_voter.specs.Votes.{after_construct_notarize, after_construct_nullify, after_construct_finalize}
 use Rattle.simplex_record.specs.Recovery.{as_artifact, after_replaying}
 
--- what happens to a state, with each certificate by its facts; the last number of an event that carries a moment is that
--- moment, in milliseconds
+-- an event of a state, with each certificate by its facts; the last number of an event that carries a moment is that moment, in
+-- milliseconds
 pub data Event (K D : Type 0) : Type 0 where
   SetFloor : FloorFacts D → ℕ → Event K D
   AddNotarization : ProposalFacts D → Event K D
@@ -46,7 +46,7 @@ pub data Event (K D : Type 0) : Type 0 where
   Replay : ArtifactFacts D → Event K D
 
 module _ {K L D : Type 0} where
-  -- what an event asks of its caller, apart from a floor
+  -- what an event requires of the host, apart from a floor
   abbrev pub IsEvent : StateFacts K L D → Event K D → Type 0
   IsEvent x (SetFloor floor _) = takes_floor x floor ≡ true
   IsEvent x (AddNotarization c) = takes_proposal_certificate x c ≡ true
@@ -87,10 +87,10 @@ module _ {K L D : Type 0} (same : D → D → Bool) (elect : Elect L) where
   after_event x Prune = after_prune x
   after_event x (Replay e) = after_replaying same elect x e
 
--- what one event says
+-- single events
 
 module _ {K D : Type 0} where
-  -- a nullification of the view is handed in or replayed
+  -- a nullification of the view is passed in or replayed
   abbrev pub covers_from : ℕ → Event K D → Bool
   covers_from v (AddNullification c _) = v == c.round.view
   covers_from v (Replay (Accepted (Nullified c))) = v == c.round.view
@@ -102,7 +102,7 @@ module _ {K D : Type 0} where
   finalized_by_event (SetFloor (Finalized c) _) = c.proposal.round.view
   finalized_by_event _ = 0
 
-  -- it drops the views below those that are kept
+  -- it drops the views below the retained ones
   abbrev pub is_prune : Event K D → Bool
   is_prune Prune = true
   is_prune _ = false

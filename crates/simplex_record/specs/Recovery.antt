@@ -1,4 +1,4 @@
--- What a recovery makes of a floor and a record: certificates are added, votes, verdicts and certificates replayed, and
+-- The recovery of a state from a floor and a record: certificates are added, votes, verdicts and certificates replayed, and
 -- verdicts given.
 use Rattle.std.specs.Prelude.{◌≡◌, ℕ, Bool, true, false, nat_lt, if◌then◌else◌, List, [], ◌∷◌, ◌++◌, Option, Some, None}
 use Rattle.std.specs.Option.{option_or}
@@ -51,7 +51,7 @@ module _ {K L D : Type 0} (same : D → D → Bool) (elect : Elect L) where
   abbrev pub after_entry : StateFacts K L D → ℕ → ArtifactFacts D → StateFacts K L D
   after_entry x now e = after_verdict_of elect (after_replaying same elect (after_adding same elect x now e) e) now e
 
-  -- but one below the views that are kept is passed over
+  -- but one below the retained views is skipped
   unfoldable pub after_kept_entry : StateFacts K L D → ℕ → ArtifactFacts D → StateFacts K L D
   after_kept_entry x now e = if nat_lt (entry_view e) (min_active x) then x else after_entry x now e
 
@@ -65,7 +65,7 @@ module _ {K L D : Type 0} (same : D → D → Bool) (elect : Elect L) where
   recovered_state x floor now entries = after_entries (after_set_floor same elect x floor now) now entries
 
 module _ {K L D : Type 0} (same : D → D → Bool) where
-  -- why no state is made, but for want of memory: the first broken rule, or else a deadline that passes 64 bits
+  -- why no state is made, other than out of memory: the first broken rule, or else a deadline that passes 64 bits
   abbrev pub recover_error : StateFacts K L D → FloorFacts D → ℕ → List (ArtifactFacts D) → Option RecoverError
   recover_error x floor now entries =
       option_or
@@ -78,13 +78,14 @@ module _ {D : Type 0} where
   is_finalization_entry (Accepted (Finalized _)) = true
   is_finalization_entry _ = false
 
-  -- a finalization is recorded, unless one of its view stands there
+  -- a finalization is recorded, unless the record has one of its view
   abbrev pub with_finalization_entry : List (ArtifactFacts D) → Option (ProposalFacts D) → List (ArtifactFacts D)
   with_finalization_entry entries None = entries
   with_finalization_entry entries (Some c) =
-      if stands c.proposal.round.view is_finalization_entry entries then entries else entries ++ Accepted (Finalized c) ∷ []
+      if stands c.proposal.round.view is_finalization_entry entries then entries else entries
+      ++ Accepted (Finalized c) ∷ []
 
-  -- the floor's finalization is
+  -- the floor's finalization is recorded
   abbrev pub with_floor : List (ArtifactFacts D) → FloorFacts D → List (ArtifactFacts D)
   with_floor entries floor = with_finalization_entry entries (floor_answer floor)
 
@@ -100,15 +101,17 @@ module _ {S K L D G C : Type 0} (bytes_of : C → List ℕ) (same : D → D → 
     pub kept : takes_round x (artifact_round a) ≡ true
     pub replays : TakesReplay (after_adding same elect x now (artifact_facts bytes_of a)) a
     pub gives : GivesVerdict
-        (after_replaying same elect (after_adding same elect x now (artifact_facts bytes_of a)) (artifact_facts bytes_of a))
+        (after_replaying same elect (after_adding same elect x now (artifact_facts bytes_of a))
+        (artifact_facts bytes_of a))
         (artifact_facts bytes_of a)
 
-  -- its views are small, and a state that keeps its view allows it
+  -- its views are small, and a state that retains its view allows it
   pub record TakesNext (x : StateFacts K L D) (now : ℕ) (a : Artifact S D K G C) : Type 0 where
     pub small : artifact_too_large a ≡ false
     pub taken : nat_lt (artifact_view a) (min_active x) ≡ false → TakesEntry x now a
 
-  -- so does each entry in its turn
+  -- the same for each entry when it is reached
   abbrev pub TakesEntries : StateFacts K L D → ℕ → List (Artifact S D K G C) → Type 0
   TakesEntries x now [] = Unit {0}
-  TakesEntries x now (a ∷ rest) = TakesNext x now a × TakesEntries (after_kept_entry same elect x now (artifact_facts bytes_of a)) now rest
+  TakesEntries x now (a ∷ rest) =
+      TakesNext x now a × TakesEntries (after_kept_entry same elect x now (artifact_facts bytes_of a)) now rest

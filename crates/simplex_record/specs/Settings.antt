@@ -1,4 +1,4 @@
--- A start by the settings of an engine.
+-- A start by the settings of a member.
 use Rattle.std.specs.Prelude.{ℕ, Bool, if◌then◌else◌, Option, Some, None}
 use Rattle.simplex_types.specs.Config.{skip_budget}
 use Rattle.simplex_types.specs.declared.config.Config.{Config}
@@ -9,7 +9,7 @@ use Rattle.simplex_record.specs.declared.record.settings.StartError.{StartError}
 use Rattle.simplex_record.specs.declared.record.settings.StartError.TheVariants as error
 use Rattle.simplex_record.specs.declared.record.start.Start.{Start}
 
--- how many unfinalized terms may be skipped among so many participants: none where skipping is disabled
+-- how many unfinalized terms may be skipped among this many participants: none if skipping is disabled
 abbrev pub skip_budget_of : SkipPolicy → ℕ → ℕ
 skip_budget_of skip.Disabled participants = 0
 skip_budget_of (skip.Enabled _ budget) participants = skip_budget budget participants

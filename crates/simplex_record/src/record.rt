@@ -1,5 +1,4 @@
-//! A member's record, oldest entry first: the rules that it keeps, the cuts of a restart, and how a state starts or is made
-//! again from it.
+//! A member's record, oldest entry first: its rules, the cuts of a restart, and how a state starts or is rebuilt from it.
 
 mod check;
 mod cuts;

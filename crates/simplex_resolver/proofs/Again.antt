@@ -56,7 +56,7 @@ reached t (c ∷ calls) long named =
     let h = changed x c long_x named.0 st.low in
     reached_next x c (subst (λ n. 0 < n) (sym h.length) long_x) (reached t calls long named.1)
 
--- ---- a certificate that was handed in before
+-- ---- a certificate that was passed in before
 
 abbrev is_certificate : Call → Bool
 is_certificate (Nullification v encoding) = true
@@ -64,7 +64,7 @@ is_certificate (Notarization v) = true
 is_certificate (Finalization v encoding) = true
 is_certificate call = false
 
--- two calls hand in a certificate of the same views
+-- two calls pass in a certificate of the same views
 record IsSameCertificate (c d : Call) : Type 0 where
   certificate : is_certificate c ≡ true
   current : current_view c ≡ current_view d
@@ -123,7 +123,7 @@ no_fetch s y cause v none done =
     let both = list_any-append (fetches v) s (scan_fetches y cause) in
     let scan = scans_nothing y.replaying y cause v done in grind (arith, both, none, scan)
 
--- what a certificate of an earlier view leaves to scan
+-- what remains to scan after a certificate of an earlier view
 record SameScan (x y : ResolverFacts) : Type 0 where
   current : y.current ≡ x.current
   floor : y.floor ≡ x.floor

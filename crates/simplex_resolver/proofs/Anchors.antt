@@ -27,7 +27,7 @@ filter_alike p q (suc n) b same =
     ap (λ c. cond c (b ∷ filter p (range_with_len (b + 1) n)) (filter p (range_with_len (b + 1) n))) (same b (omega arith))
     ∙ ap (λ rest. cond (q b) (b ∷ rest) rest) (filter_alike p q n (b + 1) (λ v h. same v (omega arith)))
 
--- what fails from b up to the next one that may hold is passed by
+-- views without the property, from b up to the next one that may have it, are skipped
 filter_skip : (p : ℕ → Bool) (gap b end : ℕ) → ((v : ℕ) → b ≤ v → v < b + gap → p v ≡ false)
     → filter p (range_with_len b (end - b)) ≡ filter p (range_with_len (b + gap) (end - (b + gap)))
 filter_skip p zero b end none = let here : b ≡ b + 0 = omega arith in ap (λ n. filter p (range_with_len n (end - n))) here
@@ -45,7 +45,7 @@ module _ (first last : ℕ → ℕ) (ts : AreTerms first last) where
   abbrev starts_from : ℕ → ℕ → List ℕ
   starts_from a end = filter (λ v. (v == first v) || v == a) (range_with_len a (end - a))
 
-  -- behind an anchor the next one starts a term
+  -- after an anchor the next one starts a term
   starts-next : (a end : ℕ) → 1 ≤ a → a < end → starts_from a end ≡ a ∷ starts_from (last a + 1) end
   starts-next a end low more =
       let p : ℕ → Bool = λ v. (v == first v) || v == a in
@@ -89,7 +89,7 @@ uncovered-none m a end h = ap (filter (λ v. not (has_covering m v))) (anchors-n
 pub end_of_scan-next : (t a end : ℕ) → 0 < t → 1 ≤ a → a < end → end_of_scan t (next_term_start t a) end ≡ end_of_scan t a end
 end_of_scan-next t a end h low more = end-next (term_start t) (term_end t) (terms t h) a end low more
 
--- one turn of the loop of a scan: what it has and what is to come stays the same
+-- one turn of the loop of a scan: what it has and what is to come stay the same
 pub turn : (bare : Bool) (cause a next end : ℕ) (m : ByTermFacts (List ℕ)) (items items' all : List Effect) → 0 < m.term_length → 1 ≤ a → a < end
     → next ≡ next_term_start m.term_length a → not (has_covering m a) ≡ bare → items' ≡ items ++ cond bare (Fetch a cause MissingNullification ∷ []) []
     → items ++ missing_fetches cause (uncovered_anchors m a end) ≡ all

@@ -1,4 +1,4 @@
--- What a resolver answers follows from what it was told.
+-- The results of a resolver follow from what it received.
 use Rattle.std.proofs.Common.{◌≡◌, ℕ, ◌<◌, ◌≤◌, Bool, true, false, ◌&&◌, ◌||◌, not, ◌==◌, nat_lt, nat_le, cond, List, [], ◌∷◌, map, Option, None, Some, IsSome, is_some, rules, ◌⊎◌, inl, inr, refl, sym, ◌∙◌, ap, subst, arith}
 use Rattle.std.specs.List.{list_any, AllByRecursion}
 use Rattle.std.specs.Option.{option_map, option_and_then}
@@ -23,7 +23,7 @@ use Rattle.simplex_resolver.proofs.RepairLaw.{FollowsCalls, stands, held}
 use Rattle.simplex_resolver.proofs.Kept.{kept, is_nullification, is_certified, IsAbove}
 use Rattle.simplex_resolver.proofs.Last.{IsLastKept, last_kept}
 
--- ---- what is kept comes from what was received
+-- ---- stored certificates come from received ones
 
 pub record Comes (t : ℕ) (calls : List Call) (x : ResolverFacts) : Type 0 where
   pub final : (f : ℕ) (e : List ℕ) → x.finalization ≡ Some (f, e) → WasMade (Finalization f e) calls
@@ -98,7 +98,7 @@ comes t [] long named = record {
 }
 comes t (c ∷ calls) long named = comes_next t calls (facts_of t calls) c long named.0 (stands t calls long named.1) (comes t calls long named.1)
 
--- ---- what was received
+-- ---- the received calls
 
 made_named : (c : Call) (calls : List Call) → AllByRecursion NamesAView calls → WasMade c calls → NamesAView c
 made_named c [] named made = absurd made
@@ -164,9 +164,9 @@ made_any u e [] made = absurd made
 made_any u e (c ∷ calls) (inl same) = let at = sym (ap (is_nullification u) same) in grind (arith, nat_tests, at)
 made_any u e (c ∷ calls) (inr earlier) = let rest = made_any u e calls earlier in grind (arith, rest)
 
--- ---- the answers
+-- ---- the results
 
--- what is answered where a test holds
+-- the result if a test holds
 abbrev TellsWhere : List Call → Bool → Source → Option (List ℕ) → Type 0
 TellsWhere calls test from None = test ≡ false
 TellsWhere calls test from (Some e) = (test ≡ true) × WasMade (bringing from e) calls
@@ -226,7 +226,7 @@ module _ (t : ℕ) (calls : List Call) (x : ResolverFacts) (long : 0 < t) (named
       by_test true is made low same = (grind (arith, nat_tests, is, low, same), made)
       by_test false is made low same = grind (arith, nat_tests, is, low, same)
 
-  -- what is not finalized lies above the last finalized view, or is view 0 before any finalization
+  -- a view that is not finalized lies above the last finalized view, or is view 0 before any finalization
   abbrev Unfinalized : ℕ → Type 0
   Unfinalized v = (last_finalized x < v) ⊎ ((v ≡ 0) × (last_finalized x ≡ 0))
 
@@ -300,7 +300,7 @@ module _ (t : ℕ) (calls : List Call) (x : ResolverFacts) (long : 0 < t) (named
   floor_above v (inl above) some upto = omega (arith, above, upto)
   floor_above v (inr zero_view) some upto = let none = zero_view.1 in omega (arith, none, some)
 
-  -- nothing certified stands at the floor only where it is 0
+  -- nothing is certified at the floor only if the floor is 0
   unfloored : NoContradiction calls → (v : ℕ) → Unfinalized v → true ≡ nat_le v (floor_of calls) → (o : Option (Option (List ℕ))) → finmap.get x.notarizations (floor_of calls) ≡ o
       → is_some (option_and_then (λ e. e) o) ≡ false → (nat_lt 0 (floor_of calls) && nat_le v (floor_of calls)) ≡ false
   unfloored none v low is o at lost = elim (cases_lt 0 (floor_of calls)) [

@@ -1,4 +1,4 @@
--- What a resolver that a driver keeps has open, after one more call and over all that it was told.
+-- The open fetches of a host's resolver, after one more call and over all that it received.
 use Rattle.std.proofs.Common.{◌≡◌, ℕ, ◌<◌, ◌≤◌, true, false, ◌==◌, ◌||◌, not, List, [], ◌∷◌, ◌++◌, refl, ap, sym, subst, ◌∙◌, arith}
 use Rattle.std.specs.List.{list_any, AllByRecursion}
 use Rattle.std.proofs.lemmas.Bool.Decides.{nat_tests}
@@ -17,16 +17,16 @@ use Rattle.simplex_resolver.proofs.RepairLaw.{all_fetched, stands, outstanding_i
 use Rattle.simplex_resolver.proofs.Views.{keeps_outstanding}
 use Rattle.simplex_resolver.specs.CallHistory.{LawfulResolverFacts, HasReceivedCalls, IsMade, OpensTheOutstanding, OpensNone, OpensNoneAgain, AnswersTheReceived}
 
--- a certificate of a view above genesis is handed in by a call that names a view
+-- a certificate of a view above genesis is passed in by a call that names a view
 pub update_names : {S D K G C : Type 0} (payload_bytes : D → List ℕ) (bytes_of : C → List ℕ) (certificate : Certificate S D K G C)
     → 1 ≤ certificate_view certificate → NamesAView (update payload_bytes (certificate_facts bytes_of certificate))
 update_names payload_bytes bytes_of (Notarization n) h = h
 update_names payload_bytes bytes_of (Nullification n) h = h
 update_names payload_bytes bytes_of (Finalization f) h = h
 
--- ---- what it was told
+-- ---- what it received
 
--- a record, whose last effects open the wanted fetches
+-- a record, whose last effects open the fetches that it needs
 pub told_by_record : (t : ℕ) (calls : List Call) (r : LawfulResolverFacts) (es : List Effect)
     → 0 < t → AllByRecursion NamesAView calls → list_any is_replayed calls ≡ true → r.state ≡ facts_of t calls
     → ((v : ℕ) → is_outstanding es v ≡ is_needed t calls v) → IsApplied [] es r.open_fetches

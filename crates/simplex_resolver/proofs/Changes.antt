@@ -88,7 +88,7 @@ fetches_none : (b : Bool) (u v : ℕ) → is_outstanding (cond b (Settled OfNota
 fetches_none true u v = refl
 fetches_none false u v = refl
 
--- what is put in at u where u is above f, read above f
+-- the value added at u, if u is above f, read above f
 put_above : (above : Bool) (f u v : ℕ) (before after : Bool) → above ≡ nat_lt f u → f < v → after ≡ (v == u || before) → cond above after before ≡ (v == u || before)
 put_above true f u v before after is h put = put
 put_above false f u v before after is h put = grind (arith, nat_tests, is)
@@ -130,7 +130,7 @@ by_notarization false settles_it x u final is = record {
 
 -- ---- calls that may raise the floor
 
--- y is x after a call that puts u under the floor and answers the effect e, but for the raise
+-- y is x after a call that raises the floor to u and returns the effect e, without the raise
 record Lifts (x : ResolverFacts) (y : ResolverFacts) (u : ℕ) (c : Call) (e : Effect) : Type 0 where
   length : term_length y ≡ term_length x
   floor : y.floor ≡ x.floor

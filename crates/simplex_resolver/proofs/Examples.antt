@@ -1,4 +1,4 @@
--- Some calls of a resolver, in terms of five views; the last call stands first.
+-- Some calls of a resolver, in terms of five views; the last call comes first.
 use Rattle.std.proofs.Common.{◌≡◌, refl, ℕ, true, false, List, [], ◌∷◌, filter, Some, None}
 use Rattle.std.specs.Option.{option_map}
 use Rattle.simplex_types.specs.Certificates.{ArtifactFacts, Notarized, Verdict as Judged, Accepted}
@@ -46,7 +46,7 @@ failed_again = rw (contains-insert_new (empty 5).uncertifiable 3 tt 3) refl
 notarized_again : settle_effects (facts_of 5 (Notarization 3 ∷ [])) (Notarization 3) ≡ Settled OfNotarization 3 3 ∷ []
 notarized_again = rw (contains-empty (Unit {0}) 3) refl
 
--- above the floor the first view and each term's start are wanted, up to the highest certificate, and not where they are covered
+-- above the floor the first view and each term's start must be fetched, up to the highest certificate, unless they are covered
 abbrev certified_two : List Call
 certified_two = Notarization 17 ∷ Nullification 13 (9 ∷ []) ∷ Nullification 6 (9 ∷ []) ∷ Verdict 2 (8 ∷ []) true ∷ []
 

@@ -1,4 +1,4 @@
--- What each call leaves of the encodings that are kept, and where they come from.
+-- The stored encodings after each call, and where they come from.
 use Rattle.std.proofs.Common.{◌≡◌, ℕ, ◌+◌, ◌<◌, ◌≤◌, Bool, true, false, ◌&&◌, ◌||◌, not, ◌==◌, nat_lt, nat_le, cond, List, Option, None, Some, is_some, ◌⊎◌, inl, inr, max, min, refl, sym, ◌∙◌, ap, arith}
 use Rattle.std.specs.Ordering.{nat_cmp}
 use Rattle.std.specs.Option.{option_and_then, unwrap_or}
@@ -20,7 +20,7 @@ abbrev pub is_nullification : ℕ → Call → Bool
 is_nullification v (Nullification u encoding) = v == u
 is_nullification v call = false
 
--- a certified notarization is kept at v
+-- a certified notarization is stored at v
 abbrev pub is_certified : FinMap nat_cmp (Option (List ℕ)) → ℕ → Bool
 is_certified m v = is_some (certified_encoding m v)
 
@@ -105,7 +105,7 @@ pub record Kept (x : ResolverFacts) (c : Call) (y : ResolverFacts) : Type 0 wher
 high_enough : (f u : ℕ) → true ≡ nat_lt f u → f < u
 high_enough f u is = grind (arith, nat_tests, is)
 
--- what is not put in, since it is too low, is not looked for
+-- a value that is not added, since it is too low, is not searched for
 too_low : (f u v end_u end_v : ℕ) (there : Bool) → false ≡ nat_lt f end_u → f < end_v → (v ≡ u → end_v ≡ end_u) → there ≡ (v == u || there)
 too_low f u v end_u end_v there is high same = elim (cases_eq v u) [
   | inl at ↦ absurd (let ends = same at in let low : end_u ≤ f = grind (arith, nat_tests, is) in omega (arith, ends, low, high))

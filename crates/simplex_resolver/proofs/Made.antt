@@ -1,4 +1,4 @@
--- What a call of a resolver that a driver keeps makes of it, by its state's call and what is applied behind it.
+-- The effect of a call on a host's resolver: its state's call, and the application of its effects.
 use Rattle.std.proofs.Common.{◌≡◌, ◌<◌, ◌^◌, ℕ, true, false, Result, Ok, Err, IfOk, IfErr, OnOk, OnErr, Vec, Global, ap, sym, subst, ◌∙◌}
 use Rattle.simplex_types.specs.declared.types.fault.Fault.{Fault}
 use Rattle.simplex_types.specs.declared.types.fault.Fault.TheVariants.{OutOfMemory}

@@ -8,7 +8,7 @@ use Rattle.simplex_types.specs.declared.types.messages.Artifact.{Artifact}
 use Rattle.simplex_resolver.specs.RecordCalls.{newest_first, notarization_at, newest_notarization}
 
 module _ {S D K G C : Type 0} (bytes_of : C → List ℕ) where
-  -- an artifact behind the others is the newest entry
+  -- an artifact after the others is the newest entry
   pub newest_more : (xs : List (Artifact S D K G C)) (x : Artifact S D K G C) → newest_first bytes_of (xs ++ x ∷ []) ≡ artifact_facts bytes_of x ∷ newest_first bytes_of xs
   newest_more xs x = ap reverse (map-append (artifact_facts bytes_of) xs (x ∷ [])) ∙ reverse-append (map (artifact_facts bytes_of) xs) (artifact_facts bytes_of x ∷ [])
 

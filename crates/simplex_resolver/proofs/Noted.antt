@@ -37,7 +37,7 @@ module _ {X : Type 0} where
   stays_at (y ∷ ys) x zero h = refl
   stays_at (y ∷ ys) x (suc i) h = stays_at ys x i (omega (arith, h))
 
-  -- and that one stands behind the others
+  -- and that one comes after the others
   last_at : (xs : List X) (x : X) → slice_get (xs ++ x ∷ []) (length xs) ≡ Some x
   last_at [] x = refl
   last_at (y ∷ ys) x = last_at ys x
@@ -52,7 +52,7 @@ module _ {D : Type 0} where
   newest_of_both v (e ∷ es) fs = ap (option_or (notarization_at v e)) (newest_of_both v es fs) ∙ sym (or_or (notarization_at v e) (newest_notarization v es) (newest_notarization v fs))
 
 module _ {D : Type 0} where
-  -- an entry is a notarization of the view, which stands at its place from then on, or the view's place stays
+  -- an entry is a notarization of the view, which is at its place from then on, or the view's place stays
   abbrev Placed : FinMap nat_cmp ℕ → ArtifactFacts D → ℕ → ℕ → Type 0
   Placed m e n v = ((f : ProposalFacts D) × (notarization_at v e ≡ Some f) × (fin.get (with_place m e n) v ≡ Some n))
       ⊎ ((notarization_at v e ≡ None) × (fin.get (with_place m e n) v ≡ fin.get m v))

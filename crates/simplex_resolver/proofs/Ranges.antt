@@ -1,4 +1,4 @@
--- What a set of views keeps while the views of a range are taken out.
+-- A set of views while the views of a range are removed.
 use Rattle.std.proofs.Common.{◌≡◌, ℕ, Bool, true, false, ◌&&◌, ◌||◌, not, ◌==◌, nat_lt, nat_le, cond, List, [], ◌∷◌, filter, slice_get, Option, Some, None, Bor, refl, sym, ◌∙◌, ap, arith}
 use Rattle.std.specs.Option.{MatchOption, option_copied}
 use Rattle.std.specs.Ordering.{nat_cmp, is_eq, is_le, is_lt}
@@ -53,7 +53,7 @@ first_has : (vs : List ℕ) (v : ℕ) → slice_get vs 0 ≡ Some v → has vs v
 first_has [] v is = absurd (cc)
 first_has (u ∷ vs) v is = let same : u ≡ v = cc in rw same (grind (arith, nat_tests))
 
--- the first one that passes a test does so, and stands in the list
+-- the first one that passes a test does so, and is in the list
 pub first_passes : (p : ℕ → Bool) (vs : List ℕ) (v : ℕ) → slice_get (filter p vs) 0 ≡ Some v → (p v && has vs v) ≡ true
 first_passes p vs v is = sym (has-filter p vs v) ∙ first_has (filter p vs) v is
 

@@ -1,4 +1,4 @@
--- Over all runs of calls: once it was replayed, what is outstanding is what is wanted.
+-- Over all runs of calls: after the replay, the outstanding fetches are exactly the views that must be fetched.
 use Rattle.std.proofs.Common.{◌≡◌, ℕ, ◌+◌, ◌-◌, ◌<◌, ◌≤◌, Bool, true, false, ◌&&◌, ◌||◌, not, ◌==◌, nat_lt, cond, List, [], ◌∷◌, ◌++◌, map, filter, Option, inl, inr, max, refl, sym, ◌∙◌, ap, subst, arith}
 use Rattle.std.specs.List.{list_any, range_with_len, AllByRecursion}
 use Rattle.std.specs.FinMap as finmap
@@ -20,18 +20,18 @@ use Rattle.simplex_resolver.proofs.Views.{has-filter, has-range, fetches-map, se
 use Rattle.simplex_resolver.proofs.Maps.{has_keys, keys-empty, contains-empty}
 use Rattle.simplex_resolver.proofs.Changes.{Changed, changed}
 
--- what stands between two calls
+-- the invariant between two calls
 abbrev IsBetweenCalls : ResolverFacts → (ℕ → Bool) → Type 0
 IsBetweenCalls x out = (v : ℕ) → IsBetweenCallsAt x.floor x.current x.scanned v (starts_term (term_length x) v) (has_covering x.nullifications v) (finmap.contains_key x.uncertifiable v) (out v)
 
--- what stands before a scan
+-- the invariant before a scan
 abbrev Ready : ResolverFacts → (ℕ → Bool) → Type 0
 Ready x out = (v : ℕ) → ReadyAt x.floor x.current x.scanned v (starts_term (term_length x) v) (has_covering x.nullifications v) (finmap.contains_key x.uncertifiable v) (out v)
 
 abbrev found : ResolverFacts → ℕ → Bool
 found x v = is_found_by (scan_start x) x.current v (starts_term (term_length x) v) (has_covering x.nullifications v)
 
--- a false verdict stands at v and needs a nullification
+-- v has a false verdict and needs a nullification
 abbrev unmet : ResolverFacts → ℕ → Bool
 unmet x v = (finmap.contains_key x.uncertifiable v && nat_lt x.floor v) && not (has_covering x.nullifications v)
 
@@ -170,7 +170,7 @@ held x (Verdict u b true) = let y = before_scan x (Verdict u b true) in held-sca
 held x (Verdict u b false) = record { current = refl; floor = refl; finalization = refl; nullifications = refl; notarizations = refl; uncertifiable = refl; replaying = refl }
 held x Replayed = record { current = refl; floor = refl; finalization = refl; nullifications = refl; notarizations = refl; uncertifiable = refl; replaying = refl }
 
--- how the fetches stand
+-- the state of the fetches
 pub record Fetched (x : ResolverFacts) (es : List Effect) : Type 0 where
   pub at_rest : x.replaying ≡ true → (x.scanned ≡ 0) × ((v : ℕ) → is_outstanding es v ≡ false)
   pub quiet : x.replaying ≡ false → IsBetweenCalls x (is_outstanding es)
@@ -223,7 +223,7 @@ failing_at floor v u replaying covered covered_u out all fetched sum fails runs 
       | inr apart ↦ grind (arith, nat_tests, sum, fails, runs, apart)
     ]
 
--- what a false verdict leaves as it was
+-- what a false verdict keeps as it was
 pub record Fails (x y : ResolverFacts) : Type 0 where
   pub floor : y.floor ≡ x.floor
   pub current : y.current ≡ x.current

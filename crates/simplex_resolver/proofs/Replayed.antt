@@ -1,4 +1,4 @@
--- What the calls of a record that was tested lead to.
+-- The facts after the calls of a tested record.
 use Rattle.std.proofs.Common.{◌≡◌, ℕ, ◌<◌, Bool, true, false, ◌&&◌, ◌||◌, not, List, [], ◌∷◌, ◌++◌, Option, Some, None, refl, ap, ◌∙◌, arith}
 use Rattle.std.specs.List.{list_any, AllByRecursion}
 use Rattle.std.proofs.lemmas.List.Folds.{list_any-append}
@@ -65,7 +65,7 @@ module _ {D : Type 0} (payload_bytes : D → List ℕ) where
 only_last : (all before settled last : Bool) → all ≡ ((before && not settled) || last) → before ≡ false → last ≡ all
 only_last all before settled last is none = grind (arith, is, none)
 
--- nothing is outstanding before the end of the replay, so all that is wanted is fetched by it
+-- nothing is outstanding before the end of the replay, so the end fetches all that must be fetched
 pub end_fetches_wanted : (t : ℕ) (calls : List Call) → 0 < t → AllByRecursion NamesAView calls → list_any is_replayed calls ≡ false
     → (v : ℕ) → is_outstanding (effects (facts_of t calls) Replayed) v ≡ is_needed t (Replayed ∷ calls) v
 end_fetches_wanted t calls long named none v =

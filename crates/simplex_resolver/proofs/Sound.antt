@@ -1,4 +1,4 @@
--- What is known of entries that have no error, and which one has the first.
+-- Facts about entries without an error, and which entry has the first error.
 use Rattle.std.proofs.Common.{◌≡◌, ℕ, ◌+◌, ◌<◌, ◌≤◌, ◌^◌, Bool, true, false, ◌==◌, nat_le, cond, List, [], ◌∷◌, ◌++◌, map, reverse, take, drop, get_or, length, arith, Option, Some, None, Result, Ok, Err, IfErr, refl, ap, sym, ◌∙◌, subst}
 use Rattle.std.specs.Option.{option_or}
 use Rattle.std.proofs.lemmas.Bool.Decides.{nat_tests}
@@ -98,7 +98,7 @@ module _ {D : Type 0} where
   either None p n P here there is = there is
   either (Some m) p n P here there is = here is
 
-  -- what is found among entries that have no error has none
+  -- what is found among entries without an error has none
   found_sound : (v : ℕ) (before : List (ArtifactFacts D)) (n : ProposalFacts D) → record_error before ≡ None → newest_notarization v before ≡ Some n → proposal_error n.proposal ≡ None
   found_sound v [] n none is = absurd (cc)
   found_sound v (e ∷ before) n none is =
@@ -111,7 +111,7 @@ module _ {D : Type 0} where
 
 -- ---- refusals
 
--- on a resolver that goes on, a call that names no view that is too large is refused only for want of memory
+-- on a resolver that has not failed, a call that names no view that is too large is refused only when out of memory
 pub only_memory : (old new : ResolverFacts) (v : ℕ) (fault : Fault) → old.is_failed ≡ false → v < 2 ^ 63 → Refused old v fault new → fault ≡ OutOfMemory
 only_memory old new v OutOfMemory live small refused = refl
 only_memory old new v Failed live small refused = let failed = refused.0 in absurd (cc)

@@ -44,7 +44,7 @@ or_true false = refl
 T_from_true : (b : Bool) → b ≡ true → T b
 T_from_true b e = subst T (sym e) tt
 
--- a view stands in the map exactly where it is in the list
+-- a view is in the map exactly if it is in the list
 pub get_keyed : (vs : List ℕ) → is_sorted nat_cmp (keyed vs) ≡ true → (q : ℕ) → fin.get (fin.from_sorted {R = nat_cmp} (keyed vs)) q ≡ cond (has vs q) (Some tt) None
 get_keyed vs sorted q = fin.get-from_sorted nat_cmp (keyed vs) q (T_from_true _ sorted) ∙ find_keyed vs q
 
@@ -105,7 +105,7 @@ there_once m v = by_test (fin.contains_key m v) refl
 
 -- ---- views with values
 
--- whether a loan is answered is whether a value is
+-- a loan has a result exactly if there is a value
 pub same_some : {V : Type 0} (o : Option (Bor V)) (b : Bool) (w : Option V) → b ≡ is_some o → option_copied o ≡ w → b ≡ is_some w
 same_some None b w test value = test ∙ ap is_some value
 same_some (Some x) b w test value = test ∙ ap is_some value
@@ -114,7 +114,7 @@ absent : {V : Type 0} (o : Option V) → is_some o ≡ false → o ≡ None
 absent None is = refl
 absent (Some x) is = absurd (false≢true (sym is))
 
--- what stands at a view, by its value and its places among the failed and the noted views
+-- the entry at a view, by its value and its places among the failed and the noted views
 abbrev entry : {V : Type 0} → Option V → Option (Unit {0}) → Option (Unit {0}) → Option (Option V)
 entry value failed noted = cond (is_some value || (is_some failed || is_some noted)) (Some value) None
 
@@ -154,7 +154,7 @@ module _ {V : Type 0} where
       among = list_any-append (eq_by_cmp nat_cmp q) (fin.keys failed) (fin.keys noted)
           ∙ (λ k. sym (fin.contains_key-keys failed q) k || sym (fin.contains_key-keys noted q) k)
 
-  -- where nothing is kept
+  -- if nothing is stored
   pub none_valued : (values : FinMap nat_cmp V) (failed noted : FinMap nat_cmp (Unit {0})) → values ≡ fin.empty → failed ≡ fin.empty → noted ≡ fin.empty → with_values values failed noted ≡ fin.empty
   none_valued values failed noted no_value none_failed none_noted = same_maps _ _ (λ q.
       get_valued values failed noted q
@@ -181,7 +181,7 @@ module _ {V : Type 0} where
         by_test true o = refl
         by_test false o = refl
 
-    -- where no value stands, the view is there with none, if it is there
+    -- if there is no value, the view is there with none, if it is there
     noted_once : (v : ℕ) → fin.contains_key values v ≡ false → insert_new x v None ≡ fin.insert x v None
     noted_once v none = by_test (is_some (fin.get failed v) || is_some (fin.get noted v)) (got_valued v ∙ ap (λ o. cond (is_some o || (is_some (fin.get failed v) || is_some (fin.get noted v))) (Some o) None) (absent (fin.get values v) none))
       where

@@ -22,7 +22,7 @@ any-ordering q true c less equal greater = refl
 any-ordering q false true less equal greater = refl
 any-ordering q false false less equal greater = refl
 
--- what a list of numbers keeps under a filter
+-- the numbers of a list that pass a filter
 pub has-filter : (p : ℕ → Bool) (us : List ℕ) (v : ℕ) → has (filter p us) v ≡ (p v && has us v)
 has-filter p [] v = grind arith
 has-filter p (u ∷ us) v =

@@ -1,4 +1,4 @@
--- What a resolver that a driver keeps was told so far, and which of its fetches are open.
+-- The calls that a host's resolver received so far, and which of its fetches are open.
 use Rattle.std.specs.Prelude.{◌≡◌, ℕ, ◌<◌, ◌≤◌, true, false, List, [], ◌∷◌, length, take, refl}
 use Rattle.std.specs.Coded.{Coded, code_by, coded×, coded_ℕ, coded_list}
 use Rattle.std.specs.List.{list_any, AllByRecursion}
@@ -22,7 +22,8 @@ resolver_facts_code =
     code_by (ResolverFacts × List ℕ) (coded× facts_code (coded_list coded_ℕ)) (λ r. (r.state, r.open_fetches))
     (λ p. record { state = p.0; open_fetches = p.1 }) (λ _. refl)
 
--- it was told just these calls, the last one first, and its open fetches are those that their effects leave outstanding
+-- it received exactly these calls, the last one first, and its open fetches are those that their effects leave
+-- outstanding
 pub record HasReceivedCalls (term_length : ℕ) (calls : List Call) (r : LawfulResolverFacts) : Type 0 where
   pub long : 0 < term_length
   pub named : AllByRecursion NamesAView calls
@@ -32,22 +33,24 @@ pub record HasReceivedCalls (term_length : ℕ) (calls : List Call) (r : LawfulR
 -- ---- a call
 
 -- the call is made: these are its effects, and they are applied to the open fetches
-pub record IsMade (call : Call) (old : LawfulResolverFacts) (es : List Effect) (new : LawfulResolverFacts) : Type 0 where
+pub record IsMade (call : Call) (old : LawfulResolverFacts) (es : List Effect)
+    (new : LawfulResolverFacts) : Type 0 where
   pub state : new.state ≡ after old.state call
   pub answered : es ≡ effects old.state call
   pub applied : IsApplied old.open_fetches es new.open_fetches
 
--- whatever it was told before, it was told this call besides
+-- whatever it received before, it also received this call
 abbrev pub ReceivesMore : LawfulResolverFacts → Call → LawfulResolverFacts → Type 0
 ReceivesMore old call new =
-    (term_length : ℕ) (calls : List Call) → HasReceivedCalls term_length calls old → HasReceivedCalls term_length (call ∷ calls) new
+    (term_length : ℕ) (calls : List Call) → HasReceivedCalls term_length calls old
+    → HasReceivedCalls term_length (call ∷ calls) new
 
--- a beginning of the effects is applied
+-- a prefix of the effects is applied
 abbrev pub IsBegun : List ℕ → List Effect → List ℕ → Type 0
 IsBegun old es new = (n : ℕ) × (n ≤ length es) × IsApplied old (take n es) new
 
--- what a refused call leaves, which names no view above v: without memory a failed resolver, with a beginning of the call's
--- effects applied to its open fetches, and otherwise the same resolver
+-- the resolver after a refused call, which names no view above v: without memory a failed one, with the first
+-- few of the call's effects applied to its open fetches, and otherwise the same resolver
 abbrev pub IsLeftBy : LawfulResolverFacts → ℕ → Call → Fault → LawfulResolverFacts → Type 0
 IsLeftBy old v call OutOfMemory new =
     Refused old.state v OutOfMemory new.state × IsBegun old.open_fetches (effects old.state call) new.open_fetches
@@ -55,11 +58,12 @@ IsLeftBy old v call fault new = Refused old.state v fault new.state × (new ≡ 
 
 -- ---- the laws
 
--- whatever it was told so far
+-- whatever it received so far
 abbrev pub OfEachCallHistory : LawfulResolverFacts → (ℕ → List Call → Type 0) → Type 0
-OfEachCallHistory r Holds = (term_length : ℕ) (calls : List Call) → HasReceivedCalls term_length calls r → Holds term_length calls
+OfEachCallHistory r Holds =
+    (term_length : ℕ) (calls : List Call) → HasReceivedCalls term_length calls r → Holds term_length calls
 
--- once its replay has ended its open fetches are exactly the wanted views
+-- once its replay has ended its open fetches are exactly the views that it needs
 abbrev pub OpensTheOutstanding : LawfulResolverFacts → ℕ → List Call → Type 0
 OpensTheOutstanding r term_length calls =
     list_any is_replayed calls ≡ true → (v : ℕ) → has r.open_fetches v ≡ is_needed term_length calls v
@@ -68,11 +72,12 @@ OpensTheOutstanding r term_length calls =
 abbrev pub OpensNone : LawfulResolverFacts → ℕ → List Call → Type 0
 OpensNone r term_length calls = list_any is_replayed calls ≡ false → r.open_fetches ≡ []
 
--- a certificate opens no fetch where it was told one of its kind and view before
+-- a certificate opens no fetch if it received one of its kind and view before
 abbrev pub OpensNoneAgain : LawfulResolverFacts → ℕ → List Call → Type 0
 OpensNoneAgain r term_length calls =
-    (call : Call) → list_any (are_alike call) calls ≡ true → (v : ℕ) → list_any (fetches v) (effects r.state call) ≡ false
+    (call : Call) → list_any (are_alike call) calls ≡ true → (v : ℕ)
+    → list_any (fetches v) (effects r.state call) ≡ false
 
--- what it answers follows from what it was told
+-- its results follow from what it received
 abbrev pub AnswersTheReceived : LawfulResolverFacts → ℕ → List Call → Type 0
 AnswersTheReceived r term_length calls = AnswersFit term_length calls r.state

@@ -1,4 +1,4 @@
--- What a resolver was told, without its order, and what follows from it.
+-- The calls that a resolver received, without their order, and what follows from them.
 use Rattle.std.specs.Prelude.{◌≡◌, ℕ, ◌≤◌, ◌⊎◌, Bool, true, false, ◌&&◌, ◌||◌, not, ◌==◌, nat_lt, List, [], ◌∷◌, map, max}
 use Rattle.std.specs.List.{list_any}
 use Rattle.simplex_types.specs.Terms.{covers}
@@ -42,24 +42,24 @@ abbrev pub finalized_view : Call → ℕ
 finalized_view (Finalization v encoding) = v
 finalized_view call = 0
 
--- the view that a call puts under the floor
+-- the view that a call raises the floor to
 abbrev pub floor_raised_to : Call → ℕ
 floor_raised_to (Finalization v encoding) = v
 floor_raised_to (Verdict v encoding true) = v
 floor_raised_to call = 0
 
--- the view that a certificate is of, or 0
+-- the view of a certificate, or 0
 abbrev pub current_view : Call → ℕ
 current_view (Nullification v encoding) = v
 current_view (Notarization v) = v
 current_view (Finalization v encoding) = v
 current_view call = 0
 
--- the last finalized view, the floor and the current view; 0 where there is none
+-- the last finalized view, the floor and the current view; 0 if there is none
 abbrev pub finalized_of : List Call → ℕ
 finalized_of calls = greatest (map finalized_view calls)
 
--- the floor that the calls raise
+-- the floor after the calls
 abbrev pub floor_of : List Call → ℕ
 floor_of calls = greatest (map floor_raised_to calls)
 
@@ -67,7 +67,7 @@ floor_of calls = greatest (map floor_raised_to calls)
 abbrev pub current_of : List Call → ℕ
 current_of calls = greatest (map current_view calls)
 
--- ---- what a call says of a view
+-- ---- single calls and a view
 
 -- a true verdict on the view
 abbrev pub is_true_verdict : ℕ → Call → Bool
@@ -90,10 +90,10 @@ abbrev pub is_covering : ℕ → ℕ → Call → Bool
 is_covering t v (Nullification u encoding) = covers t u v
 is_covering t v call = false
 
--- ---- what is to be fetched
+-- ---- what must be fetched
 
--- the uncovered views among each term's lowest above the floor, where it is below the current view,
--- and those of false verdicts above the floor
+-- the uncovered views among each term's lowest above the floor, if it is below the current view, and those of
+-- false verdicts above the floor
 abbrev pub is_needed : ℕ → List Call → ℕ → Bool
 is_needed t calls v =
     not (list_any (is_covering t v) calls)

@@ -1,4 +1,4 @@
--- The calls of a resolver that a member's record stands for. Entries stand newest first, and so do the calls.
+-- The calls of a resolver for a member's record. Entries come newest first, and so do the calls.
 use Rattle.std.specs.Prelude.{ℕ, Bool, ◌==◌, if◌then◌else◌, List, [], ◌∷◌, ◌++◌, Option, Some, None, map, reverse}
 use Rattle.std.specs.Option.{option_or}
 use Rattle.simplex_types.specs.Certificates.{ProposalFacts, Notarized, ArtifactFacts, Verdict, Accepted, artifact_facts}
@@ -11,7 +11,7 @@ abbrev pub newest_first : {S D K G C : Type 0} → (C → List ℕ) → List (Ar
 newest_first bytes_of artifacts = reverse (map (artifact_facts bytes_of) artifacts)
 
 module _ {D : Type 0} where
-  -- the notarization that an entry is, if it is one of the view
+  -- the notarization in an entry, if it is one of the view
   abbrev pub notarization_at : ℕ → ArtifactFacts D → Option (ProposalFacts D)
   notarization_at v (Accepted (Notarized n)) = if n.proposal.round.view == v then Some n else None
   notarization_at v _ = None
@@ -27,8 +27,8 @@ module _ {D : Type 0} (payload_bytes : D → List ℕ) where
   verdict_on None success = []
   verdict_on (Some n) success = verdict payload_bytes n success ∷ []
 
-  -- the call of an entry, by the entries before it: a certificate is handed in, a verdict with the newest
-  -- notarization of its view; a vote makes none
+  -- the call of an entry, given the entries before it: a certificate is passed in, a verdict with the newest
+  -- notarization of its view; a vote makes no call
   abbrev pub entry_calls : List (ArtifactFacts D) → ArtifactFacts D → List Call
   entry_calls before (Accepted c) = update payload_bytes c ∷ []
   entry_calls before (Verdict round success) = verdict_on (newest_notarization round.view before) success
@@ -39,7 +39,7 @@ module _ {D : Type 0} (payload_bytes : D → List ℕ) where
   calls_of [] = []
   calls_of (e ∷ before) = entry_calls before e ++ calls_of before
 
--- the calls that a record stands for
+-- the calls for a record
 abbrev pub record_calls : {S D K G C : Type 0} → (D → List ℕ) → (C → List ℕ) → List (Artifact S D K G C) → List Call
 record_calls payload_bytes bytes_of artifacts = calls_of payload_bytes (newest_first bytes_of artifacts)
 

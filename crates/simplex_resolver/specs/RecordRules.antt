@@ -8,7 +8,8 @@ use Rattle.simplex_resolver.specs.declared.replay.error.ReplayError.{ReplayError
 use Rattle.simplex_resolver.specs.declared.replay.error.ReplayError.TheVariants as error
 use Rattle.simplex_resolver.specs.RecordCalls.{newest_notarization}
 
--- why a certificate of the view is refused, by the highest view that it names: it is genesis, or names one above 2^63 - 1
+-- why a certificate of the view is refused, by the highest view that it names: it is genesis, or names one
+-- above 2^63 - 1
 abbrev pub view_error : ℕ → ℕ → Option ReplayError
 view_error v highest =
     if v == 0 then Some error.ZeroView
@@ -25,14 +26,14 @@ module _ {D : Type 0} where
   certificate_error (Nullified n) = view_error n.round.view n.round.view
   certificate_error (Finalized f) = proposal_error f.proposal
 
-  -- why an entry cannot be handed in behind those before it, the newest first
+  -- why an entry cannot be passed in after those before it, the newest first
   abbrev pub entry_error : List (ArtifactFacts D) → ArtifactFacts D → Option ReplayError
   entry_error before (Accepted c) = certificate_error c
   entry_error before (Verdict round _) =
       if is_some (newest_notarization round.view before) then None else Some error.VerdictWithoutNotarization
   entry_error before _ = None
 
-  -- the error of the oldest entry that has one; the entries stand newest first
+  -- the error of the oldest entry that has one; the entries come newest first
   abbrev pub record_error : List (ArtifactFacts D) → Option ReplayError
   record_error [] = None
   record_error (e ∷ before) = option_or (record_error before) (entry_error before e)

@@ -22,12 +22,12 @@ settles v (Finalized u) = nat_le v u
 settles v (Raised u) = nat_le v u
 settles v effect = false
 
--- some fetch of v has nothing behind it that settles v
+-- some fetch of v is followed by nothing that settles v
 abbrev pub is_outstanding : List Effect → ℕ → Bool
 is_outstanding [] v = false
 is_outstanding (e ∷ es) v = (fetches v e && not (list_any (settles v) es)) || is_outstanding es v
 
--- whether a view stands in a list
+-- whether a list has a view
 abbrev pub has : List ℕ → ℕ → Bool
 has vs v = list_any (λ u. v == u) vs
 
@@ -39,9 +39,10 @@ IsApplied old es new = (v : ℕ) → has new v ≡ ((has old v && not (list_any 
 abbrev pub IsOutstandingSet : List ℕ → List Effect → Type 0
 IsOutstandingSet vs es = (v : ℕ) → has vs v ≡ is_outstanding es v
 
--- the set of what is outstanding after some effects becomes that of these followed by the new ones
+-- the set of the outstanding views after some effects becomes that of these followed by the new ones
 abbrev pub KeepsOutstanding : List ℕ → List Effect → List ℕ → Type 0
-KeepsOutstanding old es new = (earlier : List Effect) → IsOutstandingSet old earlier → IsOutstandingSet new (earlier ++ es)
+KeepsOutstanding old es new =
+    (earlier : List Effect) → IsOutstandingSet old earlier → IsOutstandingSet new (earlier ++ es)
 
 -- ---- runs, the last call first
 
@@ -55,14 +56,15 @@ abbrev pub effects_of : ℕ → List Call → List Effect
 effects_of t [] = []
 effects_of t (call ∷ earlier) = effects_of t earlier ++ effects (facts_of t earlier) call
 
--- once it was replayed, a resolver's outstanding fetches are exactly the wanted views
+-- once it was replayed, a resolver's outstanding fetches are exactly the views that it needs
 abbrev pub OutstandingIsNeeded : Type 0
 OutstandingIsNeeded =
     (t : ℕ) (calls : List Call) → 0 < t → AllByRecursion NamesAView calls
     → list_any is_replayed calls ≡ true
     → (v : ℕ) → is_outstanding (effects_of t calls) v ≡ is_needed t calls v
 
--- a certificate opens no fetch where one of its kind and view was handed in before, with these signers or with others
+-- a certificate opens no fetch if one of its kind and view was passed in before, with these signers or with
+-- others
 abbrev pub RecordedAgainFetchesNothing : Type 0
 RecordedAgainFetchesNothing =
     (t : ℕ) (calls : List Call) (c : Call) → 0 < t → AllByRecursion NamesAView calls

@@ -1,4 +1,4 @@
--- The calls of a resolver: what each makes of the facts, and the effects that it answers.
+-- The calls of a resolver: their effect on the facts, and the effects that they return.
 use Rattle.std.specs.Prelude.{◌≡◌, ℕ, ◌+◌, ◌<◌, ◌≤◌, ◌^◌, Bool, true, false, ◌&&◌, not, nat_lt, if◌then◌else◌, List, [], ◌∷◌, ◌++◌, map, filter, None, Some, max, min}
 use Rattle.std.specs.Ordering.{nat_cmp}
 use Rattle.std.specs.FinMap as map
@@ -19,8 +19,8 @@ use Rattle.simplex_resolver.specs.declared.resolver.effect.Effect.{Effect}
 use Rattle.simplex_resolver.specs.declared.resolver.effect.Effect.TheVariants.{Fetch, Settled, Finalized, Raised}
 use Rattle.simplex_resolver.specs.Facts.{ResolverFacts, term_length, last_finalized, uncovered_anchors, starts_term, end_of_scan}
 
--- what a resolver is told: a certificate of a view with its encoding, a verdict on a notarization,
--- or the end of the replay. Of a notarization the view alone matters until a verdict brings it again
+-- the calls of a resolver: a certificate of a view with its encoding, a verdict on a notarization, or the end
+-- of the replay. Of a notarization only the view matters until a verdict passes it in again
 pub data Call : Type 0 where
   Nullification : (view : ℕ) (encoding : List ℕ) → Call
   Notarization : (view : ℕ) → Call
@@ -28,13 +28,13 @@ pub data Call : Type 0 where
   Verdict : (view : ℕ) (encoding : List ℕ) (success : Bool) → Call
   Replayed : Call
 
--- the call that hands a certificate in
+-- the call that passes a certificate in
 abbrev pub update : {D : Type 0} → (D → List ℕ) → CertificateFacts D → Call
 update bytes_of (Nullified n) = Nullification n.round.view (encoding bytes_of (Nullified n))
 update bytes_of (Notarized n) = Notarization n.proposal.round.view
 update bytes_of (FinalizedOf f) = Finalization f.proposal.round.view (encoding bytes_of (FinalizedOf f))
 
--- the call that hands a verdict in
+-- the call that passes a verdict in
 abbrev pub verdict : {D : Type 0} → (D → List ℕ) → ProposalFacts D → Bool → Call
 verdict bytes_of n success = Verdict n.proposal.round.view (encoding bytes_of (Notarized n)) success
 
@@ -60,7 +60,7 @@ scan_fetches x cause = if x.replaying then [] else missing_fetches cause (missin
 abbrev pub scan_end : ResolverFacts → ℕ
 scan_end x = end_of_scan (term_length x) (scan_start x) x.current
 
--- scans have come that far, once the replay has ended
+-- scans have come this far, once the replay has ended
 abbrev pub after_scan : ResolverFacts → ResolverFacts
 after_scan x = if x.replaying then x else record x { scanned = scan_end x }
 
@@ -70,51 +70,56 @@ after_scan x = if x.replaying then x else record x { scanned = scan_end x }
 abbrev pub after_raise : ResolverFacts → ℕ → ResolverFacts
 after_raise x v =
     if nat_lt x.floor v
-    then record x { floor = v; scanned = if starts_term (term_length x) (v + 1) then x.scanned else min x.scanned (v + 1) }
+    then record x {
+      floor = v;
+      scanned = if starts_term (term_length x) (v + 1) then x.scanned
+          else min x.scanned (v + 1);
+    }
     else x
 
--- the floor rises, where the view is above it
+-- the floor rises, if the view is above it
 abbrev pub raise_effects : ResolverFacts → ℕ → List Effect
 raise_effects x v = if nat_lt x.floor v then Raised v ∷ [] else []
 
 -- ---- a certificate
 
--- the value goes in where the view has none
+-- the value is added if the view has none
 abbrev pub insert_new : {V : Type 0} → FinMap nat_cmp V → ℕ → V → FinMap nat_cmp V
 insert_new m v x = if map.contains_key m v then m else map.insert m v x
 
--- the nullification is kept, unless one of its view is
+-- the nullification is stored, unless there is one of its view
 abbrev pub with_stored_nullification : ResolverFacts → ℕ → List ℕ → ResolverFacts
 with_stored_nullification x v encoding =
     record x { nullifications = record x.nullifications { by_view = insert_new x.nullifications.by_view v encoding } }
 
--- a nullification is kept where its term ends above the last finalized view
+-- a nullification is stored if its term ends above the last finalized view
 abbrev pub after_nullification : ResolverFacts → ℕ → List ℕ → ResolverFacts
 after_nullification x v encoding =
     if nat_lt (last_finalized x) (term_end (term_length x) v)
     then record (with_stored_nullification x v encoding) { current = max x.current v }
     else record x { current = max x.current v }
 
--- what a nullification settles: its view and the rest of its term, unless that is finalized
+-- the effect of a nullification: it settles its view and the rest of its term, unless that is finalized
 abbrev pub nullification_effects : ResolverFacts → ℕ → List Effect
 nullification_effects x v =
     if nat_lt (last_finalized x) (term_end (term_length x) v)
     then Settled OfNullification v (term_end (term_length x) v) ∷ []
     else []
 
--- a notarization is noted where it is above the last finalized view, and served once it is certified
+-- a notarization is noted if it is above the last finalized view, and served once it is certified
 abbrev pub after_notarization : ResolverFacts → ℕ → ResolverFacts
 after_notarization x v =
     if nat_lt (last_finalized x) v
     then record x { current = max x.current v; notarizations = insert_new x.notarizations v None }
     else record x { current = max x.current v }
 
--- what a notarization settles, unless its view is finalized or has failed
+-- the effect of a notarization: it settles its view, unless that is finalized or has failed
 abbrev pub notarization_effects : ResolverFacts → ℕ → List Effect
 notarization_effects x v =
-    if nat_lt (last_finalized x) v && not (map.contains_key x.uncertifiable v) then Settled OfNotarization v v ∷ [] else []
+    if nat_lt (last_finalized x) v && not (map.contains_key x.uncertifiable v)
+    then Settled OfNotarization v v ∷ [] else []
 
--- the highest finalization is kept
+-- the highest finalization is stored
 abbrev pub with_stored_finalization : ResolverFacts → ℕ → List ℕ → ResolverFacts
 with_stored_finalization x v encoding = record x {
   current = max x.current v;
@@ -129,23 +134,23 @@ without_finalized x finalized = record x {
   uncertifiable = at_or_above x.uncertifiable (finalized + 1);
 }
 
--- what a finalization makes of the facts
+-- the facts after a finalization
 abbrev pub after_finalization : ResolverFacts → ℕ → List ℕ → ResolverFacts
 after_finalization x v encoding =
     after_raise (without_finalized (with_stored_finalization x v encoding) (max (last_finalized x) v)) v
 
--- what it settles
+-- the effects of a finalization
 abbrev pub finalization_effects : ResolverFacts → ℕ → List Effect
 finalization_effects x v = Finalized (max (last_finalized x) v) ∷ raise_effects x v
 
 -- ---- a verdict
 
--- a certified notarization above the last finalized view is kept with its encoding
+-- a certified notarization above the last finalized view is stored with its encoding
 abbrev pub with_certified : ResolverFacts → ℕ → List ℕ → ResolverFacts
 with_certified x v encoding =
     if nat_lt (last_finalized x) v then record x { notarizations = map.insert x.notarizations v (Some encoding) } else x
 
--- what a true verdict makes of the facts
+-- the facts after a true verdict
 abbrev pub after_success : ResolverFacts → ℕ → List ℕ → ResolverFacts
 after_success x v encoding = after_raise (with_certified x v encoding) v
 
@@ -164,13 +169,13 @@ needs_nullification x v = nat_lt x.floor v && not (has_covering x.nullifications
 abbrev pub failure_fetches : List ℕ → List Effect
 failure_fetches vs = map (λ v. Fetch v v CertificationFailed) vs
 
--- the view of a false verdict, where it needs a nullification then
+-- the view of a false verdict, if it then needs a nullification
 abbrev pub failing : ResolverFacts → ℕ → List ℕ
 failing x v = if not x.replaying && needs_nullification x v then v ∷ [] else []
 
 -- ---- a call
 
--- what a call makes of the facts before its scan
+-- the facts after a call, before its scan
 abbrev pub before_scan : ResolverFacts → Call → ResolverFacts
 before_scan x (Nullification v encoding) = after_nullification x v encoding
 before_scan x (Notarization v) = after_notarization x v
@@ -179,7 +184,7 @@ before_scan x (Verdict v encoding true) = after_success x v encoding
 before_scan x (Verdict v encoding false) = after_failure x v
 before_scan x Replayed = record x { replaying = false }
 
--- the facts after a call: all calls scan but a false verdict
+-- the facts after a call: all calls scan except a false verdict
 abbrev pub after : ResolverFacts → Call → ResolverFacts
 after x (Nullification v encoding) = after_scan (before_scan x (Nullification v encoding))
 after x (Notarization v) = after_scan (before_scan x (Notarization v))
@@ -188,7 +193,7 @@ after x (Verdict v encoding true) = after_scan (before_scan x (Verdict v encodin
 after x (Verdict v encoding false) = before_scan x (Verdict v encoding false)
 after x Replayed = after_scan (before_scan x Replayed)
 
--- what a call settles
+-- the views that a call settles
 abbrev pub settle_effects : ResolverFacts → Call → List Effect
 settle_effects x (Nullification v encoding) = nullification_effects x v
 settle_effects x (Notarization v) = notarization_effects x v
@@ -197,7 +202,7 @@ settle_effects x (Verdict v encoding true) = Settled OfNotarization v v ∷ rais
 settle_effects x (Verdict v encoding false) = Settled OfNotarization v v ∷ []
 settle_effects x Replayed = []
 
--- the effects that a call answers, in order
+-- the effects that a call returns, in order
 abbrev pub effects : ResolverFacts → Call → List Effect
 effects x (Nullification v encoding) =
     settle_effects x (Nullification v encoding) ++ scan_fetches (before_scan x (Nullification v encoding)) v
@@ -223,7 +228,7 @@ highest_view (certificate.Notarization n) = highest_named n.proposal
 highest_view (certificate.Nullification n) = n.round.view
 highest_view (certificate.Finalization f) = highest_named f.proposal
 
--- why a call that names no view above v is refused, and what it leaves
+-- why a call that names no view above v is refused, and the facts after it
 abbrev pub Refused : ResolverFacts → ℕ → Fault → ResolverFacts → Type 0
 Refused old v OutOfMemory new =
     (old.is_failed ≡ false) × (v < 2 ^ 63) × (new.is_failed ≡ true) × (term_length new ≡ term_length old)

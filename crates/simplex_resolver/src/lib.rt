@@ -1,4 +1,5 @@
-//! The resolver: which certificates are kept and served, which views are fetched, and how one starts from a record.
+//! The resolver: which certificates it stores and serves, which views it fetches, and how it starts from a
+//! record.
 #![tactic(auto)]
 
 pub mod replay;

@@ -1,5 +1,5 @@
-//! A resolver is started from a member's record: it is handed the certificates and the verdicts, in order, and then the
-//! end of its replay. `LawfulResolver` goes on from there, and keeps its open fetches.
+//! Starting a resolver from a member's record: it receives the certificates and the verdicts, in order, and
+//! then the end of its replay. `LawfulResolver` continues from there, and stores its open fetches.
 
 mod calls;
 mod check;

@@ -1,10 +1,10 @@
-//! The resolver: which certificates are kept and served, and which views are fetched.
+//! The resolver: which certificates it stores and serves, and which views it fetches.
 //!
-//! A resolver is told of every certificate that its member accepts (`State::updated`), of every
-//! verdict on a notarization (`State::certified`) and of the end of its journal's replay
-//! (`State::replayed`). Each call answers effects, in order: what is settled, whether the floor
-//! rose, and which nullifications have to be fetched. `apply` keeps the set of open fetches, and
-//! `State::produce` serves a peer that repairs below the current view.
+//! The host passes every certificate that its member accepts (`State::updated`), every verdict on a
+//! notarization (`State::certified`) and the end of its journal's replay (`State::replayed`). Each call returns
+//! effects, in order: what is settled, whether the floor rose, and which nullifications must be fetched.
+//! `apply` updates the set of open fetches, and `State::produce` serves a peer that repairs below the current
+//! view.
 
 mod effect;
 mod laws;

@@ -1,4 +1,4 @@
--- What a round shows of its certificates, its votes and its moments, read off the list of its calls, the newest first.
+-- A round's certificates, votes and moments, read off the list of its calls, the newest first.
 use Rattle.std.specs.Prelude.{◌≡◌, ℕ, Bool, true, ◌+◌, if◌then◌else◌, List, [], ◌∷◌, Option, Some, None, is_some, unwrap_or}
 use Rattle.std.specs.Option.{option_map_or}
 use Rattle.simplex_types.specs.declared.types.numbers.Round.{Round}
@@ -12,9 +12,9 @@ use Rattle.simplex_round.specs.declared.round.Decision.TheVariants.{Pending, Nul
 use Rattle.simplex_round.specs.Slot.{SlotFacts}
 use Rattle.simplex_round.specs.Round.{RoundFacts, new_round, with_notarization, with_nullification, with_finalization, after_nullify, can_finalize, with_deadlines, with_latch, with_retry, TakesArtifact, after_replay}
 
--- a certificate was handed in; a vote was decided or replayed (nullify also where it was asked for in vain);
--- the view was entered; an own proposal was recorded; deadlines were armed; an explicit timeout came;
--- the next timeout was asked for, with the interval of repetitions
+-- a certificate was passed in; a vote was decided or replayed (nullify also if it was requested in vain); the view was
+-- entered; an own proposal was recorded; deadlines were armed; an explicit timeout came; the next timeout was polled, with
+-- the interval of repetitions
 pub data RoundCall (D : Type 0) : Type 0 where
   Notarized : ProposalFacts D → RoundCall D
   Nullified : NullificationFacts → RoundCall D
@@ -108,7 +108,7 @@ decision_by None calls = Pending (leader_deadline calls) (certification_deadline
 decision_by (Some ToNullify) calls = Nullify (retry_moment calls)
 decision_by (Some ToFinalize) calls = Finalize
 
--- the first vote stands
+-- the first vote decides
 abbrev pub decision_of : {D : Type 0} → List (RoundCall D) → Decision
 decision_of calls = decision_by (first_vote calls) calls
 
@@ -135,25 +135,32 @@ after_artifact (artifact.Finalization _) calls = calls
 -- a new round shows the empty list, and each call takes a round that shows a list to one that shows it with the call;
 -- S, K, G and C are a scheme and its keys, signatures and certificates
 pub record ShowsEachCall (S D K G C : Type 0) (same : Proposal D → Proposal D → Bool) : Type 0 where
-  pub start : (me : Option ℕ) (members : List K) (round : Round) → DeterminesRound [] (new_round {D = D} me members round)
+  pub start : (me : Option ℕ) (members : List K) (round : Round)
+      → DeterminesRound [] (new_round {D = D} me members round)
   pub notarization : (calls : List (RoundCall D)) (r : RoundFacts K D) (c : ProposalFacts D) → DeterminesRound calls r
       → DeterminesRound (Notarized c ∷ calls) (with_notarization same r c)
-  pub nullification : (calls : List (RoundCall D)) (r : RoundFacts K D) (c : NullificationFacts) → DeterminesRound calls r
+  pub nullification : (calls : List (RoundCall D)) (r : RoundFacts K D) (c : NullificationFacts)
+      → DeterminesRound calls r
       → DeterminesRound (Nullified c ∷ calls) (with_nullification r c)
   pub finalization : (calls : List (RoundCall D)) (r : RoundFacts K D) (c : ProposalFacts D) → DeterminesRound calls r
       → DeterminesRound (Finalized c ∷ calls) (with_finalization same r c)
-  pub nullify : (calls : List (RoundCall D)) (r : RoundFacts K D) → DeterminesRound calls r → DeterminesRound (NullifyVote ∷ calls) (after_nullify r)
+  pub nullify : (calls : List (RoundCall D)) (r : RoundFacts K D) → DeterminesRound calls r
+      → DeterminesRound (NullifyVote ∷ calls) (after_nullify r)
   pub finalize : (calls : List (RoundCall D)) (r : RoundFacts K D) → can_finalize r ≡ true → DeterminesRound calls r
       → DeterminesRound (FinalizeVote ∷ calls) (record r { decision = Finalize })
-  pub replay : (calls : List (RoundCall D)) (r : RoundFacts K D) (a : Artifact S D K G C) → TakesArtifact r a → DeterminesRound calls r
+  pub replay : (calls : List (RoundCall D)) (r : RoundFacts K D) (a : Artifact S D K G C) → TakesArtifact r a
+      → DeterminesRound calls r
       → DeterminesRound (after_artifact a calls) (after_replay same r a)
   pub entry : (calls : List (RoundCall D)) (r : RoundFacts K D) (now : ℕ) → DeterminesRound calls r
       → DeterminesRound (Entered now ∷ calls) (record r { entered_at = Some (unwrap_or r.entered_at now) })
-  pub proposed : (calls : List (RoundCall D)) (r : RoundFacts K D) (now : ℕ) (slot : SlotFacts D) → DeterminesRound calls r
+  pub proposed : (calls : List (RoundCall D)) (r : RoundFacts K D) (now : ℕ) (slot : SlotFacts D)
+      → DeterminesRound calls r
       → DeterminesRound (Proposed now ∷ calls) (record r { slot = slot; proposed_at = Some now })
-  pub deadlines : (calls : List (RoundCall D)) (r : RoundFacts K D) (leader certification : ℕ) (stall : Option ℕ) → DeterminesRound calls r
+  pub deadlines : (calls : List (RoundCall D)) (r : RoundFacts K D) (leader certification : ℕ) (stall : Option ℕ)
+      → DeterminesRound calls r
       → DeterminesRound (Armed leader certification stall ∷ calls) (with_deadlines r leader certification stall)
-  pub timeout : (calls : List (RoundCall D)) (r : RoundFacts K D) (now : ℕ) (reason : TimeoutReason) → DeterminesRound calls r
+  pub timeout : (calls : List (RoundCall D)) (r : RoundFacts K D) (now : ℕ) (reason : TimeoutReason)
+      → DeterminesRound calls r
       → DeterminesRound (TimedOut now reason ∷ calls) (with_latch r now reason)
   pub poll : (calls : List (RoundCall D)) (r : RoundFacts K D) (now interval : ℕ) → DeterminesRound calls r
       → DeterminesRound (Polled now interval ∷ calls) (with_retry r now interval)

@@ -27,7 +27,7 @@ pub end_above : (length view : ℕ) → 0 < length → 1 ≤ view → view ≤ t
 end_above length view some one =
     let below : view - 1 < (view - 1) / length * length + length = lt-div-mul-add some in omega (arith, below)
 
--- a view between the start of another's term and that other stands in its term
+-- a view between the start of another's term and that other is in its term
 pub same_start_back : (length u view : ℕ) → 0 < length → 1 ≤ u → 1 ≤ view → term_start length view ≤ u → u ≤ view → term_start length u ≡ term_start length view
 same_start_back length u view some one one' start up =
     let below : view - 1 < (view - 1) / length * length + length = lt-div-mul-add some in

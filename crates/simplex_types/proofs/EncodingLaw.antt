@@ -1,4 +1,4 @@
--- An encoding is read back part by part: each part has a fixed length, and the scheme's bytes are what is left.
+-- An encoding is read back part by part: each part has a fixed length, and the scheme's bytes are the rest.
 use Rattle.std.proofs.Common.{◌≡◌, ℕ, ◌<◌, ◌^◌, List, [], ◌∷◌, ◌++◌, length, get_or, drop, refl, ap, sym, ◌∙◌, arith, Result, Ok, Err, OnOk}
 use Rattle.std.specs.Int.{w64, to_be_bytes, from_be_bytes}
 use Rattle.std.proofs.lemmas.List.{append_assoc}
@@ -34,7 +34,7 @@ rest (x ∷ xs) (z ∷ zs) ys ws len same = rest xs zs ys ws (omega (arith, len)
 pub appended : (start middle end xs ys : List ℕ) → middle ≡ start ++ xs → end ≡ middle ++ ys → end ≡ start ++ (xs ++ ys)
 appended start middle end xs ys first second = second ∙ ap (λ l. l ++ ys) first ∙ append_assoc start xs ys
 
--- a part behind the byte of its kind
+-- a part after the byte of its kind
 pub behind_kind : {E : Type 0} (result : Result (Unit {0}) E) (start middle end rest : List ℕ) (kind : ℕ) →
     middle ≡ start ++ kind ∷ [] → OnOk result (end ≡ middle ++ rest) → OnOk result (end ≡ start ++ kind ∷ rest)
 behind_kind (Ok _) start middle end rest kind first second = appended start middle end (kind ∷ []) rest first second

@@ -1,4 +1,4 @@
--- The rules that an engine's settings keep, in the order in which they are tested.
+-- The rules of a member's settings, in the order of the tests.
 use Rattle.std.specs.Prelude.{ℕ, Bool, true, false, not, ◌==◌, nat_le, if◌then◌else◌, List, [], ◌∷◌, Option, Some, None, codes}
 use Rattle.simplex_types.specs.declared.types.messages.Subject.{Subject}
 use Rattle.simplex_types.specs.declared.types.messages.Subject.TheVariants as subject
@@ -13,7 +13,7 @@ use Rattle.simplex_types.specs.declared.config.ConfigError.{ConfigError}
 use Rattle.simplex_types.specs.declared.config.ConfigError.TheVariants as error
 use Rattle.simplex_types.specs.Certificates.{ProposalFacts, finalization_facts}
 
--- how many unfinalized terms may be skipped among so many participants
+-- how many unfinalized terms may be skipped among this many participants
 abbrev pub skip_budget : SkipBudget → ℕ → ℕ
 skip_budget budget.Participants participants = participants
 skip_budget (budget.Fixed terms) participants = terms.value
@@ -23,7 +23,7 @@ abbrev pub is_at_or_below : SkipPolicy → ℕ → Bool
 is_at_or_below skip.Disabled timeout = false
 is_at_or_below (skip.Enabled skip_timeout _) timeout = nat_le skip_timeout timeout
 
--- the finalized view that an engine starts from
+-- the finalized view that a member starts from
 abbrev pub floor_view : {S D K G C : Type 0} → Floor S D K G C → ℕ
 floor_view (floor.Genesis _) = 0
 floor_view (floor.Finalized f) = f.proposal.round.view
@@ -58,11 +58,13 @@ floor_rules accepts epoch (floor.Finalized f) =
     ∷ []
 
 -- the first rule that a floor breaks
-abbrev pub first_broken_floor_rule : {S D K G C : Type 0} → (Subject D → C → Bool) → ℕ → Floor S D K G C → Option ConfigError
+abbrev pub first_broken_floor_rule : {S D K G C : Type 0} → (Subject D → C → Bool) → ℕ → Floor S D K G C
+    → Option ConfigError
 first_broken_floor_rule accepts epoch floor = first_broken (floor_rules accepts epoch floor)
 
--- all rules in order, by the number of participants and what the scheme accepts
-abbrev pub config_rules : {S D K G C : Type 0} → ℕ → (Subject D → C → Bool) → Config S D K G C → List (Bool × ConfigError)
+-- all rules in order, given the number of participants and what the scheme accepts
+abbrev pub config_rules : {S D K G C : Type 0} → ℕ → (Subject D → C → Bool) → Config S D K G C
+    → List (Bool × ConfigError)
 config_rules participants accepts c =
     (participants == 0, error.NoParticipants)
     ∷ (c.leader_timeout == 0, error.LeaderTimeoutZero)

@@ -16,13 +16,13 @@ round_bytes r = to_be_bytes w64 r.epoch ++ to_be_bytes w64 r.view
 abbrev pub proposal_bytes : {D : Type 0} → (D → List ℕ) → Proposal D → List ℕ
 proposal_bytes payload_bytes p = round_bytes p.round ++ to_be_bytes w64 p.parent ++ payload_bytes p.payload
 
--- what a vote signs: 0 marks a vote to notarize, 1 one to nullify, 2 one to finalize; then what it is on
+-- what a vote signs: 0 marks a vote to notarize, 1 one to nullify, 2 one to finalize; then its subject
 abbrev pub subject_bytes : {D : Type 0} → (D → List ℕ) → Subject D → List ℕ
 subject_bytes payload_bytes (subject.Notarize p) = 0 ∷ proposal_bytes payload_bytes p
 subject_bytes payload_bytes (subject.Nullify r) = 1 ∷ round_bytes r
 subject_bytes payload_bytes (subject.Finalize p) = 2 ∷ proposal_bytes payload_bytes p
 
--- what a certificate's votes are about
+-- the subject of a certificate's votes
 abbrev pub certificate_subject : {D : Type 0} → CertificateFacts D → Subject D
 certificate_subject (Notarized c) = subject.Notarize c.proposal
 certificate_subject (Nullified c) = subject.Nullify c.round
@@ -51,4 +51,5 @@ IsEncodable (Finalized c) = IsEncodableRound c.proposal.round × (c.proposal.par
 -- two certificates with one encoding are of one kind, round and proposal, and have the same scheme's bytes
 abbrev pub EncodingTellsApart : {D : Type 0} → (D → List ℕ) → Type 0
 EncodingTellsApart {D} payload_bytes =
-    (c d : CertificateFacts D) → IsEncodable c → IsEncodable d → encoding payload_bytes c ≡ encoding payload_bytes d → c ≡ d
+    (c d : CertificateFacts D) → IsEncodable c → IsEncodable d
+    → encoding payload_bytes c ≡ encoding payload_bytes d → c ≡ d

@@ -1,4 +1,4 @@
--- The view that a message is of.
+-- The view of a message.
 use Rattle.std.specs.Prelude.{ℕ}
 use Rattle.simplex_types.specs.declared.types.messages.Certificate.{Certificate}
 use Rattle.simplex_types.specs.declared.types.messages.Certificate.TheVariants as certificate
@@ -23,7 +23,7 @@ artifact_view (artifact.Nullification n) = n.round.view
 artifact_view (artifact.Finalize vote) = vote.proposal.round.view
 artifact_view (artifact.Finalization f) = f.proposal.round.view
 
--- of what a vote is on
+-- of a vote's subject
 abbrev pub subject_view : {D : Type 0} → Subject D → ℕ
 subject_view (subject.Notarize p) = p.round.view
 subject_view (subject.Nullify round) = round.view

@@ -28,7 +28,7 @@ signer_of s = s.signer
 abbrev pub keys_of : PlainScheme → List PlainKey
 keys_of s = s.keys.items
 
--- the signature is made with this key, on just this subject
+-- the signature is made with this key, on exactly this subject
 abbrev pub IsPlainSignature : PlainKey → Subject PlainDigest → PlainSignature → Type 0
 IsPlainSignature key subject signature = (signature.key ≡ key) × (signature.subject ≡ subject)
 
@@ -44,7 +44,7 @@ members_of e = e.count
 abbrev pub terms_of : PlainElector → Terms
 terms_of e = e.terms
 
--- the members lead in turn, a term each
+-- the members lead round-robin, a term each
 abbrev pub leader_in_turn : PlainElector → ℕ → ℕ
 leader_in_turn e view = term_index e.terms.term_length view % e.count
 

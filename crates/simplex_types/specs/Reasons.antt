@@ -1,4 +1,4 @@
--- The texts of reasons, kinds and asks, and the two asks.
+-- The texts of reasons, kinds and requests, and the two requests.
 use Rattle.std.specs.Prelude.{ℕ, List, ◌++◌, codes}
 use Rattle.simplex_types.specs.declared.reasons.TimeoutReason.{TimeoutReason}
 use Rattle.simplex_types.specs.declared.reasons.TimeoutReason.TheVariants as timeout
@@ -12,7 +12,7 @@ use Rattle.simplex_types.specs.declared.reasons.Until.{Until}
 use Rattle.simplex_types.specs.declared.reasons.Until.TheVariants as until
 use Rattle.simplex_types.specs.declared.reasons.Ask.{Ask}
 
--- why a view is given up
+-- why a view times out
 abbrev pub timeout_reason_text : TimeoutReason → List ℕ
 timeout_reason_text timeout.Retry = codes "Retry"
 timeout_reason_text timeout.Inactivity = codes "Inactivity"
@@ -25,7 +25,7 @@ timeout_reason_text timeout.IgnoredProposal = codes "IgnoredProposal"
 timeout_reason_text timeout.InvalidProposal = codes "InvalidProposal"
 timeout_reason_text timeout.FailedCertification = codes "FailedCertification"
 
--- why a handoff is given up
+-- why a handoff is abandoned
 abbrev pub handoff_abandoned_reason_text : HandoffAbandonedReason → List ℕ
 handoff_abandoned_reason_text abandoned.ViewExit = codes "ViewExit"
 handoff_abandoned_reason_text abandoned.AncestrySuperseded = codes "AncestrySuperseded"
@@ -45,12 +45,12 @@ abbrev pub kind_text : Kind → List ℕ
 kind_text kind.Nullification = codes "nullification"
 kind_text kind.Notarization = codes "notarization"
 
--- until when
+-- when a request ends
 abbrev pub until_text : Until → List ℕ
 until_text until.Floor = codes "floor"
 until_text until.Finalization = codes "finalization"
 
--- what is asked for, and what ends the ask
+-- what is requested, and what ends the request
 abbrev pub ask_text : Ask → List ℕ
 ask_text ask = kind_text ask.kind ++ codes " until " ++ until_text ask.until
 

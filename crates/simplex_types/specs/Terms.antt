@@ -1,4 +1,4 @@
--- The terms of views: views from 1 on stand in terms of `length` views; view 0, genesis, in none.
+-- The terms of views: views from 1 on are in terms of `length` views; view 0, genesis, is in none.
 use Rattle.std.specs.Prelude.{ℕ, ◌+◌, ◌-◌, ◌*◌, ◌/◌, ◌<◌, ◌≤◌, ◌^◌, Bool, ◌&&◌, ◌==◌, nat_le}
 
 -- the number of the term of a view

@@ -1,4 +1,4 @@
-//! The policies of an engine, the point that it starts from, and the check of its settings.
+//! The policies of a member, its starting point, and the check of its settings.
 
 ghost use Rattle.std.specs.Prelude.{◌≡◌, ◌≢◌, ◌↔◌, ◌<◌, ◌^◌, true, IsTrue, IfOk, OnErr, IsOkUnless, MatchOption, Ok, Err, length};
 ghost use Rattle.simplex_types.specs.Config.{skip_budget, floor_view, is_finalization, floor_facts, is_at_or_below, first_broken_rule, first_broken_floor_rule, config_error_name};
@@ -24,7 +24,7 @@ pub enum SkipBudget {
 }
 
 impl SkipBudget {
-    /// The number of terms, where there are this many participants.
+    /// The number of terms, among this many participants.
     pub fn resolve(self, participants: usize) -> u64
         ensures { result ≡ skip_budget self participants }
     {
@@ -35,9 +35,9 @@ impl SkipBudget {
     }
 }
 
-/// Whether a view may be voted to nullify before its own deadlines, where its leader is inactive.
+/// The policy on voting to nullify a view before its own deadlines, because its leader is inactive.
 ///
-/// The view's own deadlines stand whatever the policy is.
+/// The view's own deadlines hold whatever the policy is.
 #[derive(Clone, Copy, PartialEq, Eq, Debug)]
 pub enum SkipPolicy {
     /// Only the view's own deadlines count.
@@ -52,7 +52,7 @@ pub enum SkipPolicy {
 }
 
 impl SkipPolicy {
-    /// Whether skipping is enabled with a timeout at or below this one.
+    /// Returns whether skipping is enabled with a timeout at or below this one.
     fn is_at_or_below(&self, timeout: u64) -> bool
         ensures { result ≡ is_at_or_below self.now timeout }
     {
@@ -63,21 +63,21 @@ impl SkipPolicy {
     }
 }
 
-/// Whom a proposal is forwarded to when the next view is entered.
+/// Who receives a proposal when the next view is entered.
 ///
-/// Forwarding never bears on safety: a batcher sends what `forwardable_proposal` of the voter answers.
+/// Forwarding never affects safety: a batcher sends what `forwardable_proposal` of the voter returns.
 #[derive(Clone, Copy, PartialEq, Eq, Debug)]
 pub enum ForwardPolicy {
     /// Nobody.
     Disabled,
     /// Each participant whose vote for the proposal was not seen.
     SilentVoters,
-    /// The next view's leader, where its vote for the proposal was not seen.
+    /// The next view's leader, if its vote for the proposal was not seen.
     SilentLeader,
 }
 
 impl ForwardPolicy {
-    /// Whether proposals are forwarded at all.
+    /// Returns whether proposals are forwarded at all.
     pub fn is_enabled(&self) -> bool
         ensures { IsTrue result ↔ (self.now ≢ ForwardDisabled) }
     {
@@ -85,7 +85,7 @@ impl ForwardPolicy {
     }
 }
 
-/// The certified point that an engine starts from.
+/// The certified point that a member starts from.
 #[derive(Drop)]
 pub enum Floor<S: CertificateScheme, D> {
     /// The payload of genesis, at view 0.
@@ -105,10 +105,11 @@ impl<S: CertificateScheme, D: Digest> Floor<S, D> {
         }
     }
 
-    /// A copy, with the same payload or proposal and the same certificate bytes. The only fault is `OutOfMemory`, and a
-    /// copy of genesis takes none.
+    /// Returns a copy, with the same payload or proposal and the same certificate bytes. The only fault is `OutOfMemory`;
+    /// copying genesis takes no memory.
     pub fn clone(&self, alloc: Global) -> Result<Self, Fault>
-        ensures same { IfOk result (λ floor. floor_facts S.certificate_bytes floor ≡ floor_facts S.certificate_bytes self.now) }
+        ensures same { IfOk result
+            (λ floor. floor_facts S.certificate_bytes floor ≡ floor_facts S.certificate_bytes self.now) }
         ensures refused { IsOkUnless result Fault.OutOfMemory }
         ensures refused_only_a_finalization { OnErr result (is_finalization self.now ≡ true) }
     {
@@ -119,14 +120,14 @@ impl<S: CertificateScheme, D: Digest> Floor<S, D> {
     }
 }
 
-/// The settings of an engine, as far as the decision core reads them. Times are milliseconds.
+/// The settings of a member, as far as the decision core reads them. Times are milliseconds.
 #[derive(Drop)]
 pub struct Config<S: CertificateScheme, D> {
-    /// Who signs, for whom.
+    /// The scheme of this member.
     pub scheme: S,
-    /// The epoch that every message is of.
+    /// The epoch of every message.
     pub epoch: Epoch,
-    /// The certified point that the engine starts from.
+    /// The certified point that the member starts from.
     pub floor: Floor<S, D>,
     /// How long a view waits for its proposal.
     pub leader_timeout: u64,
@@ -134,20 +135,21 @@ pub struct Config<S: CertificateScheme, D> {
     pub certification_timeout: u64,
     /// After how long a vote to nullify is sent again.
     pub timeout_retry: u64,
-    /// How many views below the last finalized one are kept.
+    /// How many views below the last finalized one are retained.
     pub view_retention: ViewDelta,
-    /// Whether views of inactive leaders are skipped.
+    /// The policy on skipping views of inactive leaders.
     pub skip: SkipPolicy,
-    /// Whom proposals are forwarded to.
+    /// Who receives proposals that are forwarded.
     pub forward: ForwardPolicy,
 }
 
 impl<S: CertificateScheme, D: Digest> Config<S, D> {
-    /// Tests the settings, and answers the first rule of `ConfigError`'s list that they break.
+    /// Tests the settings, and returns the first rule of `ConfigError`'s list that they break.
     pub fn assert(&self) -> Result<(), ConfigError>
     where
         S: Scheme<D>,
-        ensures { MatchOption (first_broken_rule (length (S.participants self.now.scheme)) (S.accepts self.now.scheme) self.now)
+        ensures { MatchOption (first_broken_rule (length (S.participants self.now.scheme))
+            (S.accepts self.now.scheme) self.now)
             (result ≡ Ok tt) (λ broken. result ≡ Err broken) }
     {
         if self.scheme.participants().is_empty() {
@@ -174,7 +176,7 @@ impl<S: CertificateScheme, D: Digest> Config<S, D> {
         self.assert_floor()
     }
 
-    /// Tests the floor alone.
+    /// Tests only the floor.
     fn assert_floor(&self) -> Result<(), ConfigError>
     where
         S: Scheme<D>,
@@ -198,7 +200,7 @@ impl<S: CertificateScheme, D: Digest> Config<S, D> {
     }
 }
 
-/// Why an engine's settings are refused, in the order in which they are tested.
+/// Why a member's settings are refused, in the order of the tests.
 #[derive(Clone, Copy, PartialEq, Eq, Debug)]
 pub enum ConfigError {
     /// The scheme has no participants.
@@ -217,7 +219,7 @@ pub enum ConfigError {
     RetentionZero,
     /// The floor's finalization is of another epoch.
     FloorEpoch,
-    /// The floor's finalization is of view 0, which genesis stands for.
+    /// The floor's finalization is of view 0, which is genesis.
     FloorAtGenesis,
     /// The scheme does not accept the floor's finalization.
     FloorUnverified,

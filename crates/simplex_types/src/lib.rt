@@ -1,7 +1,7 @@
 //! The types of the protocol: views, terms, proposals, votes, certificates and artifacts, with their bytes.
 //!
-//! Beside them stand the traits that a caller brings (`Digest`, `CertificateScheme`, `Scheme` and `Elector`) and an
-//! engine's settings, whose rules are tested here.
+//! It also has the traits that a host implements (`Digest`, `CertificateScheme`, `Scheme` and `Elector`) and a member's
+//! settings, whose rules it tests.
 #![tactic(auto)]
 
 pub mod config;

@@ -1,4 +1,4 @@
-//! Why views time out, handoffs are abandoned and certificates are fetched, and what is asked of peers.
+//! Why views time out, handoffs are abandoned and certificates are fetched; and the requests to peers.
 
 ghost use Rattle.std.specs.Prelude.{◌≡◌, codes};
 ghost use Rattle.simplex_types.specs.Reasons.{timeout_reason_text, handoff_abandoned_reason_text, fetch_reason_text, kind_text, until_text, ancestry_ask, backfill_ask};
@@ -23,7 +23,7 @@ pub enum TimeoutReason {
     StallTimeout,
     /// The application had no proposal to make.
     MissingProposal,
-    /// The application answered no verification.
+    /// The application did not answer a verification.
     IgnoredProposal,
     /// The application, or a rule on parents, refused the proposal.
     InvalidProposal,
@@ -62,9 +62,9 @@ impl fmt::Display for TimeoutReason {
     }
 }
 
-/// Why a proposal that was prepared before its parent was certified is given up.
+/// Why a proposal that was prepared before its parent was certified is abandoned.
 ///
-/// The voter's state answers `AncestryInvalidated` and `ParentNullify` alone; the others are for its driver.
+/// The voter's state returns only `AncestryInvalidated` and `ParentNullify`; the others are for its host.
 #[derive(Clone, Copy, PartialEq, Eq, Hash, Debug)]
 pub enum HandoffAbandonedReason {
     ViewExit,
@@ -136,7 +136,7 @@ impl fmt::Display for FetchReason {
     }
 }
 
-/// The kind of certificate that is asked for.
+/// The kind of certificate to fetch.
 #[derive(Clone, Copy, PartialEq, Eq, PartialOrd, Ord, Debug)]
 pub enum Kind {
     Nullification,
@@ -166,7 +166,7 @@ impl fmt::Display for Kind {
     }
 }
 
-/// Until when an ask stands.
+/// When a request to peers ends.
 #[derive(Clone, Copy, PartialEq, Eq, PartialOrd, Ord, Debug)]
 pub enum Until {
     /// Until the resolver's floor is at or above the view.
@@ -176,7 +176,7 @@ pub enum Until {
 }
 
 impl Until {
-    /// What ends the ask, in lower case.
+    /// The end of the request, in lower case.
     pub fn as_str(self) -> &'static str
         ensures { result.now ≡ until_text self }
     {
@@ -198,7 +198,7 @@ impl fmt::Display for Until {
     }
 }
 
-/// What is asked of a peer, and until when.
+/// A request to a peer, and when it ends.
 #[derive(Clone, Copy, PartialEq, Eq, PartialOrd, Ord, Debug)]
 pub struct Ask {
     pub kind: Kind,
@@ -206,7 +206,7 @@ pub struct Ask {
 }
 
 impl Ask {
-    /// The ask that fills a gap: a nullification until the floor has passed it.
+    /// The request that fills a gap: a nullification until the floor has passed it.
     pub fn backfill() -> Ask
         ensures { result ≡ backfill_ask }
     {
@@ -216,7 +216,7 @@ impl Ask {
         }
     }
 
-    /// The ask for a proposal's ancestry: a certificate of this kind until a finalization has passed it.
+    /// The request for a proposal's ancestry: a certificate of this kind until a finalization has passed it.
     pub fn ancestry(kind: Kind) -> Ask
         ensures { result ≡ ancestry_ask kind }
     {

@@ -1,4 +1,4 @@
-//! Views, terms, messages and the traits that the protocol asks of its caller.
+//! Views, terms, messages and the traits that the protocol requires of its host.
 
 pub mod assembly;
 pub mod encoding;

@@ -1,4 +1,4 @@
--- A list that is cut into rows: where its entries stand, and how room for one moves from row to row.
+-- A list that is cut into rows: where its entries are, and how room for one moves from row to row.
 use Rattle.std.proofs.Common.{◌≡◌, ◌≢◌, false, Option, Some, None, IfSome, Result, Ok, Err, OnOk, OnErr, is_err, ℕ, zero, suc, ◌+◌, ◌-◌, ◌*◌, ◌<◌, ◌≤◌, List, [], ◌∷◌, ◌++◌, length, get_or, take, drop, set, refl, ap, sym, subst, ◌∙◌, arith, length-append}
 use Rattle.std.specs.declared.collections.VecDeque.{VecDeque}
 use Rattle.std.specs.VecDeque.{deque_len, deque_capacity, deque_with_item}
@@ -21,7 +21,7 @@ if_some_weaker None gives holds = tt
 if_some_weaker (Some x) gives holds = gives x holds
 
 module _ {X A : Type 0} where
-  -- the entries before a row, the row, and those behind it, where another row may have taken its place
+  -- the entries before a row, the row, and those after it, where another row may have replaced it
   joined-set : (rows : List (VecDeque X A)) (k : ℕ) (row : VecDeque X A) → k < length rows → row_entries (set rows k row) ≡ row_entries (take k rows) ++ (row.items ++ row_entries (drop (suc k) rows))
   joined-set [] k row within = absurd (omega arith)
   joined-set (first ∷ rows) zero row within = refl
@@ -64,7 +64,7 @@ module _ {X A : Type 0} where
   spot_within (first ∷ next ∷ rows) (suc k) o row cut small within read =
       spot_within (next ∷ rows) k o row cut.1 small (omega (arith, within, cut.0, first.ok.0, length-append first.items (row_entries (next ∷ rows)))) read
 
-  -- what stands there
+  -- the entry there
   pub entry_at : (rows : List (VecDeque X A)) (k o : ℕ) (row : VecDeque X A) (x : X) → AreFullButLast rows → k < length rows → row ≡ get_or rows k row → o < deque_len row → x ≡ get_or row.items o x → x ≡ get_or (row_entries rows) (k * row_size + o) x
   entry_at rows k o row x cut within read spot found =
       let behind = row_entries (drop (suc k) rows) in
@@ -111,7 +111,7 @@ module _ {X A : Type 0} where
       edited (λ t i. insert t i x) (λ xs ys n i. insert-append_right xs ys n i x) rows k o row new (before_room rows k room) (room_within rows k room) read
       (λ ys. insert-append_left row.items ys o x (omega (arith, spot, row.ok.0)) ∙ ap (λ t. t ++ ys) (sym is))
 
-  -- a place for a new entry is in a row, where one has room, and in the entries of the row that has it, or behind them
+  -- a place for a new entry is in a row, if one has room, and in the entries of the row that has it, or after them
   pub new_row_within : (rows : List (VecDeque X A)) (h k o : ℕ) → HasRoomAt h rows → k * row_size + o ≤ length (row_entries rows) → k < length rows
   new_row_within [] h k o room within = absurd room
   new_row_within (row ∷ rows) h zero o room within = omega arith
@@ -219,7 +219,7 @@ module _ {X A : Type 0} where
   room_at_end (row ∷ next ∷ rows) (suc k) old new cut short end read same fits =
       (stands-set (next ∷ rows) k new _ cut.0, room_at_end (next ∷ rows) k old new cut.1 short (omega (arith, end)) read same fits)
 
-  -- an empty row behind full ones
+  -- an empty row after full ones
   pub joined_pushed : (rows : List (VecDeque X A)) (row : VecDeque X A) → row.items ≡ [] → row_entries (rows ++ row ∷ []) ≡ row_entries rows
   joined_pushed [] row empty = ap (λ t. t ++ []) empty
   joined_pushed (first ∷ rows) row empty = ap (λ t. first.items ++ t) (joined_pushed rows row empty)

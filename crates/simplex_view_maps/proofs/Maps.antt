@@ -49,7 +49,7 @@ is_eq-nat_cmp x y = grind (arith, nat_tests)
 pub not_halved : (w n : ℕ) → w ≤ n → IsLeft 0 w n
 not_halved w n fewer d fits = (omega arith, let none : d ≡ d - 0 = omega arith in subst (λ e. w < 2 ^ e) none (omega (arith, fits, fewer)))
 
--- what an insert's answer says of what stood there
+-- an insert's result shows what was there before
 pub stood : {V : Type 0} (b : Bool) (x y : V) → Some x ≡ cond b (Some y) None → b ≡ true
 stood true x y is = refl
 stood false x y is = cc
@@ -138,7 +138,7 @@ module _ {V : Type 0} where
     pub below_at : (i : ℕ) (d : ℕ × V) → i < map.len m → ltb (get_or (map.entries m) i d).0 v ≡ ltb i (map.len (below m v))
     below_at i d h = rw len-below (below_place v _ i d (map_rises m) (rw map.len-entries at h))
 
-    -- no more entries stand below v than views from the first one on
+    -- no more entries are below v than views from the first one on
     pub place_from_first : (d : ℕ × V) → 0 < map.len m → map.len (below m v) ≤ v - (get_or (map.entries m) 0 d).0
     place_from_first d some = elim (cases_lt 0 (map.len (below m v))) [
       | inl there ↦
@@ -198,7 +198,7 @@ module _ {V : Type 0} where
       | inr none ↦ len-below-not_there r at_place none
     ]
 
-    -- what stands at v's place says whether v is there
+    -- the entry at v's place shows whether v is there
     pub contains_at : (e : ℕ × V) → slice_get (map.entries m) (map.len (below m v)) ≡ Some e → eqb e.0 v ≡ map.contains_key m v
     contains_at e here = rw (get_at, here) (elim (cases_eq e.0 v) [
       | inl same ↦ rw (eq-eqb e.0 v same, eq-eqb v e.0 (sym same)) refl
@@ -208,7 +208,7 @@ module _ {V : Type 0} where
     pub contains_past : slice_get (map.entries m) (map.len (below m v)) ≡ None → false ≡ map.contains_key m v
     contains_past here = rw (get_at, here) refl
 
-    -- v stands at its place, with its value
+    -- v is at its place, with its value
     pub value_at : (es : List (ℕ × V)) (r : ℕ) → es ≡ map.entries m → r ≡ map.len (below m v) → map.contains_key m v ≡ true → (r < length es) × ((e : ℕ × V) → e ≡ get_or es r e → Some e.1 ≡ map.get m v)
     value_at es r same at_place there = elim (slice_get_cases es r).1 [
       | inl found ↦

@@ -41,7 +41,7 @@ module _ {V : Type 0} (p : ℕ → Bool) where
   ]
 
 module _ {V : Type 0} (m : ByTermFacts V) where
-  -- a view stays covered where what covers it stays
+  -- a view stays covered if what covers it stays
   still_covered : (b : FinMap nat_cmp V) (w : ℕ) → ((u : ℕ) → covers m.term_length u w ≡ true → is_some (fin.get m.by_view u) ≡ true → is_some (fin.get b u) ≡ true) → has_covering m w ≡ true → has_covering (record m { by_view = b }) w ≡ true
   still_covered b w stays h =
       let found = passing (λ u. covers m.term_length u w) (fin.entries m.by_view) h in
@@ -73,7 +73,7 @@ module _ {V : Type 0} (m : ByTermFacts V) where
       let here : has_covering n v ≡ true = passed (λ u. covers m.term_length u v) b v there (covers_from m.term_length v v (omega arith) refl) in
       covered_on n v w one low high here
 
--- what covers a view behind a term stands behind that term too
+-- what covers a view after a term is after that term too
 covers_behind : (length v u w : ℕ) → 0 < length → next_term_start length v ≤ w → covers length u w ≡ true → v < u
 covers_behind length v u w some behind h =
     let p = covers_parts length u w h in
@@ -86,7 +86,7 @@ kept_some : {V : Type 0} (b : Bool) (o : Option V) → b ≡ true → is_some o 
 kept_some b o keep there = rw keep there
 
 module _ {V : Type 0} (m : ByTermFacts V) (v : ℕ) (some : 0 < m.term_length) where
-  -- views behind the term stay covered
+  -- views after the term stay covered
   pub ended_covers : (w : ℕ) → next_term_start m.term_length v ≤ w → has_covering m w ≡ true → has_covering (record m { by_view = not_ended m v }) w ≡ true
   ended_covers w behind h = still_covered m (not_ended m v) w (λ u covered there.
       let above = covers_behind m.term_length v u w some behind covered in
@@ -98,11 +98,11 @@ module _ {V : Type 0} (m : ByTermFacts V) (v : ℕ) (some : 0 < m.term_length) w
       let above = covers_behind m.term_length v u w some behind covered in
       ap is_some (get-kept m.by_view (λ k. leb v k) u) ∙ kept_some (leb v u) _ (le-leb v u (omega (arith, above))) there) h
 
--- a view of a run's part behind a term stands behind the term
+-- a view of a run's part after a term is after the term
 pub behind_term : (first end next w : ℕ) → end < 2 ^ 64 → max first (min next (2 ^ 64 - 1)) ≤ w → w < end → (first ≤ w) × (next ≤ w)
 behind_term first end next w fits low high = (grind arith, grind arith)
 
--- a run goes on behind another
+-- a run continues another
 pub followed : {set : ℕ → Bool} {first end behind : ℕ} → AreIn set first end → AreIn set end behind → AreIn set first behind
 followed {set} {first} {end} {behind} here on w low high = elim (cases_lt w end) [
   | inl within ↦ here w low within

@@ -31,7 +31,7 @@ module _ {V : Type 0} where
   some_or_none None = inr refl
   some_or_none (Some x) = inl (x, refl)
 
-  -- ---- a search in lists that stand one behind the other
+  -- ---- a search in consecutive lists
 
   found_first : (q : ℕ) (es fs : List (ℕ × V)) (x : V) → find nat_cmp q es ≡ Some x → find nat_cmp q (es ++ fs) ≡ Some x
   found_first q [] fs x is = absurd (cc)
@@ -50,7 +50,7 @@ module _ {V : Type 0} where
   abbrev entries_of : List (ℕ × FinMap nat_cmp V) → List (ℕ × V)
   entries_of ts = flat_map map.entries (map_list (λ t. t.1) ts)
 
-  -- what is found behind the first list has a higher key
+  -- what is found after the first list has a higher key
   found_behind : (t : ℕ × FinMap nat_cmp V) (ts : List (ℕ × FinMap nat_cmp V)) (s : ℕ) (views : FinMap nat_cmp V) → Rises (t ∷ ts) → find nat_cmp s ts ≡ Some views → (t.0 < s) × (find nat_cmp s (t ∷ ts) ≡ Some views)
   found_behind t ts s views r is = elim (cases_lt t.0 s) [
     | inl above ↦ (above, find_other s t ts (λ same. omega (arith, above, same)) ∙ is)
@@ -145,7 +145,7 @@ module _ {V : Type 0} where
   pub none_left : (m : FinMap nat_cmp V) → eqb (map.len m) 0 ≡ true → map.len m ≡ 0
   none_left m is = eqb-true (map.len m) 0 is
 
-  -- what an insert leaves where nothing stood
+  -- the map after an insert where nothing was
   pub put_new : (m n : FinMap nat_cmp V) (v : ℕ) (x : V) (back : Option V) → map.get m v ≡ None → back ≡ cond (map.contains_key m v) (Some x) None → n ≡ after_insert m v x (Ok back) → n ≡ map.insert m v x
   put_new m n v x back none stood after = after ∙ ap (λ b. after_insert m v x (Ok b)) (stood ∙ ap (λ o. cond (is_some o) (Some x) None) none)
 
@@ -173,7 +173,7 @@ module _ {V : Type 0} (length : ℕ) (terms : FinMap nat_cmp (FinMap nat_cmp V))
     | inr none ↦ none
   ]
 
-  -- what stands at a view, by what stands for its term
+  -- the value at a view, by the list of its term
   pub get_of : (q s : ℕ) (o : Option (FinMap nat_cmp V)) → term_start length q ≡ s → map.get terms s ≡ o → map.get (joined terms) q ≡ value_in o q
   get_of q s o same is = get-joined q ∙ ap (λ k. value_in (map.get terms k) q) same ∙ ap (λ t. value_in t q) is
 
@@ -248,10 +248,10 @@ module _ {V : Type 0} (length : ℕ) (terms : FinMap nat_cmp (FinMap nat_cmp V))
       ]
       ∙ sym (get-insert (joined terms) v x q))
 
--- what stands in the list of a view's term stands at the view
+-- what is in the list of a view's term is at the view
 module _ {V : Type 0} (length : ℕ) (terms : FinMap nat_cmp (FinMap nat_cmp V)) (own : AreByTerm length terms) (v : ℕ) where
   module _ (x : V) (views : FinMap nat_cmp V) (is : map.get terms (term_start length v) ≡ Some views) where
-    -- a term that has a list is given what an insert leaves of it
+    -- a term that has a list gets that list after an insert
     pub standing_by_term : (r : Result (Option V) (AllocFailed V)) → AreByTerm length (map.insert terms (term_start length v) (after_insert views v x r))
     standing_by_term (Ok None) = put_by_term length terms own v x views (λ q same. sym (get_of length terms own q _ (Some views) same is)) (of_term length terms own _ views is).1
     standing_by_term (Ok (Some back)) = subst (AreByTerm length) (sym (set_same length terms own _ views is)) own
@@ -282,7 +282,7 @@ module _ {V : Type 0} (length : ℕ) (terms : FinMap nat_cmp (FinMap nat_cmp V))
   abbrev from_own : FinMap nat_cmp (FinMap nat_cmp V)
   from_own = at_or_above terms (term_start length v)
 
-  -- where the other terms are left as they are, and the view's own is cut, what is left is at or above the view
+  -- if the other terms stay as they are, and the view's own is cut, what remains is at or above the view
   lowered : (left : FinMap nat_cmp (FinMap nat_cmp V)) → AreByTerm length left → ((k : ℕ) → (k ≡ term_start length v → ⊥) → map.get left k ≡ map.get from_own k) → ((q : ℕ) → term_start length q ≡ term_start length v → value_in (map.get left (term_start length v)) q ≡ cond (leb v q) (map.get (joined terms) q) None) → joined left ≡ at_or_above (joined terms) v
   lowered left own_left others cut = same_maps _ _ (λ q.
       get-joined length left own_left q

@@ -1,4 +1,4 @@
--- Entries whose values stand in boxes.
+-- Entries whose values are in boxes.
 use Rattle.std.proofs.Common.{◌≡◌, ℕ, ◌+◌, ◌-◌, ◌<◌, ◌≤◌, suc, List, [], ◌∷◌, ◌++◌, length, get_or, take, drop, set, true, refl, ap, sym, ◌∙◌, arith, zero, Some, slice_get, length-append}
 use Rattle.std.specs.Prelude.{Box, map as map_list}
 use Rattle.std.specs.List.{insert, remove}
@@ -22,7 +22,7 @@ module _ {V A : Type 0} where
   unboxed-append [] fs = refl
   unboxed-append (e ∷ es) fs = ap (λ t. opened e ∷ t) (unboxed-append es fs)
 
-  -- what is read at a place
+  -- the value read at a place
   pub unboxed_at : (es : List (ℕ × Box V A)) (i : ℕ) (e : ℕ × Box V A) → i < length es → e ≡ get_or es i e → opened e ≡ get_or (unboxed es) i (opened e)
   unboxed_at es i e within read = ap opened read ∙ sym (get_or-map opened es i e (opened e) within)
 

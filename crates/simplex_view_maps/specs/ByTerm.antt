@@ -1,4 +1,4 @@
--- Words for a finite map from views whose terms matter.
+-- Definitions for a finite map from views whose terms matter.
 use Rattle.std.specs.Prelude.{◌≡◌, ℕ, ◌<◌, Bool, true, false, ◌&&◌, nat_lt, Option, refl}
 use Rattle.std.specs.Coded.{Coded, code_by, coded×, coded_ℕ}
 use Rattle.std.specs.List.{list_any}
@@ -7,12 +7,12 @@ use Rattle.std.specs.FinMap.{FinMap, keys, retain_keys, code}
 use Rattle.simplex_types.specs.Terms.{term_end, covers}
 use Rattle.simplex_view_maps.specs.Tracked.{last_entry}
 
--- a map from views, and how many views stand in a term
+-- a map from views, and how many views a term has
 pub record ByTermFacts (V : Type 0) : Type 0 where
   pub term_length : ℕ
   pub by_view : FinMap nat_cmp V
 
--- such a map as a number and a map, so that two can be told apart
+-- such a map as a number and a map, so that two can be distinguished
 abbrev pub by_term_code : {V : Type 0} → Coded V → Coded (ByTermFacts V)
 by_term_code {V} value =
     code_by (ℕ × FinMap nat_cmp V) (coded× coded_ℕ (code coded_ℕ value)) (λ m. (m.term_length, m.by_view))

@@ -12,7 +12,8 @@ module _ {V : Type 0} where
 
   -- some views, all of the term that starts at a view
   abbrev pub IsOfTerm : ℕ → ℕ → FinMap nat_cmp V → Type 0
-  IsOfTerm length start views = (0 < len views) × ((view : ℕ) → contains_key views view ≡ true → term_start length view ≡ start)
+  IsOfTerm length start views =
+      (0 < len views) × ((view : ℕ) → contains_key views view ≡ true → term_start length view ≡ start)
 
   -- each term has views, and only its own
   abbrev pub AreByTerm : ℕ → FinMap nat_cmp (FinMap nat_cmp V) → Type 0

@@ -1,4 +1,4 @@
--- Words for a finite map from views.
+-- Definitions for a finite map from views.
 use Rattle.std.specs.Prelude.{ℕ, ◌<◌, ◌≤◌, ◌^◌, ◌-◌, nat_lt, nat_le, Option, Some, None, Result, Ok, Err, slice_get, length, List, map as map_list, Box}
 use Rattle.std.specs.Ordering.{nat_cmp}
 use Rattle.std.specs.FinMap.{FinMap, entries, insert, retain_keys}
@@ -20,7 +20,7 @@ first_entry m = slice_get (entries m) 0
 abbrev pub last_entry : {V : Type 0} → FinMap nat_cmp V → Option (ℕ × V)
 last_entry m = slice_get (entries m) (length (entries m) - 1)
 
--- what an insert leaves, by its answer: the value goes in where the answer is that nothing stood there
+-- the map after an insert, by its result: the value is added if the result says that there was none
 abbrev pub after_insert : {V : Type 0} → FinMap nat_cmp V → ℕ → V → Result (Option V) (AllocFailed V) → FinMap nat_cmp V
 after_insert m view value (Ok None) = insert m view value
 after_insert m view value (Ok (Some standing)) = m
@@ -30,6 +30,6 @@ after_insert m view value (Err refused) = m
 abbrev pub IsAtMostBinaryDigits : ℕ → ℕ → Type 0
 IsAtMostBinaryDigits count n = (d : ℕ) → n < 2 ^ d → count ≤ d
 
--- entries whose values stand in boxes
+-- entries whose values are in boxes
 abbrev pub unboxed : {V A : Type 0} → List (ℕ × Box V A) → List (ℕ × V)
 unboxed es = map_list (λ e. (e.0, e.1.value)) es

@@ -1,4 +1,4 @@
-//! Values at views, kept by the terms of the views, with a run of views that a search for a gap jumps over.
+//! Values at views, stored by the terms of the views, with a run of views that a search for a gap skips.
 
 ghost use Rattle.std.specs.Prelude.{◌≡◌, ◌≤◌, ◌<◌, ◌+◌, ◌^◌, IfOk, IfErr, OnErr, Some, None, option_map, MatchOption, if◌then◌else◌};
 ghost use Rattle.std.specs.Option.{option_copied};
@@ -12,7 +12,7 @@ use simplex_types::types::{AllocFailed, TermLength, View};
 use std::alloc::Global;
 use std::marker::Model;
 
-/// A map from views to values that finds quickly which views its own cover, and where a gap is.
+/// A map from views to values that finds quickly whether its views cover another, and where a gap is.
 #[derive(Drop)]
 pub struct ByTerm<V> {
     table: TermTable<V>,
@@ -66,7 +66,7 @@ impl<V> ByTerm<V> {
 
     /// The first view strictly between two others that no view covers.
     ///
-    /// It looks at the terms before the run and behind it.
+    /// It looks at the terms before the run and after it.
     pub fn first_uncovered(&self, after: View, before: View) -> Option<View>
         ensures { MatchOption result (Gapless self.now after before) (IsFirstUncovered self.now after before) }
     {
@@ -81,11 +81,12 @@ impl<V> ByTerm<V> {
 }
 
 impl<V: Drop> ByTerm<V> {
-    /// Sets the value of a view that has none; genesis has none. A value that finds another there, or no memory, comes
-    /// back.
+    /// Sets the value of a view that has none; genesis has none. Returns the value if the view has another, or if there
+    /// is no memory.
     pub fn insert(&mut self, view: View, value: V) -> Result<Option<V>, AllocFailed<V>>
         requires { 1 ≤ view }
-        ensures standing { IfOk result (λ back. back ≡ (if map.contains_key self.old.by_view view then Some value else None)) }
+        ensures standing { IfOk result
+            (λ back. back ≡ (if map.contains_key self.old.by_view view then Some value else None)) }
         ensures refused { IfErr result (λ refused. refused.value ≡ value) }
         ensures refused_only_new { OnErr result (map.get self.old.by_view view ≡ None) }
         ensures after { self.new ≡ record self.old { by_view = after_insert self.old.by_view view value result } }

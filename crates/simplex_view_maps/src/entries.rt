@@ -6,11 +6,11 @@ use crate::rows::Rows;
 use simplex_types::types::View;
 use std::marker::Model;
 
-/// Entries that are left to be taken, by rising view.
+/// The entries that remain, by rising view.
 #[derive(Drop)]
 pub struct Entries<'a, V> {
     rows: &'a Rows<(View, Box<V>)>,
-    // the places from the first entry that is left to past the last
+    // the places from the first remaining entry to past the last
     start: usize,
     end: usize,
 }
@@ -41,9 +41,10 @@ impl<'a, V> Entries<'a, V> {
         Entries { rows, start, end }
     }
 
-    /// Takes the entry of the lowest view that is left.
+    /// Takes the remaining entry of the lowest view.
     pub fn pop_first(&mut self) -> Option<(View, &'a V)>
-        ensures { MatchOption result ((self.old ≡ []) × (self.new ≡ [])) (λ entry. self.old ≡ (entry.0, entry.1.now) ∷ self.new) }
+        ensures { MatchOption result ((self.old ≡ []) × (self.new ≡ []))
+            (λ entry. self.old ≡ (entry.0, entry.1.now) ∷ self.new) }
     {
         if self.start == self.end {
             return None;
@@ -53,9 +54,10 @@ impl<'a, V> Entries<'a, V> {
         Some((entry.0, &*entry.1))
     }
 
-    /// Takes the entry of the highest view that is left.
+    /// Takes the remaining entry of the highest view.
     pub fn pop_last(&mut self) -> Option<(View, &'a V)>
-        ensures { MatchOption result ((self.old ≡ []) × (self.new ≡ [])) (λ entry. self.old ≡ self.new ++ (entry.0, entry.1.now) ∷ []) }
+        ensures { MatchOption result ((self.old ≡ []) × (self.new ≡ []))
+            (λ entry. self.old ≡ self.new ++ (entry.0, entry.1.now) ∷ []) }
     {
         if self.start == self.end {
             return None;

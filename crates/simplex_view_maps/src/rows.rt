@@ -12,7 +12,7 @@ use std::marker::Model;
 use std::mem::replace;
 use std::ops::Index;
 
-/// How many entries each row has but the first and the last, which may have fewer.
+/// How many entries each row has, except the first and the last, which may have fewer.
 const ROW: usize = 2048;
 
 /// A list.
@@ -84,9 +84,10 @@ impl<T> Rows<T> {
         }
     }
 
-    /// The entry at a place, to be changed.
+    /// The entry at a place, for changes.
     pub(super) fn get_mut(&mut self, place: usize) -> Option<&mut T>
-        ensures* writes_back { sem 𝓛 (LendsIf (the_row T.row) T.row self.entry result (slice_set self.old place) self.old) }
+        ensures* writes_back { sem 𝓛
+            (LendsIf (the_row T.row) T.row self.entry result (slice_set self.old place) self.old) }
         ensures variant { IsSome result ↔ (place < length self.old) }
         ensures value { IfSome result (λ entry. entry.now ≡ slice_index_or self.old place entry.now) }
     {
@@ -102,7 +103,7 @@ impl<T> Rows<T> {
         row.get_mut(after % ROW)
     }
 
-    /// Puts an entry at a place. Where there is no memory it comes back.
+    /// Inserts an entry at a place. Returns it if there is no memory.
     pub(super) fn insert(&mut self, place: usize, value: T) -> Result<(), AllocFailed<T>>
         requires { place ≤ length self.old }
         ensures items { OnOk result (self.new ≡ insert self.old place value) }
@@ -150,7 +151,7 @@ impl<T> Index<usize> for Rows<T> {
 }
 
 impl<T: Drop> Rows<T> {
-    /// Takes the first entry, where there is one.
+    /// Takes the first entry, if there is one.
     pub(super) fn pop_front(&mut self) -> Option<T>
         ensures { MatchOption result ((self.old ≡ []) × (self.new ≡ [])) (λ entry. self.old ≡ entry ∷ self.new) }
     {
@@ -162,7 +163,7 @@ impl<T: Drop> Rows<T> {
         Some(entry)
     }
 
-    /// Removes the first entry, where there is one.
+    /// Removes the first entry, if there is one.
     pub(super) fn drop_front(&mut self)
         ensures { self.new ≡ drop 1 self.old }
     {
@@ -193,7 +194,7 @@ fn at<T>(rows: &VecDeque<VecDeque<T>>, place: usize) -> &T
     &rows[place / ROW][place % ROW]
 }
 
-/// Puts an entry into one row.
+/// Inserts an entry into one row.
 fn put<T>(row: &mut VecDeque<T>, place: usize, value: T) -> Result<(), AllocFailed<T>>
     requires { place ≤ deque_len row.old }
     ensures items { OnOk result (row.new.items ≡ insert row.old.items place value) }
@@ -210,7 +211,7 @@ fn put<T>(row: &mut VecDeque<T>, place: usize, value: T) -> Result<(), AllocFail
     }
 }
 
-/// Makes the first row one of the others where it is full, so that it has places left.
+/// Turns a full first row into one of the others, so that the first has places left.
 fn end_full_row<T>(
     first: &mut VecDeque<T>,
     rest: &mut VecDeque<VecDeque<T>>,
@@ -230,7 +231,7 @@ fn end_full_row<T>(
     Ok(())
 }
 
-/// Puts an entry at a place of rows.
+/// Inserts an entry at a place of rows.
 fn insert_in<T>(
     rows: &mut VecDeque<VecDeque<T>>,
     place: usize,
@@ -268,7 +269,7 @@ fn make_room<T>(rows: &mut VecDeque<VecDeque<T>>) -> Result<(), AllocError>
     last.reserve(1)
 }
 
-/// Whether the last row is full, or there is none.
+/// Returns whether the last row is full, or there is none.
 fn ends_full<T>(rows: &VecDeque<VecDeque<T>>) -> bool
     requires { AreFullButLast rows.now.items }
     ensures full { IsTrue result → IsFull rows.now.items }
@@ -280,7 +281,7 @@ fn ends_full<T>(rows: &VecDeque<VecDeque<T>>) -> bool
     }
 }
 
-/// Puts an empty row behind full ones.
+/// Adds an empty row after full ones.
 fn add_row<T>(rows: &mut VecDeque<VecDeque<T>>) -> Result<(), AllocError>
     requires { IsFull rows.old.items }
     ensures same { row_entries rows.new.items ≡ row_entries rows.old.items }
@@ -294,7 +295,7 @@ fn add_row<T>(rows: &mut VecDeque<VecDeque<T>>) -> Result<(), AllocError>
     Ok(())
 }
 
-/// Hands one entry of each row from one on to the next, as far as a row that has room. The room is then in the first.
+/// Moves one entry of each row, from one on, to the next, up to a row that has room. The room is then in the first.
 fn hand_over<T>(rows: &mut VecDeque<VecDeque<T>>, from: usize, to: usize)
     requires { (from ≤ to) × HasRoomAt to rows.old.items }
     ensures same { row_entries rows.new.items ≡ row_entries rows.old.items }
@@ -307,7 +308,7 @@ fn hand_over<T>(rows: &mut VecDeque<VecDeque<T>>, from: usize, to: usize)
     }
 }
 
-/// Hands the last entry of a row to the next row, which has room.
+/// Moves the last entry of a row to the next row, which has room.
 fn move_last_to_next<T>(rows: &mut VecDeque<VecDeque<T>>, row: usize)
     requires { HasRoomAt (suc row) rows.old.items }
     ensures same { row_entries rows.new.items ≡ row_entries rows.old.items }
@@ -340,7 +341,8 @@ fn remove_in<T: Drop>(rows: &mut VecDeque<VecDeque<T>>, place: usize)
     hand_over(rows, 0, row);
 }
 
-/// Fills the room in the row behind the first by the last entry of the first. Where there is none, it becomes the first.
+/// Fills the room in the row after the first with the last entry of the first. If there is none, that row becomes the
+/// first.
 fn fill_room<T: Drop>(first: &mut VecDeque<T>, rest: &mut VecDeque<VecDeque<T>>)
     requires { (deque_len first.old ≤ row_size) × HasRoomAt 0 rest.old.items }
     ensures same { first.new.items ++ row_entries rest.new.items ≡ first.old.items ++ row_entries rest.old.items }

@@ -1,4 +1,4 @@
-//! A run of views, one behind the other.
+//! A run of consecutive views.
 
 ghost use Rattle.std.specs.Prelude.{◌≡◌, ℕ, Bool, ◌<◌, ◌-◌, ◌^◌, max, nat_lt, nat_le};
 ghost use Rattle.simplex_view_maps.specs.Runs.{AreIn};
@@ -12,10 +12,10 @@ pub(super) struct Run {
     pub(super) end: View,
 }
 
-/// How many views behind its end a run looks for what to join: so far views may come out of order.
+/// How many views after its end a run looks for what to join: views may come out of order by this much.
 pub(super) const REACH: u64 = 64;
 
-/// Whether a view is above another by more than the reach.
+/// Returns whether a view is above another by more than the reach.
 fn is_far_above(view: View, other: View) -> bool
     ensures { result ≡ nat_lt 64 (view - other) }
 {
@@ -33,17 +33,18 @@ impl Run {
         }
     }
 
-    /// Whether no view is in it.
+    /// Returns whether no view is in it.
     fn is_empty(self) -> bool
         ensures { result ≡ nat_le self.end self.first }
     {
         self.end <= self.first
     }
 
-    /// The run over both, where they touch. Else the first one, unless it is empty or the other lies far above: views
-    /// may come a little out of order, while it is the newest ones that are searched.
+    /// Returns the run over both, if they touch. Else the first one, unless it is empty or the other lies far above:
+    /// views may come a little out of order, and the newest ones are searched.
     pub(super) fn joined(self, other: Run) -> Run
-        ensures { (set : ℕ → Bool) → AreIn set self.first self.end → AreIn set other.first other.end → AreIn set result.first result.end }
+        ensures { (set : ℕ → Bool) → AreIn set self.first self.end → AreIn set other.first other.end
+            → AreIn set result.first result.end }
     {
         if self.is_empty() || is_far_above(other.first, self.end) {
             return other;
@@ -57,7 +58,7 @@ impl Run {
         }
     }
 
-    /// What stands of it at or above a view.
+    /// The part of it at or above a view.
     pub(super) fn at_or_above(self, view: View) -> Run
         ensures first { result.first ≡ max self.first view }
         ensures end { result.end ≡ self.end }

@@ -14,7 +14,7 @@ use simplex_types::types::{AllocFailed, TermLength, View};
 use std::alloc::Global;
 use std::marker::Model;
 
-/// A map from views to values, and how many views stand in a term.
+/// A map from views to values, and how many views a term has.
 #[derive(Drop)]
 pub(super) struct TermTable<V> {
     term_length: TermLength,
@@ -61,14 +61,14 @@ impl<V> TermTable<V> {
         self.terms.get(start)?.last_below(view)
     }
 
-    /// Whether a view is covered.
+    /// Returns whether a view is covered.
     fn has_covering(&self, view: View) -> bool
         ensures { result ≡ has_covering self.now view }
     {
         self.covering(view).is_some()
     }
 
-    /// The views that an entry covers: its own, and those behind it in its term.
+    /// The views that an entry covers: its own, and the later ones of its term.
     pub(super) fn covered_by(&self, view: View) -> Run
         ensures first { result.first ≡ view }
         ensures end { result.end ≡ min (next_term_start self.now.term_length view) (2 ^ 64 - 1) }
@@ -79,7 +79,7 @@ impl<V> TermTable<V> {
         }
     }
 
-    /// The first view behind a view's term; where that isn't a number of 64 bits, the greatest view.
+    /// The first view after a view's term; if that isn't a number of 64 bits, the greatest view.
     pub(super) fn end_of_term(&self, view: View) -> View
         ensures end { result ≡ min (next_term_start self.now.term_length view) (2 ^ 64 - 1) }
         ensures positive { 0 < self.now.term_length }
@@ -89,7 +89,7 @@ impl<V> TermTable<V> {
         View::new(start.get().saturating_add(views))
     }
 
-    /// A run with the views behind it, as far as its reach, that are covered too.
+    /// A run extended by the views after it, within its reach, that are covered too.
     pub(super) fn grown(&self, run: Run) -> Run
         ensures first { result.first ≡ run.first }
         ensures behind { AreIn (has_covering self.now) run.end result.end }
@@ -137,11 +137,12 @@ impl<V> TermTable<V> {
 }
 
 impl<V: Drop> TermTable<V> {
-    /// Sets the value of a view that has none; genesis has none. A value that finds another there, or no memory, comes
-    /// back.
+    /// Sets the value of a view that has none; genesis has none. Returns the value if the view has another, or if there
+    /// is no memory.
     pub(super) fn insert(&mut self, view: View, value: V) -> Result<Option<V>, AllocFailed<V>>
         requires { 1 ≤ view }
-        ensures standing { IfOk result (λ back. back ≡ (if map.contains_key self.old.by_view view then Some value else None)) }
+        ensures standing { IfOk result
+            (λ back. back ≡ (if map.contains_key self.old.by_view view then Some value else None)) }
         ensures refused { IfErr result (λ refused. refused.value ≡ value) }
         ensures refused_only_new { OnErr result (map.get self.old.by_view view ≡ None) }
         ensures after { self.new ≡ record self.old { by_view = after_insert self.old.by_view view value result } }

@@ -1,4 +1,4 @@
-//! Values at the views that are tracked, in rows sorted by view.
+//! Values at the tracked views, in rows sorted by view.
 
 ghost use Rattle.std.specs.Prelude.{◌≡◌, ◌+◌, ◌-◌, ◌^◌, ◌<◌, ◌≤◌, IfOk, IfErr, IfSome, OnErr, Some, None, [], ◌∷◌, ◌==◌, is_some, option_map, nat_lt, drop, if◌then◌else◌};
 ghost use Rattle.std.specs.Option.{option_copied};
@@ -14,7 +14,7 @@ use std::marker::Model;
 
 /// A map from views to values.
 ///
-/// The values stand out of line, so that two words move for each entry that an insert moves.
+/// The values are stored out of line, so that two words move for each entry that an insert moves.
 #[derive(Drop)]
 pub struct Tracked<V> {
     entries: Rows<(View, Box<V>)>,
@@ -53,7 +53,7 @@ impl<V> Tracked<V> {
         self.entries.allocator()
     }
 
-    /// Whether no view is tracked.
+    /// Returns whether no view is tracked.
     pub(super) fn is_empty(&self) -> bool
         ensures { result ≡ (map.len self.now == 0) }
     {
@@ -67,7 +67,8 @@ impl<V> Tracked<V> {
         self.entries.len()
     }
 
-    /// The place of a view, which is the number of entries below it, and how many entries the search compared with it.
+    /// Returns the place of a view, which is the number of entries below it, and how many entries the search compared
+    /// with it.
     pub fn find(&self, view: View) -> (usize, usize)
         ensures place { result.0 ≡ map.len (below self.now view) }
         ensures probes { IsAtMostBinaryDigits result.1 (map.len self.now) }
@@ -89,7 +90,8 @@ impl<V> Tracked<V> {
         (low, probes)
     }
 
-    /// The same where each view from the first entry's to the last one's is there: the first entry alone tells the place then.
+    /// The same if each view from the first entry's to the last one's is there: then the first entry alone gives the
+    /// place.
     fn find_in_run(&self, view: View) -> Option<(usize, usize)>
         ensures place { IfSome result (λ found. found.0 ≡ map.len (below self.now view)) }
         ensures probes { IfSome result (λ found. IsAtMostBinaryDigits found.1 (map.len self.now)) }
@@ -106,7 +108,7 @@ impl<V> Tracked<V> {
         Some((distance.min(count as u64) as usize, probes))
     }
 
-    /// Whether the entry at a place is below the view.
+    /// Returns whether the entry at a place is below the view.
     fn is_below(&self, place: usize, view: View, probes: &mut usize) -> bool
         requires in_range { place < map.len self.now }
         requires room { probes.old < map.len self.now }
@@ -116,7 +118,7 @@ impl<V> Tracked<V> {
         distance(view, self.entries[place].0, probes) > 0
     }
 
-    /// Whether the view stands at its place.
+    /// Returns whether the view is at its place.
     fn stands_at(&self, place: usize, view: View) -> bool
         requires { place ≡ map.len (below self.now view) }
         ensures { result ≡ map.contains_key self.now view }
@@ -154,9 +156,10 @@ impl<V> Tracked<V> {
         }
     }
 
-    /// The value at a view, to be changed.
+    /// The value at a view, for changes.
     pub fn get_mut(&mut self, view: View) -> Option<&mut V>
-        ensures* writes_back { sem 𝓛 (LendsIf (the_row V.row) V.row self.entry result (map.insert self.old view) self.old) }
+        ensures* writes_back { sem 𝓛
+            (LendsIf (the_row V.row) V.row self.entry result (map.insert self.old view) self.old) }
         ensures value { option_copied_mut result ≡ map.get self.old view }
     {
         let (place, _) = self.find(view);
@@ -167,7 +170,7 @@ impl<V> Tracked<V> {
         Some(&mut *entry.1)
     }
 
-    /// Sets the value of a view that has none. A value that finds another there, or no memory, comes back.
+    /// Sets the value of a view that has none. Returns the value if the view has another, or if there is no memory.
     pub fn insert(&mut self, view: View, value: V) -> Result<Option<V>, AllocFailed<V>>
         ensures standing { IfOk result (λ back. back ≡ (if map.contains_key self.old view then Some value else None)) }
         ensures refused { IfErr result (λ refused. refused.value ≡ value) }
@@ -284,7 +287,7 @@ impl<V: Drop> Tracked<V> {
         drop_first(&mut self.entries, end);
     }
 
-    /// A map of one view, with room for no more: most are never given more.
+    /// A map of one view, with room for no more: most never get more.
     pub(super) fn of_one(alloc: Global, view: View, value: V) -> Result<Self, AllocFailed<V>>
         ensures made { IfOk result (λ made. made ≡ map.insert map.empty view value) }
         ensures refused { IfErr result (λ refused. refused.value ≡ value) }
@@ -308,7 +311,7 @@ impl<V: Drop> Tracked<V> {
         Box::into_inner(boxed)
     }
 
-    /// Removes the entry of a view, where there is one.
+    /// Removes the entry of a view, if there is one.
     pub fn remove(&mut self, view: View)
         ensures { self.new ≡ map.remove self.old view }
     {
@@ -319,7 +322,8 @@ impl<V: Drop> Tracked<V> {
     }
 }
 
-/// How far a view is above an entry's view: 0 where it isn't. It is the only comparison of a search, and counts itself.
+/// The distance of a view above an entry's view: 0 if it isn't above. It is the only comparison of a search, and counts
+/// itself.
 fn distance(view: View, entry: View, probes: &mut usize) -> u64
     requires { probes.old + 1 < 2 ^ 64 }
     ensures distance { result ≡ view - entry }
@@ -329,7 +333,7 @@ fn distance(view: View, entry: View, probes: &mut usize) -> u64
     view.get().saturating_sub(entry.get())
 }
 
-/// Puts a value on the heap. Where there is no memory it comes back.
+/// Puts a value on the heap. Returns it if there is no memory.
 fn boxed<V>(alloc: Global, value: V) -> Result<Box<V>, AllocFailed<V>>
     ensures holds { IfOk result (λ boxed. boxed.value ≡ value) }
     ensures refused { IfErr result (λ refused. refused.value ≡ value) }
@@ -342,7 +346,7 @@ fn boxed<V>(alloc: Global, value: V) -> Result<Box<V>, AllocFailed<V>>
     }
 }
 
-/// Removes the first entries, as many as the count says.
+/// Removes the first `count` entries.
 fn drop_first<V: Drop>(entries: &mut Rows<(View, Box<V>)>, count: usize)
     ensures { entries.new ≡ drop count entries.old }
 {

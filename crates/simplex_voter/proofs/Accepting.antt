@@ -1,4 +1,4 @@
--- What a certificate of a proposal does, step by step.
+-- The effect of a proposal's certificate, step by step.
 use Rattle.std.proofs.Common.{◌≡◌, ℕ, ◌+◌, Bool, true, false, cond, not, ltb, leb, filter, Option, Some, None, is_some, unwrap_or, refl, ap, sym, ◌∙◌}
 use Rattle.std.specs.Prelude.{option_map, map as map_list}
 use Rattle.std.proofs.lemmas.Bool.{false≢true}
@@ -20,7 +20,7 @@ not_false : (b c : Bool) → c ≡ not b → c ≡ true → b ≡ false
 not_false true c is some = absurd (false≢true (sym is ∙ some))
 not_false false c is some = refl
 
--- x is what was known, y after the election for the next view, z after the notarization is kept
+-- x is what was known, y after the election for the next view, z after the notarization is stored
 module _ {K L D : Type 0} (same : D → D → Bool) (elect : Elect L) (x y z : StateFacts K L D) (c : ProposalFacts D) (v next : ℕ) (at : v ≡ c.proposal.round.view) (after : next ≡ v + 1) (is : y ≡ with_elected_leader elect x next (Some c.bytes)) where
   abbrev view : ℕ
   view = c.proposal.round.view
@@ -76,7 +76,7 @@ module _ {K D : Type 0} (same : D → D → Bool) (c : ProposalFacts D) where
         | false ↦ refl
       ]
 
--- x is what was known, y after the next view is entered and led, z after the finalization is kept
+-- x is what was known, y after the next view is entered and led, z after the finalization is stored
 module _ {K L D : Type 0} (same : D → D → Bool) (elect : Elect L) (x y z : StateFacts K L D) (c : ProposalFacts D) (v now : ℕ) (at : v ≡ c.proposal.round.view) (passes : y ≡ with_elected_leader elect (with_view_entered (with_finalized_view (at_moment x now) v) (v + 1) now) (v + 1) (Some c.bytes)) where
   abbrev finalized_view : ℕ
   finalized_view = c.proposal.round.view

@@ -1,4 +1,4 @@
--- A search for what to build goes over the views near the current one, and then over the next term's start alone.
+-- A search for what to build visits the views near the current one, and then only the next term's start.
 use Rattle.std.proofs.Common.{◌≡◌, ℕ, ◌+◌, ◌-◌, ◌<◌, ◌≤◌, ◌^◌, Bool, true, false, cond, ◌&&◌, leb, List, [], ◌∷◌, ◌++◌, filter, Option, Some, None, slice_get, is_some, refl, ap, sym, ◌∙◌, inl, inr, arith}
 use Rattle.std.specs.Prelude.{min, option_and_then}
 use Rattle.std.specs.List.{filter_map, cons_option}

@@ -19,7 +19,7 @@ use Rattle.simplex_voter.proofs.Gaps.{and_parts}
 use Rattle.simplex_voter.proofs.Found.{found_each, found_filtered, first_giver}
 
 module _ {K L D : Type 0} (same : D → D → Bool) (elect : Elect L) (x : StateFacts K L D) where
-  -- what is requested on a parent is for the view
+  -- a request on a parent is for the view
   request_view : (v : ℕ) (r : RoundFacts K D) (parent : ℕ × D) (request : ProposalRequest D K) → request_on same x v r parent ≡ Some request → (request_context request).round.view ≡ v
   request_view v r parent request is = by_start (is_term_start x v && not (parent_certified same x parent)) is
     where

@@ -1,4 +1,4 @@
--- What a view offers, as a walk down the chain of votes finds it.
+-- The payload that a view offers, as a walk down the chain of votes finds it.
 use Rattle.std.proofs.Common.{◌≡◌, ℕ, ◌+◌, ◌≤◌, Bool, true, false, cond, Option, Some, None, refl, ap, sym, ◌∙◌, arith}
 use Rattle.std.specs.Prelude.{◌==◌, is_some, option_map, option_and_then}
 use Rattle.std.specs.Option.{option_map_or}
@@ -12,7 +12,7 @@ use Rattle.simplex_voter.specs.Payloads.{is_voted_ancestor, can_chain_on, is_bou
 use Rattle.simplex_voter.specs.Chains.{payload_of, unrefused_payload, basis_of, basis_at}
 use Rattle.simplex_voter.proofs.Payloads.{can_chain_on-below, optimistic_ancestry_payload-is}
 
--- a vote that was bound to this payload of its parent, if to one, stands on another
+-- a vote that was bound to this payload of its parent, if to one, holds for another
 abbrev pub holds : {D : Type 0} → (D → D → Bool) → Option D → D → Bool
 holds same bound d = option_map_or (λ b. same d b) bound true
 
@@ -60,7 +60,7 @@ module _ {K L D : Type 0} (same : D → D → Bool) (elect : Elect L) (x : State
   abbrev offers : ℕ → Option D
   offers = optimistic_ancestry_payload same elect x
 
-  -- what a view offers that rests on this
+  -- the payload that a view offers on this ground
   abbrev pub rests : Basis D → Option D
   rests (Certain d) = Some d
   rests (Vote p bound) = option_and_then (λ d. cond (holds same bound d) (Some p.payload) None) (offers p.parent)
@@ -97,7 +97,7 @@ module _ {K L D : Type 0} (same : D → D → Bool) (elect : Elect L) (x : State
       by_zero true = certain x.genesis
       by_zero false = by_round (round_at x v)
 
-  -- a view offers what it rests on, or nothing
+  -- a view offers the payload of its ground, or nothing
   rests-one : (b : Basis D) → rests b ≡ cond (is_some (rests b)) (Some (payload_of b)) None
   rests-one (Certain d) = refl
   rests-one (Vote p bound) = by_below (offers p.parent)
@@ -110,7 +110,7 @@ module _ {K L D : Type 0} (same : D → D → Bool) (elect : Elect L) (x : State
       by_below None = refl
       by_below (Some d) = by_test (holds same bound d)
 
-  -- the walk from v has come to what rests on this, and what v offers is decided there
+  -- the walk from v has reached this ground, and what v offers is decided there
   abbrev pub WalkHasReached : ℕ → Basis D → Basis D → Type 0
   WalkHasReached v top b = optimistic_ancestry_payload same elect x v ≡ cond (is_some (rests b)) (Some (payload_of top)) None
 
@@ -121,7 +121,7 @@ module _ {K L D : Type 0} (same : D → D → Bool) (elect : Elect L) (x : State
   begins v b is = offers-rests v ∙ ap (option_and_then rests) (sym is) ∙ rests-one b
 
   module _ (v : ℕ) (top : Basis D) (p : Proposal D) (bound : Option D) (stands : WalkHasReached v top (Vote p bound)) where
-    -- what v offers, by what the parent does
+    -- the payload that v offers, given the parent's
     abbrev above : Option D → Option D
     above o = cond (is_some (option_and_then (λ d. cond (holds same bound d) (Some p.payload) None) o)) (Some (payload_of top)) None
 

@@ -1,4 +1,4 @@
--- Rounds of views that change, and what is kept of them.
+-- Rounds of views that change, and their invariant.
 use Rattle.std.proofs.Common.{Bor, ◌≡◌, ◌≢◌, ℕ, ◌<◌, ◌≤◌, ◌^◌, Bool, true, false, cond, List, [], ◌∷◌, length, Option, Some, None, is_some, unwrap_or, refl, ap, sym, subst, ◌∙◌, inl, inr, leb, arith}
 use Rattle.std.specs.Prelude.{IfSome, OnSome, slice_get, option_map, option_and_then}
 use Rattle.std.specs.Option.{option_copied}
@@ -34,7 +34,7 @@ module _ {V : Type 0} where
   put_on Equal v x y e es is rest = rw is refl
   put_on Greater v x y e es is rest = rw is (ap (λ fs. e ∷ fs) rest)
 
-  -- what is put in place of what was
+  -- a value stored in place of another
   pub put-put : (v : ℕ) (x y : V) (es : List (ℕ × V)) → put nat_cmp v y (put nat_cmp v x es) ≡ put nat_cmp v y es
   put-put v x y [] = let level : nat_cmp v v ≡ Equal = sym (nat_cmp_is v v Equal refl) in rw level refl
   put-put v x y (e ∷ es) = put_on (nat_cmp v e.0) v x y e es refl (put-put v x y es)
@@ -85,7 +85,7 @@ module _ {K D : Type 0} (x : RoundsFacts K D) where
     pub untouched : (v : ℕ) (change : RoundFacts K D → RoundFacts K D) → None ≡ map.get m v → x ≡ with_change_in_place x v change
     untouched v change none = sym (ap (λ b. cond b (with_change x v change) x) (ap is_some (found_at v ∙ sym none)))
 
-  -- what is kept of each round, within bounds
+  -- the invariant of each round, within bounds
   pub kept_put : {h : Bounds} → AreKept h x → (v : ℕ) (r : RoundFacts K D) → IsRoundKept h x v r → AreKept h (put_round x v r)
   kept_put {h} kept v r here q s found = elim (cases_eq q v) [
     | inl at ↦
@@ -230,12 +230,12 @@ notarized_small {K} {D} x h kept v notarized = by_value (find_round x v) refl no
 pub finalizable_there : {K D : Type 0} (x : RoundsFacts K D) (m : map.FinMap nat_cmp (RoundFacts K D)) → x.by_view ≡ map.entries m → (v : ℕ) → can_finalize (round_in x v) ≡ true → None ≡ map.get m v → ⊥
 finalizable_there x m shown v can none = false≢true (ap (λ found. can_finalize (unwrap_or found (new_round x.me x.members (round_id x v)))) (none ∙ sym (found_at x m shown v)) ∙ can)
 
--- the round of a tracked view is changed; y is how the fields show what is known
+-- the round of a tracked view is changed; y is what the fields represent
 pub changed_there_always : {K D : Type 0} (x y : RoundsFacts K D) → y ≡ x → (m : map.FinMap nat_cmp (RoundFacts K D)) → y.by_view ≡ map.entries m → (v : ℕ) (r s : RoundFacts K D) (change : RoundFacts K D → RoundFacts K D) → Some r ≡ map.get m v → s ≡ change r → record y { by_view = map.entries (map.insert m v s) } ≡ with_change x v change
 changed_there_always x y is m shown v r s change here same =
     put_shown y m shown v s ∙ ap (put_round y v) (same ∙ ap change (lent y m shown v r here)) ∙ ap (λ z. with_change z v change) is
 
--- what is left of the rounds
+-- the invariant of the remaining rounds
 pub left_kept : {K D : Type 0} {h : Bounds} (x : RoundsFacts K D) (m : map.FinMap nat_cmp (RoundFacts K D)) → x.by_view ≡ map.entries m → (v : ℕ) (n : map.FinMap nat_cmp (RoundFacts K D)) → n ≡ at_or_above m v → (left : Bounds) → left ≡ record h { refused = at_or_above h.refused v } → AreKept h x → AreKept left (record x { by_view = map.entries n })
 left_kept {K} {D} {h} x m shown v n is left are kept q r found = on (by_test (leb v q) refl (sym (get-kept m (λ u. leb v u) q) ∙ ap (λ k. map.get k q) (sym is) ∙ sym (find_entries n q) ∙ found))
   where

@@ -1,4 +1,4 @@
--- The facts' lists are what the sorted containers are seen as.
+-- The facts' lists match the sorted containers.
 use Rattle.std.proofs.Common.{◌≡◌, ℕ, List, [], ◌∷◌, refl, ap, ◌∙◌}
 use Rattle.std.specs.Prelude.{map, filter, nat_le}
 use Rattle.std.specs.Cmp.{nat_cmp_total}

@@ -1,4 +1,4 @@
--- What the searches of the containers say of nullified views and of views that were certified false.
+-- The searches of the containers, applied to nullified views and to views that were certified false.
 use Rattle.std.proofs.Common.{◌≡◌, ℕ, ◌<◌, Option, Some, None, is_some, option_map, inl, inr, arith, refl, ap, sym, ◌∙◌}
 use Rattle.std.specs.Prelude.{MatchOption}
 use Rattle.std.specs.FinMap as fin

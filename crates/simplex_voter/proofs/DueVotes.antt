@@ -53,7 +53,7 @@ module _ {K L D : Type 0} (x : StateFacts K L D) where
     pub first_shown : (test : ℕ × RoundFacts K D → Bool) → option_map (λ e. e.0) (find test es) ≡ option_map (λ e. e.0) (find test (filter (λ e. leb from e.0) x.rounds))
     first_shown test = ap (λ ds. option_map (λ e. e.0) (find test ds)) from_shown
 
-  -- the first of some, and those behind it
+  -- the first of some, and those after it
   pub rounds_split : (es : _) (e : _) (rest : _) → es ≡ e ∷ rest → AreRoundsOf x es → (round_of x e.0 ≡ e.1) × AreRoundsOf x rest
   rounds_split es e rest are all = subst (AreRoundsOf x) are all
 

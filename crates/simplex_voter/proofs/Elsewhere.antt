@@ -37,7 +37,7 @@ module _ {K L D : Type 0} (x : StateFacts K L D) (v w : ℕ) (apart : v ≢ w) w
 pub not_next : (v : ℕ) → v ≢ v + 1
 not_next v is = absurd (omega arith)
 
--- whether a certificate is added shows whether one stands
+-- whether a certificate is added shows whether there was one
 pub first_added : {K D : Type 0} (same : D → D → Bool) (standing : Option (ProposalFacts D)) (r : RoundFacts K D) (c : ProposalFacts D) → (added_answer same standing r c.proposal).0 ≡ not (is_some standing)
 first_added same None r c = refl
 first_added same (Some d) r c = refl

@@ -1,4 +1,4 @@
--- Where no refusal stands.
+-- The case without a refusal.
 use Rattle.std.proofs.Common.{◌≡◌, ℕ, ◌<◌, ◌^◌, leb, Bool, true, false, ◌&&◌, ◌||◌, Option, Some, None, Result, Ok, Err, IsTrue, IfSome, refl, ap, sym, ◌∙◌, arith}
 use Rattle.std.proofs.lemmas.Bool.{false≢true}
 use Rattle.std.proofs.lemmas.Bool.Decides.{nat_tests}

@@ -44,7 +44,7 @@ module _ {V : Type 0} where
       let behind : AreFound all (filter test es) = found_filtered all es test found.1 in
       elim (test e) as (λ b. AreFound all (cond b (e ∷ filter test es) (filter test es))) [ true ↦ (found.0, behind) | false ↦ behind ]
 
-  -- what a walk gives first is given by an entry that is found
+  -- the first value of a walk is given by an entry that is found
   pub first_giver : {B : Type 0} (h : ℕ × V → Option B) (all es : List (ℕ × V)) (b : B) → AreFound all es → slice_get (filter_map h es) 0 ≡ Some b → (e : ℕ × V) × (find nat_cmp e.0 all ≡ Some e.1) × (h e ≡ Some b)
   first_giver h all [] b found is = absurd (false≢true (ap is_some is))
   first_giver {B} h all (e ∷ es) b found is = by_value (first_giver h all es b found.1) (h e) refl is
@@ -65,7 +65,7 @@ module _ {V : Type 0} where
       let behind : Rises (filter test es) = rises-filtered test es r.1 in
       elim (test e) as (λ b. Rises (cond b (e ∷ filter test es) (filter test es))) [ true ↦ (AllAbove-filtered e.0 test es r.0, behind) | false ↦ behind ]
 
-  -- a key that passes is found among those that are kept
+  -- a key that passes is found among those that remain
   pub find-filtered : (p : ℕ → Bool) (q : ℕ) (es : List (ℕ × V)) → find nat_cmp q (filter (λ e. p e.0) es) ≡ cond (p q) (find nat_cmp q es) None
   find-filtered p q [] = elim (p q) as (λ b. ◌≡◌ {A = Option V} None (cond b None None)) [ true ↦ refl | false ↦ refl ]
   find-filtered p q (e ∷ es) = elim (cases_eq q e.0) [
@@ -113,7 +113,7 @@ module _ {V : Type 0} where
   nothing_given h all [] found none = refl
   nothing_given h all (e ∷ es) found none = rw (none e.0 e.1 found.0) (nothing_given h all es found.1 none)
 
-  -- the first of what is given comes from the lowest entry that gives
+  -- the first value comes from the lowest entry that gives one
   pub first_given : {B : Type 0} (h : ℕ × V → Option B) (es : List (ℕ × V)) (v : ℕ) (r : V) → Rises es → find nat_cmp v es ≡ Some r → is_some (h (v, r)) ≡ true → ((q : ℕ) (s : V) → q < v → find nat_cmp q es ≡ Some s → h (q, s) ≡ None) → slice_get (filter_map h es) 0 ≡ h (v, r)
   first_given h [] v r rise is gives none = absurd (false≢true (ap is_some is))
   first_given {B} h (e ∷ es) v r rise is gives none = elim (cases_order v e.0) [

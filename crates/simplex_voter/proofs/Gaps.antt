@@ -42,7 +42,7 @@ pub cases_option : {A : Type 0} (o : Option A) → (o ≡ None) ⊎ ((a : A) × 
 cases_option None = inl refl
 cases_option (Some a) = inr (a, refl)
 
--- the element stands in the list
+-- the list has the element
 abbrev pub IsIn : ℕ → List ℕ → Type 0
 IsIn v views = list_any (λ w. eqb w v) views ≡ true
 
@@ -110,7 +110,7 @@ module _ {K L D : Type 0} (x : StateFacts K L D) where
   abbrev length : ℕ
   length = x.terms.term_length
 
-  -- a view behind a covered one is covered too, or starts the next term
+  -- a view after a covered one is covered too, or starts the next term
   next_of_covered : (w u : ℕ) → 0 < length → 1 ≤ w → covers length u w ≡ true → covers length u (w + 1) ≡ false → w + 1 ≡ next_term_start length u
   next_of_covered w u some one covered uncovered =
       let parts = and_parts (leb u w) _ covered in

@@ -1,4 +1,4 @@
--- What a verdict does, step by step.
+-- The effect of a verdict, step by step.
 use Rattle.std.proofs.Common.{◌≡◌, ℕ, ◌+◌, ◌<◌, ◌≤◌, ◌^◌, ltb, Bool, true, false, cond, Result, Ok, Err, OnOk, refl, ap, sym, ◌∙◌, arith}
 use Rattle.std.proofs.lemmas.Bool.{false≢true}
 use Rattle.simplex_types.specs.declared.reasons.TimeoutReason.{TimeoutReason}
@@ -28,7 +28,7 @@ module _ {K L D : Type 0} (elect : Elect L) where
   taken_true x v now true accepted = refl
   taken_true x v now false accepted = absurd (false≢true accepted)
 
--- a timeout leaves how the state was set up
+-- a timeout keeps the setup of the state
 module _ {K L D : Type 0} (x y z : StateFacts K L D) (v now : ℕ) (reason : TimeoutReason) (is : z ≡ with_timeout y v reason now) where
   stays : {A : Type 0} (f : StateFacts K L D → A) → f (with_round y v (with_latch (round_of y v) now reason)) ≡ f y → f z ≡ f y
   stays f same = ap f is ∙ elim (can_trigger y v reason) as (λ b. f (cond b (with_round y v (with_latch (round_of y v) now reason)) y) ≡ f y) [

@@ -1,4 +1,4 @@
--- What holds of a result that is there.
+-- A claim about a result that is there.
 use Rattle.std.proofs.Common.{Result, Ok, Err, IfOk}
 
 pub if_ok : {A E : Type 0} {P Q : A → Type 0} (r : Result A E) → ((a : A) → P a → Q a) → IfOk r P → IfOk r Q

@@ -1,4 +1,4 @@
--- What a walk over the views that wait gathers.
+-- The proposals that a walk over the waiting views gathers.
 use Rattle.std.proofs.Common.{◌≡◌, List, [], ◌∷◌, ◌++◌, Option, Some, None, append_assoc, refl, ap, sym, ◌∙◌}
 use Rattle.std.specs.List.{filter_map, cons_option}
 

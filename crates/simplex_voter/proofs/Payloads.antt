@@ -12,7 +12,7 @@ use Rattle.simplex_voter.specs.Facts.{StateFacts, Elect, round_at}
 use Rattle.simplex_voter.specs.Payloads.{can_chain_on, is_bound_to, voted_payload, served_payload, payload_by, payload_within, optimistic_ancestry_payload}
 use Rattle.simplex_voter.proofs.Gaps.{cases_bool, and_parts}
 
--- how many entries stand at or below a view
+-- how many entries are at or below a view
 rank : {A : Type 0} → List (ℕ × A) → ℕ → ℕ
 rank [] v = 0
 rank (e ∷ es) v = cond (leb e.0 v) (suc (rank es v)) (rank es v)
@@ -42,7 +42,7 @@ rank-rises (e ∷ es) p v up =
           ]
     ]
 
--- fewer entries stand at or below a view under a tracked one
+-- fewer entries are at or below a view that lies below a tracked one
 rank-below : {A : Type 0} (es : List (ℕ × A)) (p v : ℕ) → p < v → is_some (find nat_cmp v es) ≡ true → rank es p < rank es v
 unfolding rank
 rank-below [] p v low here = absurd (false≢true here)
@@ -99,7 +99,7 @@ module _ {K L D : Type 0} (same : D → D → Bool) (elect : Elect L) (x : State
       each_same _ _ (round_at x v) (λ r is. served_same f g v r (λ p low. alike p low (ap is_some is))) in
       rw served refl
 
-  -- as many steps as entries stand at or below the view are enough
+  -- as many steps as there are entries at or below the view are enough
   enough : (m n v : ℕ) → rank x.rounds v ≤ m → rank x.rounds v ≤ n → payload_within same elect x (suc m) v ≡ payload_within same elect x (suc n) v
   enough zero n v in_m in_n = by_same (payload_within same elect x zero) (payload_within same elect x n) v (λ p low tracked.
       let fewer = rank-below x.rounds p v low tracked in absurd (omega arith))

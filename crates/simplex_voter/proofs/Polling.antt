@@ -46,7 +46,7 @@ module _ {K D A : Type 0} where
 pub late_untracked : {K D : Type 0} (x : RoundsFacts K D) (v now retry : ℕ) → None ≡ find_round x v → false ≡ (awaits_retry (round_in x v) && is_past_u64 (now + retry))
 late_untracked x v now retry none = ap (λ found. awaits_retry (unwrap_or found (new_round x.me x.members (round_id x v))) && is_past_u64 (now + retry)) none
 
--- what a poll answers, by the round of the view
+-- the result of a poll, given the round of the view
 pub answer_shown : {K D : Type 0} (found : Option (RoundFacts K D)) (fresh : RoundFacts K D) → fresh ≡ new_round fresh.me fresh.members fresh.round → (now retry : ℕ) (allow : Bool) → option_and_then (λ (r : RoundFacts K D). round_timeout (with_retry r now retry) allow) found ≡ round_timeout (with_retry (unwrap_or found fresh) now retry) allow
 answer_shown None fresh is now retry true = rw is refl
 answer_shown None fresh is now retry false = rw is refl

@@ -1,4 +1,4 @@
--- What readies the view above a proposal.
+-- Preparing the view above a proposal.
 use Rattle.std.proofs.Common.{◌≡◌, ℕ, ◌+◌, Bool, true, false, cond, ◌&&◌, Option, Some, None, refl}
 use Rattle.std.specs.Option.{option_map_or}
 use Rattle.simplex_round.specs.declared.round.Leader.{Leader}
@@ -8,7 +8,7 @@ use Rattle.simplex_voter.specs.Payloads.{is_elected_early}
 use Rattle.simplex_voter.specs.Leaders.{with_leader_at, with_leader_of, with_elected_leader, with_next_view_ready}
 use Rattle.simplex_voter.proofs.Elsewhere.{round_of-led, round_of-elected, not_next}
 
--- what readies the view above leaves the round of a view
+-- preparing the view above keeps the round of a view
 module _ {K L D : Type 0} (elect : Elect L) (x : StateFacts K L D) (v : ℕ) where
   pub round_of-prepared : round_of (with_next_view_ready elect x v) v ≡ round_of x v
   round_of-prepared = by_window (in_issuance_window x (v + 1))

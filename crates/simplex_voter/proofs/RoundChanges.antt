@@ -1,4 +1,4 @@
--- Changes of a round that keep for whom it was made, its notarization and its leader, and mostly make nothing of it that is searched for.
+-- Changes of a round that keep its member, its notarization and its leader, and mostly make nothing of it that is searched for.
 use Rattle.std.proofs.Common.{◌≡◌, ℕ, ◌+◌, ◌≤◌, Bool, true, false, cond, Option, Some, None, Result, Ok, Err, OnOk, OnErr, is_some, ◌||◌, ◌⊎◌, inl, inr, refl}
 use Rattle.std.proofs.lemmas.Bool.{false≢true}
 use Rattle.simplex_types.specs.Proposal.{same_proposal}
@@ -41,7 +41,7 @@ abort_refused (Outstanding token) is = is
 abort_refused (Judged verdict) is = is
 abort_refused Aborted is = is
 
--- a certification that was given up is not under way
+-- an abandoned certification is not under way
 pub none_after_abort : (c : Certification) → is_some (token_of (after_abort c)) ≡ false
 none_after_abort Ready = refl
 none_after_abort (Outstanding token) = refl
@@ -59,7 +59,7 @@ module _ (h : Bounds) (v : ℕ) where
   verdict_refused was false may is = inr (may.refused refl)
 
 module _ {K D : Type 0} where
-  -- it is explicit, its certification is under way or was answered by false only where that was so, or where the bounds allow it
+  -- it is explicit, under certification or certified false only if it was so before, or if the bounds allow it
   pub record IsAlike (h : Bounds) (v : ℕ) (r s : RoundFacts K D) : Type 0 where
     pub me : s.me ≡ r.me
     pub members : s.members ≡ r.members

@@ -39,7 +39,7 @@ keys-kept m v = ap (map_list (λ e. e.0)) (entries-retain_keys m (λ u. leb v u)
 pub keys-below : {V : Type 0} (m : map.FinMap nat_cmp V) (v : ℕ) → map.keys (below m v) ≡ map_list (λ e. e.0) (filter (λ e. ltb e.0 v) (map.entries m))
 keys-below m v = ap (map_list (λ e. e.0)) (entries-retain_keys m (λ u. ltb u v))
 
--- what a set of views holds once a view is noted, whether it was before or not
+-- a set of views once a view is added, whether it was there before or not
 pub noted : (m : map.FinMap nat_cmp (Unit {0})) (v : ℕ) (r : Option (Unit {0})) → r ≡ cond (map.contains_key m v) (Some tt) None → after_insert m v tt (Ok r) ≡ map.insert m v tt
 noted m v r is = by_answer (map.get m v) refl r is
   where
@@ -49,7 +49,7 @@ noted m v r is = by_answer (map.get m v) refl r is
     by_answer (Some y) here None is = let bad : None ≡ Some tt = is in cc
     by_answer (Some y) here (Some x) is = sym (insert-same m v tt here)
 
--- a view that is noted stands in the set, and those that stood there do
+-- a view that is added is in the set, and so are those that were
 pub noted_there : (m new : map.FinMap nat_cmp (Unit {0})) (v : ℕ) → new ≡ map.insert m v tt → map.contains_key new v ≡ true
 noted_there m new v is = ap (λ n. map.contains_key n v) is ∙ ap is_some (get-insert m v tt v) ∙ rw (eq-eqb v v refl) refl
 
@@ -68,7 +68,7 @@ copied_some (Some a) = refl
 pub looked_up : {A : Type 0} (o : Option (Bor A)) (found : Option A) (b : Bool) → option_copied o ≡ found → b ≡ is_some o → is_some found ≡ b
 looked_up o found b same is = sym (ap is_some same) ∙ copied_some o ∙ sym is
 
--- an insert where nothing stands puts the value in
+-- an insert into an empty place stores the value
 pub inserted_new : {V : Type 0} (m new : map.FinMap nat_cmp V) (v : ℕ) (x : V) (back : Option V) → is_some (map.get m v) ≡ false → back ≡ cond (is_some (map.get m v)) (Some x) None → new ≡ after_insert m v x (Ok back) → new ≡ map.insert m v x
 inserted_new m new v x None absent standing after = after
 inserted_new m new v x (Some y) absent standing after = let bad : Some y ≡ None = standing ∙ rw absent refl in cc

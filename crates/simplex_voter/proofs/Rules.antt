@@ -60,7 +60,7 @@ module _ {K L D : Type 0} (elect : Elect L) (x : StateFacts K L D) (v : ℕ) whe
         certified = e.1;
       }
 
-  -- what the rule asks of the view's own round
+  -- the rule's part about the view's own round
   pub finalize_round : may_finalize elect x v ≡ true → can_finalize (round_of x v) ≡ true
   unfolding may_finalize
   finalize_round h = (and_parts (ltb x.finalized v && is_admitted x v && not (has_conflicting_nullify x v) && has_required_parent elect x v) _ h).1
@@ -71,7 +71,7 @@ module _ {K L D : Type 0} (elect : Elect L) (x : StateFacts K L D) (v : ℕ) whe
       rw (lt-ltb x.finalized v rule.above_finalized, rule.admitted, rule.not_gated, rule.parent, rule.undecided, rule.unequivocated, rule.notarized, rule.certified) refl
 
 module _ {K L D : Type 0} (same : D → D → Bool) (elect : Elect L) (x : StateFacts K L D) (v : ℕ) where
-  -- what the rule asks of the view's own round
+  -- the rule's part about the view's own round
   pub notarize_round : may_notarize same elect x v ≡ true → can_notarize (round_of x v) ≡ true
   unfolding may_notarize
   notarize_round h =

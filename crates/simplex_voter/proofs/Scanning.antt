@@ -128,7 +128,7 @@ none_admits false true false false = refl
 none_admits false false d true = refl
 none_admits false false d false = refl
 
--- from a view the scan goes on there, or past the near views to the last
+-- from a view the scan continues there, or past the near views at the last
 pub onward_cases : (near next last from : ℕ) → from ≡ cond (ltb near next && ltb next last) last next → (from ≡ next) ⊎ ((near < next) × (next < last) × (from ≡ last))
 onward_cases near next last from is = elim (cases_lt near next) [
   | inl past ↦ elim (cases_lt next last) [
@@ -157,7 +157,7 @@ module _ {K L D : Type 0} (same : D → D → Bool) (elect : Elect L) where
       let passes : standing same elect x (v, r) ≡ NothingToDo = ap (λ o. cond (is_admitted x v) (option_map_or (λ (found : Leader K × Proposal D). parent_standing same elect x v r found.1.parent) o NothingToDo) NothingToDo) (sym none) ∙ either (is_admitted x v) NothingToDo in
       sym (ap (λ s. left_at x (v, s) (standing same elect x (v, s))) at ∙ ap (left_at x (v, r)) passes)
 
-  -- a tracked view is left by how it stands
+  -- a tracked view changes by its standing
   module _ (x : StateFacts K L D) (v : ℕ) (r : RoundFacts K D) (here : Some r ≡ round_at x v) (s : Standing D) (so : s ≡ standing same elect x (v, r)) (y : StateFacts K L D) where
     round_there : round_of x v ≡ r
     round_there = ap (λ o. unwrap_or o (new_round x.me x.members (round_number x v))) (sym here)
@@ -211,7 +211,7 @@ module _ {K L D : Type 0} (same : D → D → Bool) (elect : Elect L) where
       | inr silent ↦ ap is_some (silent_none e silent) ∙ sym silent
     ]
 
-    -- the rounds below n are left by how they stood
+    -- the rounds below n have changed by their standings
     abbrev left_until : ℕ → ℕ → RoundFacts K D → RoundFacts K D
     left_until n q r = cond (leb x.current q && ltb q n) (round_left r x.moment (stands q r)) r
 
@@ -269,7 +269,7 @@ module _ {K L D : Type 0} (same : D → D → Bool) (elect : Elect L) where
         by_value q None = refl
         by_value q (Some r) = ap Some (left_alike q r)
 
-    -- the scan goes on where it may
+    -- the scan continues where it may
     pub goes_onward : (y : StateFacts K L D) (next near last from : ℕ) → near ≡ min (x.current + x.terms.optimistic_views) (2 ^ 64 - 1) → last ≡ next_term_start x.terms.term_length x.current → last < 2 ^ 64 → from ≡ cond (ltb near next && ltb next last) last next → IsScanned y next → IsScanned y from
     goes_onward y next near last from is top room on passed = elim (onward_cases near next last from on) [
       | inl same ↦ subst (IsScanned y) (sym same) passed
@@ -316,7 +316,7 @@ module _ {K L D : Type 0} (same : D → D → Bool) (elect : Elect L) where
           let some : list_any (answered_below q) (views_ahead x) ≡ true = any_there (answered_below q) (views_ahead x) v r at (λ i. lt-ltb v q below i && answered i) in
           scanned_is q ∙ ap (λ b. is_some (cond (reach q) (round_at x q) None) && not b) some ∙ never _
 
-      -- the facts that the scan leaves, by each view
+      -- the facts after the scan, view by view
       all_left : (z : StateFacts K L D) (n : ℕ) → record z { rounds = x.rounds } ≡ x → is_sorted nat_cmp z.rounds ≡ true → ((q : ℕ) → round_at z q ≡ option_map (left_until n q) (round_at x q)) → ((q : ℕ) (t : RoundFacts K D) → round_at x q ≡ Some t → (leb x.current q && ltb q n) ≡ was_scanned same elect x q) → z ≡ after_try_verify same elect x
       all_left z n others kept each alike =
           let rounds : z.rounds ≡ map_list (λ e. (e.0, scan_left same elect x e.0 e.1)) x.rounds = lists_alike z.rounds _ kept (sorted-changed (scan_left same elect x) x.rounds ∙ ordered) (λ q. each q ∙ by_value q (round_at x q) refl ∙ sym (find-changed (scan_left same elect x) q x.rounds)) in
@@ -326,7 +326,7 @@ module _ {K L D : Type 0} (same : D → D → Bool) (elect : Elect L) where
           by_value q None here = refl
           by_value q (Some t) here = ap (λ b. Some (cond b (round_left t x.moment (stands q t)) t)) (alike q t here)
 
-    -- where the scan has come, proposals stand as they stood
+    -- where the scan has come, proposals have the standings that they had
     module _ (ordered : is_sorted nat_cmp x.rounds ≡ true) (y : StateFacts K L D) (n : ℕ) (passed : IsScanned y n) (kept : is_sorted nat_cmp y.rounds ≡ true) where
       undecided_left : (s : Standing D) (r : RoundFacts K D) (now : ℕ) → is_answered s ≡ false → undecided (round_left r now s) ≡ undecided r
       undecided_left NothingToDo r now silent = refl
@@ -375,7 +375,7 @@ module _ {K L D : Type 0} (same : D → D → Bool) (elect : Elect L) where
         unmapped f None is = refl
         unmapped f (Some a) is = absurd (false≢true (sym (ap is_some is)))
 
-        -- it stands as before the scan
+        -- it has the standing that it had before the scan
         pub there : round_at x v ≡ Some r
         there = by_value (round_at x v) (leb x.current v && ltb v n) (late x.current v n up) (sym (passed.each v) ∙ here)
           where

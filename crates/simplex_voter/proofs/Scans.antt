@@ -1,4 +1,4 @@
--- Walks over views for the first that answers, and the views that a walk comes to.
+-- Walks over views for the first with a result, and the views that a walk visits.
 use Rattle.std.proofs.Common.{◌≡◌, ℕ, ◌+◌, true, false, ◌&&◌, ltb, leb, List, [], ◌∷◌, filter, length, Option, Some, None, slice_get, is_some, refl, ap, sym, ◌∙◌, arith}
 use Rattle.std.specs.List.{filter_map}
 use Rattle.std.specs.Ordering.{nat_cmp}

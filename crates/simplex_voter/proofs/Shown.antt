@@ -65,7 +65,7 @@ module _ {K L D : Type 0} where
       ap (λ s. record (with_rounds y s) { current = v }) same ∙ ap (λ (z : StateFacts K L D). record z { current = v }) (tie d)
       ∙ ap (λ e. record (facts.with_round y v (with_entry (facts.round_of y v) now e)) { current = v }) deadlines)
 
-  -- a leader goes on to a view that has none
+  -- a leader carries over to a view that has none
   pub handed_on : (y x : StateFacts K L D) → y ≡ x → (leader : Option (Leader K)) (b : Bool) (lead : ℕ → RoundFacts K D) (v : ℕ) (r t : RoundsFacts K D) → r ≡ option_map_or (λ (l : Leader K). cond b t (put_round t v (lead l.idx))) leader t → with_rounds y t ≡ y → with_rounds y r ≡ option_map_or (λ (l : Leader K). cond b y (with_rounds y (put_round t v (lead l.idx)))) leader y
   handed_on y x is None b lead v r t same stays = ap (with_rounds y) same ∙ stays
   handed_on y x is (Some l) b lead v r t same stays = where_false y x is b r (put_round t v (lead l.idx)) t same stays
@@ -85,7 +85,7 @@ module _ {K L D : Type 0} where
     elects_early = ap (λ z. z.elects_early) is;
   }
 
--- what a state keeps of its rounds is who its members are
+-- the members of a state are those of its rounds
 pub kept_with_rounds : {S L D K G C : Type 0} {terms : L → Terms} {count : L → ℕ} {s : Inside S L D K G C} {r : RoundsFacts K D} → IsStateKept terms count s → HasSameOrigin s.rounds r → IsStateKept terms count (record s { rounds = r })
 kept_with_rounds kept origin = record {
   in_range = kept.in_range;
@@ -103,7 +103,7 @@ module _ {K L D : Type 0} where
   nullify_vote_shown x m new v shown is =
       ap (λ ks. record x { nullify_votes = ks }) (ap (λ (n : ByTermFacts (Unit {0})). map.keys n.by_view) is ∙ keys-insert m.by_view v tt ∙ ap (λ ks. insert_key nat_cmp ks v) (sym shown))
 
-  -- what is left after pruning
+  -- the state after pruning
   pub pruned_shown : (x : StateFacts K L D) (n k : map.FinMap nat_cmp (Unit {0})) (v : ℕ) → x.nullified ≡ map.keys n → x.nullify_votes ≡ map.keys k → v ≡ min_active x → record x { rounds = filter (λ (e : ℕ × RoundFacts K D). leb v e.0) x.rounds; nullified = map.keys (at_or_above n v); nullify_votes = map.keys (at_or_above k v) } ≡ after_prune x
   pruned_shown x n k v nullified votes floor =
       let b = keys-kept n v ∙ ap (filter (λ u. leb v u)) (sym nullified) in

@@ -1,4 +1,4 @@
--- Leaders that go on from view to view, and rounds that other views leave alone.
+-- Leaders that carry over from view to view, and rounds that changes of other views keep.
 use Rattle.std.proofs.Common.{◌≡◌, ℕ, suc, ◌+◌, ◌-◌, ◌<◌, true, ap, sym, ◌∙◌, arith}
 use Rattle.std.specs.List.{fold, range_with_len}
 use Rattle.std.specs.Ordering.{nat_cmp, is_lt}

@@ -21,7 +21,7 @@ module _ {A : Type 0} (test : A → Bool) (all es : List A) (rest : slice_get (f
   pub first_end : es ≡ [] → slice_get (filter test all) 0 ≡ None
   first_end is = rest ∙ ap (λ ys. slice_get (filter test ys) 0) is
 
--- a filter of what another left
+-- a filter of a filtered list
 pub filter-filter : {A : Type 0} (p q r : A → Bool) → ((x : A) → (p x && q x) ≡ r x) → (xs : List A) → filter q (filter p xs) ≡ filter r xs
 filter-filter p q r same [] = refl
 filter-filter p q r same (x ∷ xs) = elim (cases_bool (p x)) [

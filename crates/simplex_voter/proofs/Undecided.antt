@@ -1,4 +1,4 @@
--- How proposals stand doesn't depend on what was decided on the tracked views, nor on their timeouts.
+-- The standing of a proposal doesn't depend on what was decided on the tracked views, nor on their timeouts.
 use Rattle.std.proofs.Common.{◌≡◌, ℕ, zero, suc, ◌+◌, Bool, ◌||◌, cond, List, [], ◌∷◌, length, Option, Some, None, refl, ap, ◌∙◌}
 use Rattle.std.specs.Prelude.{map as map_list, option_map, option_and_then, ◌==◌}
 use Rattle.std.specs.Option.{option_map_or}
@@ -112,7 +112,7 @@ module _ {K L D : Type 0} (same : D → D → Bool) (elect : Elect L) (x : State
   unfolding has_valid_parent_span first_unnullified_view
   open_parent_standing v r p = ap (λ s. cond (has_valid_parent_span x v p) (option_map_or (λ w. fetch_once r w Nullification) (first_unnullified_view x p v) s) Invalid) (open_payload_standing v r p)
 
-  -- how a proposal stands is the same without what was decided
+  -- the standing of a proposal is the same without what was decided
   pub open_standing : (e : ℕ × RoundFacts K D) → standing same elect (open_facts x) e ≡ standing same elect x e
   unfolding standing is_admitted
   open_standing e = ap (λ s. cond (is_admitted x e.0) s NothingToDo) (by_pending (pending_proposal e.1))

@@ -1,4 +1,4 @@
--- What is known of a view whose verdict may be taken.
+-- What is known of a view whose verdict may be accepted.
 use Rattle.std.proofs.Common.{◌≡◌, ℕ, Bool, true, false, ◌&&◌, not, Option, Some, None, is_some, refl}
 use Rattle.std.specs.Prelude.{option_and_then}
 use Rattle.std.specs.Option.{option_map_or}
@@ -18,7 +18,7 @@ module _ {K D : Type 0} where
   notarized_there success (Some r) tracked h = (and_parts (is_some r.notarization) _ h).0
 
 module _ {K L D : Type 0} (x : StateFacts K L D) (v : ℕ) (success : Bool) (taken : takes_verdict x v success ≡ true) where
-  -- no contradicting verdict stands
+  -- there is no contradicting verdict
   pub not_contradicted : option_map_or (λ (r : RoundFacts K D). is_judged (not success) r.certification) (round_at x v) false ≡ false
   not_contradicted = judgeable success (round_at x v) (and_parts _ _ taken).1
 

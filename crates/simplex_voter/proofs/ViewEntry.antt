@@ -49,7 +49,7 @@ module _ {K L D : Type 0} where
         before (sym (ap (λ w. ltb w next) (stays (λ z. z.current) (λ named rounds. refl)) ∙ ap (ltb x.current) is) ∙ ahead)
         ∙ sym (stays (λ z. deadlines_at z now) (λ named rounds. refl))
 
-    -- the next view is entered, and led, above what was raised
+    -- the next view is entered, and led, above the raised one
     pub passed : {A E : Type 0} (r : Result A E) (elect : Elect L) (seed : Option (List ℕ)) (y : StateFacts K L D) (next : ℕ) → next ≡ v + 1 → OnOk r (y ≡ with_elected_leader elect (with_view_entered a next now) next seed) → OnOk r (y ≡ with_elected_leader elect (with_view_entered (with_finalized_view (at_moment x now) v) (v + 1) now) (v + 1) seed)
     passed (Ok t) elect seed y next is led =
         led ∙ ap (λ w. with_elected_leader elect (with_view_entered w next now) next seed) raised_then
@@ -61,7 +61,7 @@ pub deadlines_noted : {K L D : Type 0} (x m : StateFacts K L D) (v now : ℕ) (d
 deadlines_noted x m v now d noted before ahead =
     before (sym (ap (λ w. ltb w.current v) noted) ∙ ahead) ∙ sym (ap (λ w. deadlines_at w now) noted)
 
--- x is what was known, m at the moment, b with the next term's start entered and led, k with the nullification kept
+-- x is what was known, m at the moment, b with the next term's start entered and led, k with the nullification stored
 module _ {K L D : Type 0} (elect : Elect L) (x m b k y : StateFacts K L D) (c : NullificationFacts) (v next now : ℕ) where
   pub nullification_accepted : {A E : Type 0} (r : Result A E) → v ≡ c.round.view → next ≡ next_term_start x.terms.term_length c.round.view → m ≡ at_moment x now → b ≡ with_elected_leader elect (with_view_entered m next now) next (Some c.bytes) → k ≡ with_nullification_at b c → OnOk r (y ≡ nullified_also k v) → OnOk r (y ≡ after_add_nullification elect x c now)
   nullification_accepted (Ok t) at is noted led kept nullifies =

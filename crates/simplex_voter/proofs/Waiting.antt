@@ -22,7 +22,7 @@ over_views : {V B : Type 0} (h : ℕ → Option B) (es : List (ℕ × V)) → fi
 over_views h [] = refl
 over_views h (e ∷ es) = rw (any_view e.0) (ap (cons_option (h e.0)) (over_views h es))
 
--- what the views of a set give, by its entries
+-- the values of a set's views, by its entries
 each_view : {V B : Type 0} (m : map.FinMap nat_cmp V) (views : List ℕ) (h : ℕ → Option B) → views ≡ map.keys m → filter_map (λ e. h e.0) (map.entries (at_or_above m 0)) ≡ filter_map h views
 each_view m views h shown =
     ap (filter_map (λ e. h e.0)) (entries-retain_keys m (λ u. leb 0 u)) ∙ over_views h (map.entries m) ∙ ap (filter_map h) (sym shown)

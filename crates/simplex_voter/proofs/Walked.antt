@@ -48,7 +48,7 @@ module _ {V : Type 0} (o m : FinMap nat_cmp V) (f : V → V) where
   abbrev pub Walked : ℕ → Type 0
   Walked n = (q : ℕ) → map.get m q ≡ cond (ltb q n) (option_map f (map.get o q)) (map.get o q)
 
-  -- nothing stands between n and v
+  -- there is nothing between n and v
   pub walked_on : (n v : ℕ) → n ≤ v → ((q : ℕ) → n ≤ q → q < v → map.get m q ≡ None) → Walked n → Walked v
   walked_on n v h none done q = elim (cases_lt q v) [
     | inr above ↦ done q ∙ rw (le-ltb q n (omega arith), le-ltb q v above) refl

@@ -38,7 +38,7 @@ module _ {K D : Type 0} where
   pub notarizable_there : (x : RoundsFacts K D) (m : map.FinMap nat_cmp (RoundFacts K D)) → x.by_view ≡ map.entries m → (v : ℕ) → can_notarize (round_in x v) ≡ true → None ≡ map.get m v → ⊥
   notarizable_there x m shown v can none = false≢true (ap (λ found. can_notarize (unwrap_or found (new_round x.me x.members (round_id x v)))) (none ∙ sym (found_at x m shown v)) ∙ can)
 
-  -- a proposal that is given out is the one that was pending
+  -- a proposal that is returned for verification is the one that was pending
   pub given_is : (r t s : RoundFacts K D) (found : Leader K × Proposal D) (d : D) → Some found ≡ pending_proposal r → t ≡ cond (should_verify r) (record r { slot = record (r.slot) { verify_requested = true } }) r → s ≡ record t { binding = Some (found.1, d) } → s ≡ verifying_round r d
   given_is r t s found d pending first then' =
       let parts = by_test (should_verify r) r.leader r.slot.held pending in

@@ -1,4 +1,4 @@
--- What certificates and the floor do when they are handed in.
+-- The effects of certificates and of the floor.
 use Rattle.std.specs.Prelude.{ℕ, ◌+◌, Bool, true, false, ◌&&◌, ◌==◌, not, nat_le, Option, Some, None, is_some, if◌then◌else◌}
 use Rattle.std.specs.Ordering.{nat_cmp}
 use Rattle.std.specs.BTreeSet.{insert_key}
@@ -15,9 +15,11 @@ use Rattle.simplex_voter.specs.ViewEntry.{with_view_entered, at_moment}
 use Rattle.simplex_voter.specs.Leaders.{with_elected_leader, with_window_leaders}
 use Rattle.simplex_voter.specs.Certification.{named_also, with_finalized_view, with_waiting_candidate}
 
--- whether the certificate is the first of its kind and view; and, where its proposal differs from the held one, the leader's key
-abbrev pub added_answer : {K D : Type 0} → (D → D → Bool) → Option (ProposalFacts D) → RoundFacts K D → Proposal D → Bool × Option K
-added_answer same standing r p = if is_some standing then (false, None) else (true, equivocator (same_proposal same) r p)
+-- whether the certificate is the first of its kind and view; and, if its proposal differs from the held one, the leader's key
+abbrev pub added_answer : {K D : Type 0} → (D → D → Bool) → Option (ProposalFacts D) → RoundFacts K D → Proposal D
+    → Bool × Option K
+added_answer same standing r p =
+    if is_some standing then (false, None) else (true, equivocator (same_proposal same) r p)
 
 -- `set_floor`: the floor's finalization
 abbrev pub floor_answer : {D : Type 0} → FloorFacts D → Option (ProposalFacts D)
@@ -25,7 +27,7 @@ floor_answer (Genesis _) = None
 floor_answer (Finalized c) = Some c
 
 module _ {K L D : Type 0} where
-  -- the nullification's view and those behind it in its term are nullified
+  -- the nullification's view and the later ones of its term are nullified
   abbrev pub nullified_also : StateFacts K L D → ℕ → StateFacts K L D
   nullified_also x u = record x { nullified = insert_key nat_cmp x.nullified u }
 
@@ -36,9 +38,10 @@ module _ {K L D : Type 0} where
   -- why a nullification is refused: the state has failed, its view is too large, or a deadline of the next term's first view is
   abbrev pub nullification_refusal : StateFacts K L D → NullificationFacts → ℕ → Option Fault
   nullification_refusal x c now =
-      first_fault x.failed (is_too_large c.round.view) (enters_late x (next_term_start x.terms.term_length c.round.view) now)
+      first_fault x.failed (is_too_large c.round.view)
+      (enters_late x (next_term_start x.terms.term_length c.round.view) now)
 
-  -- the nullification is kept in its view's round
+  -- the nullification is stored in its view's round
   abbrev pub with_nullification_at : StateFacts K L D → NullificationFacts → StateFacts K L D
   with_nullification_at x c = with_round x c.round.view (with_nullification (round_of x c.round.view) c)
 
@@ -54,9 +57,10 @@ module _ {K L D : Type 0} where
   -- no floor was set; and a finalization is of this epoch and not of genesis
   abbrev pub takes_floor : StateFacts K L D → FloorFacts D → Bool
   takes_floor x (Genesis _) = x.current == 0
-  takes_floor x (Finalized c) = x.current == 0 && c.proposal.round.epoch == x.settings.epoch && nat_le 1 c.proposal.round.view
+  takes_floor x (Finalized c) =
+      x.current == 0 && c.proposal.round.epoch == x.settings.epoch && nat_le 1 c.proposal.round.view
 
-  -- the view's finalization counts as handed out
+  -- the view's finalization counts as already broadcast
   abbrev pub with_finalization_broadcast : StateFacts K L D → ℕ → StateFacts K L D
   with_finalization_broadcast x v = with_round x v (record (round_of x v) { finalization_broadcast = true })
 
@@ -66,12 +70,14 @@ module _ {K L D : Type 0} (elect : Elect L) where
   after_add_nullification x c now =
       let next = next_term_start x.terms.term_length c.round.view in
       nullified_also
-      (with_nullification_at (with_elected_leader elect (with_view_entered (at_moment x now) next now) next (Some c.bytes)) c)
+      (with_nullification_at (with_elected_leader elect (with_view_entered (at_moment x now) next now) next
+      (Some c.bytes)) c)
       c.round.view
 
-  -- the floor is genesis: its payload is kept, and view 1 entered and led
+  -- the floor is genesis: its payload is stored, and view 1 entered and led
   abbrev pub after_set_genesis : StateFacts K L D → D → ℕ → StateFacts K L D
-  after_set_genesis x payload now = with_elected_leader elect (with_view_entered (record (at_moment x now) { genesis = Some payload }) 1 now) 1 None
+  after_set_genesis x payload now =
+      with_elected_leader elect (with_view_entered (record (at_moment x now) { genesis = Some payload }) 1 now) 1 None
 
 module _ {K L D : Type 0} (same : D → D → Bool) (elect : Elect L) where
   -- `add_notarization`
@@ -79,7 +85,7 @@ module _ {K L D : Type 0} (same : D → D → Bool) (elect : Elect L) where
   notarization_added x c =
       added_answer same (round_of x c.proposal.round.view).notarization (round_of x c.proposal.round.view) c.proposal
 
-  -- the notarization is kept in its view's round, whose proposal it settles
+  -- the notarization is stored in its view's round, whose proposal it settles
   abbrev pub with_notarization_at : StateFacts K L D → ProposalFacts D → StateFacts K L D
   with_notarization_at x c =
       with_round x c.proposal.round.view (with_notarization (same_proposal same) (round_of x c.proposal.round.view) c)
@@ -96,7 +102,7 @@ module _ {K L D : Type 0} (same : D → D → Bool) (elect : Elect L) where
   finalization_added x c =
       added_answer same (round_of x c.proposal.round.view).finalization (round_of x c.proposal.round.view) c.proposal
 
-  -- the finalization is kept in its view's round, whose proposal it settles
+  -- the finalization is stored in its view's round, whose proposal it settles
   abbrev pub with_finalization_at : StateFacts K L D → ProposalFacts D → StateFacts K L D
   with_finalization_at x c =
       with_round x c.proposal.round.view (with_finalization (same_proposal same) (round_of x c.proposal.round.view) c)
@@ -110,13 +116,14 @@ module _ {K L D : Type 0} (same : D → D → Bool) (elect : Elect L) where
       let kept = with_finalization_at (with_elected_leader elect passed (v + 1) (Some c.bytes)) c in
       if is_some (round_of x v).finalization then kept else with_window_leaders (with_waiting_candidate elect kept v) v
 
-  -- the floor is set: genesis, or a finalization, which is not handed out then
+  -- the floor is set: genesis, or a finalization, which is then not broadcast
   abbrev pub after_set_floor : StateFacts K L D → FloorFacts D → ℕ → StateFacts K L D
   after_set_floor x (Genesis payload) now = after_set_genesis elect x payload now
-  after_set_floor x (Finalized c) now = with_finalization_broadcast (after_add_finalization x c now) c.proposal.round.view
+  after_set_floor x (Finalized c) now =
+      with_finalization_broadcast (after_add_finalization x c now) c.proposal.round.view
 
 module _ {K L D : Type 0} where
-  -- what each of the three `add_` calls asks of its certificate
+  -- what each of the three `add_` calls requires of its certificate
   abbrev pub takes_proposal_certificate : StateFacts K L D → ProposalFacts D → Bool
   takes_proposal_certificate x c = takes_round x c.proposal.round
 

@@ -1,4 +1,4 @@
--- What a view's payload rests on, before the view is certified.
+-- The ground of a view's payload, before the view is certified.
 use Rattle.std.specs.Prelude.{ℕ, ◌==◌, Option, Some, None, option_map, option_and_then, if◌then◌else◌}
 use Rattle.simplex_types.specs.declared.types.messages.Proposal.{Proposal}
 use Rattle.simplex_round.specs.Round.{RoundFacts, certificate_payload}
@@ -8,22 +8,23 @@ use Rattle.simplex_voter.specs.Facts.{StateFacts, Elect, round_at}
 use Rattle.simplex_voter.specs.Windows.{is_notarized}
 use Rattle.simplex_voter.specs.Payloads.{has_failed_optimistic_ancestry, is_voted_ancestor, can_chain_on}
 
--- the payload that is offered, where all that it rests on holds
+-- the payload that is offered, if all that it rests on holds
 abbrev pub payload_of : {D : Type 0} → Basis D → D
 payload_of (Certain d) = d
 payload_of (Vote p bound) = p.payload
 
--- the payload of the view's certificate, where no rejection stands in its term up to it
+-- the payload of the view's certificate, unless its term has a rejection up to it
 abbrev pub unrefused_payload : {K L D : Type 0} → StateFacts K L D → ℕ → RoundFacts K D → Option D
 unrefused_payload x v r = if has_failed_optimistic_ancestry x v then None else certificate_payload r
 
 module _ {K L D : Type 0} (elect : Elect L) where
-  -- the proposal that was voted for, where it may serve and stands on its parent
+  -- the proposal that was voted for, if it may serve and builds on its parent
   abbrev pub served_proposal : StateFacts K L D → ℕ → RoundFacts K D → Option (Proposal D)
   served_proposal x v r =
-      if is_voted_ancestor elect x v r then option_and_then (λ p. if can_chain_on x v p.parent then Some p else None) r.slot.held else None
+      if is_voted_ancestor elect x v r
+      then option_and_then (λ p. if can_chain_on x v p.parent then Some p else None) r.slot.held else None
 
-  -- what the payload of a tracked view rests on: its certificate, or the vote for its proposal with the payload that was bound
+  -- the ground of a tracked view's payload: its certificate, or the vote for its proposal with the payload that was bound
   abbrev pub basis_of : StateFacts K L D → ℕ → RoundFacts K D → Option (Basis D)
   basis_of x v r =
       if is_notarized r

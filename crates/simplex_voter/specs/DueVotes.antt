@@ -1,4 +1,4 @@
--- What is due of a state by itself.
+-- What a state has due by itself.
 use Rattle.std.specs.Prelude.{◌≡◌, ℕ, Bool, ◌||◌, nat_le, List, [], ◌∷◌, Option, option_map, filter}
 use Rattle.std.specs.List.{find}
 use Rattle.simplex_round.specs.Round.{RoundFacts, has_unsent_certificate}
@@ -6,7 +6,7 @@ use Rattle.simplex_voter.specs.Facts.{StateFacts, Elect, round_of}
 use Rattle.simplex_voter.specs.Rules.{may_notarize, may_finalize}
 
 module _ {K L D : Type 0} (same : D → D → Bool) (elect : Elect L) where
-  -- a vote of this member on the view is allowed, or a certificate of the view was not handed out
+  -- a vote of this member on the view is allowed, or a certificate of the view was not returned for broadcast
   abbrev pub is_due : StateFacts K L D → ℕ → Bool
   is_due x v = may_notarize same elect x v || may_finalize elect x v || has_unsent_certificate (round_of x v)
 

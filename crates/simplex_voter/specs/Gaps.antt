@@ -4,7 +4,7 @@ use Rattle.std.specs.List.{list_any}
 use Rattle.simplex_types.specs.Terms.{covers, next_term_start}
 use Rattle.simplex_voter.specs.Facts.{StateFacts}
 
--- the lower of a view and another one, where there is one
+-- the lower of a view and another one, if there is one
 abbrev pub lower_of : ℕ → Option ℕ → Option ℕ
 lower_of v None = Some v
 lower_of v (Some w) = Some (min v w)
@@ -15,7 +15,7 @@ lowest [] = None
 lowest (v ∷ views) = lower_of v (lowest views)
 
 module _ {K L D : Type 0} where
-  -- a nullification stands in the term of the view, at or below it
+  -- the term of the view has a nullification, at or below it
   abbrev pub is_covered : StateFacts K L D → ℕ → Bool
   is_covered x w = list_any (λ u. covers x.terms.term_length u w) x.nullified
 
@@ -38,7 +38,7 @@ module _ {K L D : Type 0} where
   abbrev pub is_gap : StateFacts K L D → ℕ → ℕ → ℕ → Bool
   is_gap x p v w = nat_lt p w && nat_lt w v && not (is_covered x w)
 
-  -- the lowest uncovered view strictly between, by looking at the views alone where a gap may begin
+  -- the lowest uncovered view strictly between, found among the views where a gap may begin
   unfoldable pub first_unnullified_view : StateFacts K L D → ℕ → ℕ → Option ℕ
   first_unnullified_view x p v = lowest (filter (is_gap x p v) (gap_starts x p))
 

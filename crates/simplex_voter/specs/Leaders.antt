@@ -1,4 +1,4 @@
--- Who leads a view. A leader that is set stays.
+-- The leader of each view. A leader that is set stays.
 use Rattle.std.specs.Prelude.{ℕ, ◌+◌, ◌-◌, Bool, ◌&&◌, ◌==◌, List, [], Option, None, is_some, if◌then◌else◌, min, fold}
 use Rattle.std.specs.List.{range_with_len}
 use Rattle.std.specs.Option.{option_map_or}
@@ -15,9 +15,10 @@ module _ {K L D : Type 0} where
 
   -- this member leads the view from now on, unless a leader is set
   abbrev pub with_leader_at : StateFacts K L D → ℕ → ℕ → StateFacts K L D
-  with_leader_at x v member = if has_leader x v then x else with_round x v (record (round_of x v) { leader = leader_at x.members member })
+  with_leader_at x v member =
+      if has_leader x v then x else with_round x v (record (round_of x v) { leader = leader_at x.members member })
 
-  -- the leader of one view goes to another
+  -- the leader of one view leads another too
   abbrev pub with_leader_of : StateFacts K L D → ℕ → ℕ → StateFacts K L D
   with_leader_of x from to = option_map_or (λ l. with_leader_at x to l.idx) (round_of x from).leader x
 
@@ -28,7 +29,7 @@ module _ {K L D : Type 0} where
       then []
       else range_with_len (v + 1) (min (term_end x.terms.term_length v) (v + x.terms.optimistic_views + 1) - v)
 
-  -- each of them in turn takes the leader of the view before it
+  -- each of them, one after the other, takes the leader of the view before it
   abbrev pub with_window_leaders : StateFacts K L D → ℕ → StateFacts K L D
   with_window_leaders x v = fold (λ y w. with_leader_of y (w - 1) w) x (opened_views x v)
 
@@ -37,10 +38,11 @@ module _ {K L D : Type 0} (elect : Elect L) where
   abbrev pub with_elected_leader : StateFacts K L D → ℕ → Option (List ℕ) → StateFacts K L D
   with_elected_leader x v seed = with_leader_at x v (elect x.elector (round_number x v) seed)
 
-  -- a proposal or this member's own vote for v readies the next view: in its window it takes the leader of v; at a term's
-  -- start, after its own vote, a member that is elected early takes it over
+  -- a proposal or this member's own vote for v prepares the next view: in its window it takes the leader of v; at a term's start,
+  -- after its own vote, a member that is elected early takes it over
   abbrev pub with_next_view_ready : StateFacts K L D → ℕ → StateFacts K L D
   with_next_view_ready x v =
       if in_issuance_window x (v + 1)
       then with_leader_of x v (v + 1)
-      else (if (round_of x v).notarize_decided && is_elected_early elect x (v + 1) then with_elected_leader x (v + 1) None else x)
+      else (if (round_of x v).notarize_decided && is_elected_early elect x (v + 1)
+      then with_elected_leader x (v + 1) None else x)

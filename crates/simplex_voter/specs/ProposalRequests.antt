@@ -29,11 +29,11 @@ abbrev pub is_handoff : {K D : Type 0} → ProposalRequest D K → Bool
 is_handoff (Prepare _) = true
 is_handoff (Propose _) = false
 
--- what was built for a context
+-- the proposal built for a context
 abbrev pub proposal_of : {K D : Type 0} → Context D K → D → Proposal D
 proposal_of context payload = record { round = context.round; parent = context.parent.0; payload = payload }
 
--- a block was asked for, or no longer
+-- a block was requested, or no longer
 abbrev pub build_requested : {D : Type 0} → Bool → SlotFacts D → SlotFacts D
 build_requested requested s = record s { build_requested = requested }
 
@@ -55,7 +55,7 @@ module _ {K L D : Type 0} where
   abbrev pub views_ahead : StateFacts K L D → List (ℕ × RoundFacts K D)
   views_ahead x = views_within x x.current (next_term_start x.terms.term_length x.current)
 
-  -- a nullify vote of this member stands at the view
+  -- this member has a nullify vote at the view
   abbrev pub voted_nullify : StateFacts K L D → ℕ → Bool
   voted_nullify x v = list_any (λ u. u == v) x.nullify_votes
 
@@ -63,20 +63,21 @@ module _ {K L D : Type 0} where
   abbrev pub context_on : StateFacts K L D → ℕ → ℕ × D → Leader K → Context D K
   context_on x v parent leader = record { round = round_number x v; leader = leader.key; parent = parent }
 
-  -- a block for the view was asked for, or no longer
+  -- a block for the view was requested, or no longer
   abbrev pub with_build : StateFacts K L D → ℕ → Bool → StateFacts K L D
-  with_build x v requested = with_tracked x v (record (round_of x v) { slot = build_requested requested (round_of x v).slot })
+  with_build x v requested =
+      with_tracked x v (record (round_of x v) { slot = build_requested requested (round_of x v).slot })
 
   -- `release_proposal_request`
   abbrev pub after_release : StateFacts K L D → ℕ → StateFacts K L D
   after_release x v = with_build x v false
 
 module _ {K L D : Type 0} (same : D → D → Bool) where
-  -- the view is certified or finalized with just this payload
+  -- the view is certified or finalized with exactly this payload
   abbrev pub parent_certified : StateFacts K L D → ℕ × D → Bool
   parent_certified x parent = is_payload same (explicit_ancestry_payload x parent.0) parent.1
 
-  -- a term's start on a parent that isn't certified is only prepared, and not while this member gives up the current view
+  -- a term's start on a parent that isn't certified is only prepared, and not after this member's vote to nullify the current view
   abbrev pub request_on : StateFacts K L D → ℕ → RoundFacts K D → ℕ × D → Option (ProposalRequest D K)
   request_on x v r parent =
       if is_term_start x v && not (parent_certified x parent)
@@ -84,7 +85,7 @@ module _ {K L D : Type 0} (same : D → D → Bool) where
       else option_map (λ l. Propose (context_on x v parent l)) r.leader
 
 module _ {K L D : Type 0} (same : D → D → Bool) (elect : Elect L) where
-  -- what this member may build in a view, if anything
+  -- the request to build in a view, if there is one
   abbrev pub request_in : StateFacts K L D → ℕ × RoundFacts K D → Option (ProposalRequest D K)
   request_in x e =
       if is_admitted x e.0 && should_propose e.1
@@ -95,12 +96,12 @@ module _ {K L D : Type 0} (same : D → D → Bool) (elect : Elect L) where
   unfoldable pub propose_answer : StateFacts K L D → Option (ProposalRequest D K)
   propose_answer x = slice_get (filter_map (request_in x) (views_ahead x)) 0
 
-  -- what a request leaves: its block was asked for
+  -- after a request: its block was requested
   abbrev pub after_try_propose : StateFacts K L D → StateFacts K L D
   after_try_propose x =
       option_map_or (λ request. with_build x (request_context request).round.view true) (propose_answer x) x
 
-  -- the parent that a context captured still stands
+  -- the parent that a context captured may still be built on
   abbrev pub context_stands : StateFacts K L D → Context D K → Bool
   context_stands x context = captured_parent_valid same elect x context.round.view context.parent.0 context.parent.1
 
@@ -113,11 +114,12 @@ module _ {K L D : Type 0} (same : D → D → Bool) (elect : Elect L) where
       (round_at x context.round.view)
       false
 
-  -- what a built block leaves: it is the view's proposal where it is taken, and the moment is noted
+  -- after a block is built: it is the view's proposal if it is recorded, and the moment is recorded
   abbrev pub after_proposed : StateFacts K L D → Context D K → D → ℕ → StateFacts K L D
   after_proposed x context payload now =
       if proposed_answer x context payload
-      then with_round (at_moment x now) context.round.view (proposed_round same (round_of x context.round.view) context payload now)
+      then with_round (at_moment x now) context.round.view
+      (proposed_round same (round_of x context.round.view) context payload now)
       else at_moment x now
 
   -- `supersede_proposal_request`: another parent can be built on, and the captured one no longer
@@ -129,7 +131,7 @@ module _ {K L D : Type 0} (same : D → D → Bool) (elect : Elect L) where
   abbrev pub after_supersede : StateFacts K L D → Context D K → StateFacts K L D
   after_supersede x context = if supersede_answer x context then after_release x context.round.view else x
 
-  -- `pending_handoff_abandonment`: why a handoff that is being built should stop, unless it may go on
+  -- `pending_handoff_abandonment`: why a handoff that is being built must be abandoned, unless it may continue
   abbrev pub abandonment_answer : StateFacts K L D → Context D K → Option HandoffAbandonedReason
   abandonment_answer x context =
       if parent_certified same x context.parent

@@ -8,10 +8,11 @@ use Rattle.simplex_types.specs.declared.types.numbers.Round.{Round}
 use Rattle.simplex_voter.specs.Facts.{StateFacts}
 use Rattle.simplex_voter.specs.Windows.{admits_certificate}
 
--- the first that stands of: the state has failed, a view is too large, a moment passes the numbers of 64 bits
+-- the first that applies of: the state has failed, a view is too large, a moment passes the numbers of 64 bits
 abbrev pub first_fault : (failed too_large late : Bool) → Option Fault
 first_fault failed too_large late =
-    if failed then Some Failed else (if too_large then Some ViewTooLarge else (if late then Some TimeOverflow else None))
+    if failed then Some Failed
+    else (if too_large then Some ViewTooLarge else (if late then Some TimeOverflow else None))
 
 -- no certificate, proposal or artifact may name such a view
 abbrev pub is_too_large : ℕ → Bool
@@ -37,11 +38,11 @@ module _ {K L D : Type 0} where
   abbrev pub enters_late : StateFacts K L D → ℕ → ℕ → Bool
   enters_late x v now = nat_lt x.current v && has_late_deadline x now
 
-  -- the calls that take nothing in are refused where the state has failed, and else not
+  -- the calls without such arguments are refused exactly if the state has failed
   abbrev pub plain_refusal : StateFacts K L D → Option Fault
   plain_refusal x = first_fault x.failed false false
 
-  -- the calls that take a proposal in, but enter nothing
+  -- the calls that pass a proposal in, but enter no view
   abbrev pub proposal_refusal : StateFacts K L D → Proposal D → Option Fault
   proposal_refusal x p = first_fault x.failed (names_too_large p) false
 
@@ -49,11 +50,11 @@ module _ {K L D : Type 0} where
   abbrev pub is_started : StateFacts K L D → Bool
   is_started x = nat_lt 0 x.current
 
-  -- what the calls ask of a certificate, a proposal or an artifact: this epoch, and a view that is kept
+  -- what the calls require of a certificate, a proposal or an artifact: this epoch, and a retained view
   abbrev pub takes_round : StateFacts K L D → Round → Bool
   takes_round x round = is_started x && round.epoch == x.settings.epoch && admits_certificate x round.view
 
-  -- a call found no memory: nothing but how the state was set up is known from then on
+  -- a call ran out of memory: from then on only the state's setup is known
   pub record HasFailed (before after : StateFacts K L D) : Type 0 where
     pub failed : after.failed ≡ true
     pub settings : after.settings ≡ before.settings

@@ -4,7 +4,7 @@ use Rattle.simplex_voter.specs.declared.voter.rounds.Deadlines.{Deadlines}
 use Rattle.simplex_voter.specs.Facts.{StateFacts}
 
 module _ {K L D : Type 0} where
-  -- how the state was set up stays
+  -- the setup of the state stays
   pub record HasSameSetup (before after : StateFacts K L D) : Type 0 where
     pub failed : after.failed ≡ before.failed
     pub settings : after.settings ≡ before.settings

@@ -1,4 +1,4 @@
--- How a state's fields show its facts, and what it keeps of them.
+-- How a state's fields represent its facts, and its invariant.
 use Rattle.std.specs.Prelude.{◌≡◌, ◌≤◌, ◌+◌, ◌^◌, ℕ, Bool, length}
 use Rattle.std.specs.FinMap.{keys}
 use Rattle.simplex_types.specs.declared.types.window.Terms.{Terms}
@@ -6,7 +6,7 @@ use Rattle.simplex_voter.specs.declared.voter.state.Config.{Config}
 use Rattle.simplex_voter.specs.declared.voter.state.State.TheInside.{Inside}
 use Rattle.simplex_voter.specs.Facts.{Settings, StateFacts}
 
--- how a state's fields show its facts
+-- the facts that a state's fields represent
 abbrev pub state_view : {S L D K G C : Type 0} → (L → Terms) → (L → Bool) → Inside S L D K G C → StateFacts K L D
 state_view terms elects_early s =
     record {
@@ -34,19 +34,20 @@ state_view terms elects_early s =
       failed = s.failed;
     }
 
--- what a nullification of the greatest view that one may be of enters is not above this view, and other certificates and
--- verdicts enter views below it
+-- a nullification of the greatest view that it may name enters a view at or below this one; other certificates and verdicts enter
+-- views below it
 abbrev pub largest_current : ℕ
 largest_current = 2 ^ 63 + 2 ^ 32
 
--- what each state keeps: a bound of the current view, sets of views by its terms, and an elector of its members
-pub record IsStateKept {S L D K G C : Type 0} (terms : L → Terms) (count : L → ℕ) (s : Inside S L D K G C) : Type 0 where
+-- the invariant of each state: a bound of the current view, sets of views by its terms, and an elector of its members
+pub record IsStateKept {S L D K G C : Type 0} (terms : L → Terms) (count : L → ℕ)
+    (s : Inside S L D K G C) : Type 0 where
   pub in_range : s.current ≤ largest_current
   pub nullified : s.nullified.term_length ≡ (terms s.elector).term_length
   pub nullify_votes : s.nullify_votes.term_length ≡ (terms s.elector).term_length
   pub elector : count s.elector ≡ length s.rounds.members
 
--- how a configuration sets a state up
+-- the settings that a configuration gives a state
 abbrev pub settings_of : {S L K G C : Type 0} → Config S L K G C → Settings
 settings_of c =
     record {

@@ -8,7 +8,7 @@ module _ {K L D : Type 0} where
   abbrev pub at_moment : StateFacts K L D → ℕ → StateFacts K L D
   at_moment x now = record x { moment = now }
 
-  -- the first entry is noted, and leader, certification and stall deadlines count from this moment
+  -- the first entry is recorded, and leader, certification and stall deadlines count from this moment
   abbrev pub entered_round : StateFacts K L D → RoundFacts K D → ℕ → RoundFacts K D
   entered_round x r now =
       with_deadlines

@@ -1,4 +1,4 @@
--- What the calls for a vote answer, and what they decide. Where there is no key the vote is decided and not answered.
+-- The results of the calls for a vote, and what they decide. Without a key the vote is decided and not returned.
 use Rattle.std.specs.Prelude.{◌≡◌, ℕ, Bool, true, ◌&&◌, Option, Some, None, is_some, if◌then◌else◌}
 use Rattle.std.specs.Ordering.{nat_cmp}
 use Rattle.std.specs.BTreeSet.{insert_key}
@@ -15,34 +15,36 @@ use Rattle.simplex_voter.specs.Facts.{StateFacts, Elect, round_number, round_of,
 use Rattle.simplex_voter.specs.Leaders.{with_next_view_ready}
 use Rattle.simplex_voter.specs.Rules.{may_notarize, may_nullify, may_finalize}
 
--- the vote is this member's, for this view of its epoch, with its signature on just that
-pub record IsSignedNullify {S L D K G C : Type 0} (is_signature : K → Subject D → G → Type 0) (x : StateFacts K L D) (v : ℕ)
+-- the vote is this member's, for this view of its epoch, with its signature on exactly that
+pub record IsSignedNullify {S L D K G C : Type 0} (is_signature : K → Subject D → G → Type 0)
+    (x : StateFacts K L D) (v : ℕ)
     (vote : Nullify S K G C) : Type 0 where
   pub round : vote.round ≡ round_number x v
   pub signer : x.me ≡ Some vote.signer
   pub signed : IsSignedAs is_signature x.me x.members (subject.Nullify vote.round) vote.signature
 
--- the vote is this member's, with its signature on just its proposal
-pub record IsSignedNotarize {S L D K G C : Type 0} (is_signature : K → Subject D → G → Type 0) (x : StateFacts K L D) (vote : Notarize S D K G C) : Type 0 where
+-- the vote is this member's, with its signature on exactly its proposal
+pub record IsSignedNotarize {S L D K G C : Type 0} (is_signature : K → Subject D → G → Type 0) (x : StateFacts K L D)
+    (vote : Notarize S D K G C) : Type 0 where
   pub signer : x.me ≡ Some vote.signer
   pub signed : IsSignedAs is_signature x.me x.members (subject.Notarize vote.proposal) vote.signature
 
--- the vote is this member's, with its signature on just that
+-- the vote is this member's, with its signature on exactly its proposal
 pub record IsSignedFinalize {S L D K G C : Type 0} (is_signature : K → Subject D → G → Type 0) (x : StateFacts K L D)
     (vote : message.Finalize S D K G C) : Type 0 where
   pub signer : x.me ≡ Some vote.signer
   pub signed : IsSignedAs is_signature x.me x.members (subject.Finalize vote.proposal) vote.signature
 
 module _ {K L D : Type 0} where
-  -- this member's nullify vote for the view is out, where it has a key
+  -- this member's nullify vote for the view is cast, if it has a key
   abbrev pub nullify_cast : StateFacts K L D → ℕ → StateFacts K L D
   nullify_cast x v = if is_some x.me then record x { nullify_votes = insert_key nat_cmp x.nullify_votes v } else x
 
-  -- `construct_nullify`: the vote is answered with whether it is a repeat
+  -- `construct_nullify`: the vote is returned with whether it is a repeat
   abbrev pub nullify_answer : StateFacts K L D → ℕ → Option Bool
   nullify_answer x v = if is_some x.me && may_nullify x v then Some (is_nullify (round_of x v).decision) else None
 
-  -- the vote is decided and out where its rule allows it, else nothing changes
+  -- the vote is decided and cast if its rule allows it, else nothing changes
   abbrev pub after_construct_nullify : StateFacts K L D → ℕ → StateFacts K L D
   after_construct_nullify x v =
       if may_nullify x v then nullify_cast (with_round x v (after_nullify (round_of x v))) v else x
@@ -56,7 +58,7 @@ module _ {K L D : Type 0} where
   abbrev pub finalize_cast : StateFacts K L D → ℕ → StateFacts K L D
   finalize_cast x v = with_round x v (record (round_of x v) { decision = Finalize })
 
-  -- the proposal that is held, where there is a key
+  -- the proposal that is held, if there is a key
   abbrev pub signed_proposal : StateFacts K L D → ℕ → Option (Proposal D)
   signed_proposal x v = if is_some x.me then (round_of x v).slot.held else None
 
@@ -74,7 +76,7 @@ module _ {K L D : Type 0} (same : D → D → Bool) (elect : Elect L) where
   abbrev pub notarize_answer : StateFacts K L D → ℕ → Option (Proposal D)
   notarize_answer x v = if is_some x.me && may_notarize same elect x v then (round_of x v).slot.held else None
 
-  -- the same, of a vote to notarize, which readies the next view
+  -- the same, of a vote to notarize, which prepares the next view
   abbrev pub after_construct_notarize : StateFacts K L D → ℕ → StateFacts K L D
   after_construct_notarize x v =
       if may_notarize same elect x v then with_next_view_ready elect (notarize_cast x v) v else x

@@ -1,4 +1,4 @@
--- In which views a member may work now.
+-- The views in which a member may work now.
 use Rattle.std.specs.Prelude.{ℕ, ◌-◌, Bool, false, ◌&&◌, ◌||◌, ◌==◌, nat_le, nat_lt, max, Option, Some, None, is_some}
 use Rattle.std.specs.List.{list_any}
 use Rattle.simplex_types.specs.Terms.{term_start, term_end, next_term_start}
@@ -14,7 +14,7 @@ admits_outbound length optimistic current view =
     || (nat_lt current view && nat_le view (term_end length current) && nat_le (view - current) optimistic)
     || (view == next_term_start length current && nat_le (view - current) (max 1 optimistic))
 
--- a certificate of a proposal stands there
+-- the view has a certificate of a proposal
 abbrev pub is_notarized : {K D : Type 0} → RoundFacts K D → Bool
 is_notarized r = is_some r.notarization || is_some r.finalization
 
@@ -27,11 +27,11 @@ module _ {K L D : Type 0} where
   abbrev pub is_term_start : StateFacts K L D → ℕ → Bool
   is_term_start x v = v == term_start x.terms.term_length v
 
-  -- a vote of this member for the view may go out
+  -- this member may send a vote for the view
   unfoldable pub is_admitted : StateFacts K L D → ℕ → Bool
   is_admitted x v = admits_outbound x.terms.term_length x.terms.optimistic_views x.current v
 
-  -- from the floor on, genesis or a notarized or finalized view stands below the view
+  -- from the floor on and below the view, there is genesis or a notarized or finalized view
   abbrev pub is_open : StateFacts K L D → ℕ → Option ℕ → Bool
   is_open x v None = false
   is_open x v (Some floor) = floor == 0 || list_any (λ e. nat_le floor e.0 && nat_lt e.0 v && is_notarized e.1) x.rounds
@@ -40,7 +40,7 @@ module _ {K L D : Type 0} where
   unfoldable pub in_issuance_window : StateFacts K L D → ℕ → Bool
   in_issuance_window x v = is_open x v (issuance_floor x.terms.term_length x.terms.optimistic_views v)
 
-  -- the views that are kept
+  -- the retained views
   abbrev pub viewport : StateFacts K L D → Viewport
   viewport x = record {
     finalized = x.finalized;
@@ -49,14 +49,14 @@ module _ {K L D : Type 0} where
     lookahead = record { term_length = x.terms.term_length; optimistic_views = x.terms.optimistic_views };
   }
 
-  -- the lowest view that is kept
+  -- the lowest retained view
   abbrev pub min_active : StateFacts K L D → ℕ
   min_active x = x.finalized - x.settings.view_retention
 
-  -- a certificate of the view may be handed in
+  -- a certificate of the view is accepted
   abbrev pub admits_certificate : StateFacts K L D → ℕ → Bool
   admits_certificate x v = nat_le 1 v && nat_le (min_active x) v
 
-  -- so may a vote, up to the first view of the next term
+  -- a vote is accepted too, up to the first view of the next term
   abbrev pub admits_vote : StateFacts K L D → ℕ → Bool
   admits_vote x v = admits_certificate x v && nat_le v (next_term_start x.terms.term_length x.current)

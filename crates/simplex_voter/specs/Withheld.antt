@@ -1,4 +1,4 @@
--- Why a vote of this member is withheld: the parts of its rule, in the order of the rule, each with its name where it is false.
+-- Why a vote of this member is withheld: the parts of its rule, in the order of the rule, each with its name if it is false.
 use Rattle.std.specs.Prelude.{ℕ, Bool, false, ◌==◌, not, nat_lt, List, [], ◌∷◌, ◌++◌, Option, Some, None, is_some, if◌then◌else◌}
 use Rattle.simplex_round.specs.Round.{RoundFacts, is_nullify, is_finalize, is_judged, is_certified, is_verified_slot}
 use Rattle.simplex_round.specs.Slot.{is_unequivocated}
@@ -47,7 +47,8 @@ module _ {K L D : Type 0} where
   abbrev pub nullify_withheld : StateFacts K L D → ℕ → Option Withheld
   nullify_withheld x v =
       first_false
-      ((is_some x.me, NoKey) ∷ (v == x.current, NotCurrent) ∷ (not (is_finalize (round_of x v).decision), VotedToFinalize) ∷ [])
+      ((is_some x.me, NoKey) ∷ (v == x.current, NotCurrent)
+      ∷ (not (is_finalize (round_of x v).decision), VotedToFinalize) ∷ [])
 
 module _ {K L D : Type 0} (elect : Elect L) where
   -- `may_finalize`, by a member that has a key

@@ -1,5 +1,4 @@
-//! A member's votes over all views: leaders, parents, entering, the rules that say when it signs, and the state that
-//! keeps them.
+//! A member's votes over all views: leaders, parents, view entry, the rules for signing, and the state that holds them.
 
 mod broadcasts;
 mod candidates;

@@ -1,4 +1,4 @@
-//! Artifacts and certificates as bytes and read back, frames, digests, and each refusal by name.
+//! Artifacts and certificates as bytes and their decoding, frames, digests, and each refusal by name.
 
 mod random;
 
@@ -67,7 +67,7 @@ fn finalization() -> Finalization<PlainScheme, PlainDigest> {
     }
 }
 
-/// A certificate of each kind.
+/// Returns a certificate of each kind.
 fn certificates() -> [Certificate<PlainScheme, PlainDigest>; 3] {
     [
         Certificate::Notarization(notarization()),
@@ -76,7 +76,7 @@ fn certificates() -> [Certificate<PlainScheme, PlainDigest>; 3] {
     ]
 }
 
-/// A signature on the subject.
+/// Returns a signature on the subject.
 fn signature(subject: Subject<PlainDigest>) -> PlainSignature {
     PlainSignature {
         key: PlainKey(2),
@@ -84,7 +84,7 @@ fn signature(subject: Subject<PlainDigest>) -> PlainSignature {
     }
 }
 
-/// An artifact of each kind.
+/// Returns an artifact of each kind.
 pub(crate) fn artifacts() -> [PlainArtifact; 8] {
     let signer = Participant::new(2);
     [
@@ -111,12 +111,12 @@ pub(crate) fn artifacts() -> [PlainArtifact; 8] {
     ]
 }
 
-/// Why the bytes are no certificate, if they are none.
+/// Returns why the bytes are no certificate, if they are none.
 fn certificate_refusal(alloc: Global, bytes: &[u8]) -> Option<DecodeError> {
     decode_certificate::<PlainScheme, PlainDigest>(alloc, bytes).err()
 }
 
-/// Why the bytes are no artifact, if they are none.
+/// Returns why the bytes are no artifact, if they are none.
 fn artifact_refusal(alloc: Global, bytes: &[u8]) -> Option<DecodeError> {
     match decode_artifact::<PlainScheme, PlainDigest>(alloc, bytes) {
         Ok(_) => None,
@@ -124,13 +124,13 @@ fn artifact_refusal(alloc: Global, bytes: &[u8]) -> Option<DecodeError> {
     }
 }
 
-/// Whether the certificate of the bytes is read, and encodes to them again.
+/// Returns whether the certificate of the bytes is read, and encodes to them again.
 fn is_read_back(alloc: Global, bytes: &[u8]) -> Result<bool, Fail> {
     let read: Certificate<PlainScheme, PlainDigest> = decode_certificate(alloc, bytes)?;
     Ok(read.encode(alloc)?.as_slice() == bytes)
 }
 
-/// Whether each front of the bytes is refused as it is to be: one that ends within the parts is too short.
+/// Returns whether each prefix of the bytes is refused with the right error: one that ends within the parts is too short.
 fn refuses_fronts(alloc: Global, bytes: &[u8], parts: usize) -> bool {
     for end in 0..bytes.len() {
         let wanted = if end < parts {
@@ -148,7 +148,7 @@ fn refuses_fronts(alloc: Global, bytes: &[u8], parts: usize) -> bool {
     true
 }
 
-/// Whether the bytes are refused with a byte more.
+/// Returns whether the bytes are refused with one byte more.
 fn refuses_more(alloc: Global, bytes: &[u8]) -> Result<bool, AllocError> {
     let mut longer = Vec::from_slice(alloc, bytes)?;
     longer.push(0)?;
@@ -159,7 +159,7 @@ fn refuses_more(alloc: Global, bytes: &[u8]) -> Result<bool, AllocError> {
     )
 }
 
-/// Whether a certificate is read from all its bytes, and from no more and no fewer.
+/// Returns whether a certificate is read from all its bytes, and from no more and no fewer.
 fn is_read_whole(
     alloc: Global,
     certificate: &Certificate<PlainScheme, PlainDigest>,
@@ -185,7 +185,7 @@ fn certificates_are_read_from_all_their_bytes_and_no_more(rt: HostRuntime) -> Re
     Ok(())
 }
 
-/// The view, the parent and the payload of a notarization, and whether its certificate is good.
+/// Returns the view, the parent and the payload of a notarization, and whether its certificate is valid.
 fn notarized(certificate: &Certificate<PlainScheme, PlainDigest>) -> Option<(u64, u64, u64, bool)> {
     match certificate {
         Certificate::Notarization(read) => Some((
@@ -198,7 +198,7 @@ fn notarized(certificate: &Certificate<PlainScheme, PlainDigest>) -> Option<(u64
     }
 }
 
-/// A notarization in view 0x0200000000000003, as it is written.
+/// A notarization in view 0x0200000000000003, as it is encoded.
 static NOTARIZED: [u8; 34] = [
     0, 0, 0, 0, 0, 0, 0, 0, 1, 2, 0, 0, 0, 0, 0, 0, 3, 0, 0, 0, 0, 0, 0, 0, 2, 0, 0, 0, 0, 0, 0, 0,
     7, 1,
@@ -211,12 +211,12 @@ fn a_certificate_is_read_as_the_vector_says(rt: HostRuntime) -> Result<(), Fail>
     Ok(())
 }
 
-/// Whether the artifact is written as these bytes.
+/// Returns whether the artifact is encoded as these bytes.
 fn is_written(alloc: Global, artifact: &PlainArtifact, bytes: &[u8]) -> Result<bool, Fail> {
     Ok(encode_artifact(alloc, artifact)?.as_slice() == bytes)
 }
 
-/// Whether the artifact is read back from its bytes.
+/// Returns whether the artifact is read back from its bytes.
 fn artifact_is_read_back(alloc: Global, artifact: &PlainArtifact) -> Result<bool, Fail> {
     let bytes = encode_artifact(alloc, artifact)?;
     match decode_artifact::<PlainScheme, PlainDigest>(alloc, bytes.as_slice()) {
@@ -233,10 +233,10 @@ fn artifacts_are_read_back(rt: HostRuntime) -> Result<(), Fail> {
     Ok(())
 }
 
-/// A true verdict on view 3, as it is written.
+/// A true verdict on view 3, as it is encoded.
 static VERDICT: [u8; 18] = [6, 0, 0, 0, 0, 0, 0, 0, 1, 0, 0, 0, 0, 0, 0, 0, 3, 1];
 
-/// The vote below, as it is written.
+/// The vote below, as it is encoded.
 static VOTE: [u8; 42] = [
     4, 1, 2, 3, 4, 0, 0, 0, 0, 0, 0, 0, 1, 0, 0, 0, 0, 0, 0, 0, 3, 0, 0, 0, 5, 1, 0, 0, 0, 0, 0, 0,
     0, 9, 0, 0, 0, 0, 0, 0, 0, 8,
@@ -270,22 +270,22 @@ fn a_vote_is_written_as_the_vector_says(rt: HostRuntime) -> Result<(), Fail> {
     Ok(())
 }
 
-/// Bytes that are no artifact, each with the refusal.
+/// Bytes that are no artifact, each with its refusal.
 static REFUSED: [(&[u8], DecodeError); 10] = [
     (&[7; 40], DecodeError::UnknownKind(7)),
     (&[], DecodeError::TooShort),
     // a verdict of 6
     (&[6; 18], DecodeError::UnknownVerdict(6)),
     (&[6; 17], DecodeError::TooShort),
-    // a verdict with a byte more
+    // a verdict with one byte more
     (
         &[6, 0, 0, 0, 0, 0, 0, 0, 1, 0, 0, 0, 0, 0, 0, 0, 3, 1, 0],
         DecodeError::TrailingBytes,
     ),
-    // three bytes of a key, behind a signer and what was voted on
+    // three bytes of a key, after a signer and what was voted on
     (&[3; 40], DecodeError::UnreadableSignature),
     (&[4; 24], DecodeError::UnreadableSignature),
-    // a key, and behind it no kind of a vote
+    // a key, and after it no kind of a vote
     (&[4; 42], DecodeError::UnreadableSignature),
     (&[5; 36], DecodeError::TooShort),
     (&[4; 20], DecodeError::TooShort),
@@ -302,7 +302,7 @@ fn each_other_refusal_has_its_name(rt: HostRuntime) {
     }
 }
 
-/// Whether a value is written so.
+/// Returns whether a value has this text.
 fn has_text<V: Display>(alloc: Global, value: &V, wanted: &str) -> Result<bool, Fail> {
     Ok(format!(in alloc; "{value}")?.as_str() == wanted)
 }
@@ -359,7 +359,7 @@ fn journal(alloc: Global) -> Result<Bytes, Fault> {
     Ok(out.freeze()?)
 }
 
-/// How many entries are read, and what is behind them; nothing where the end is whole.
+/// Returns how many entries are read, and why the bytes after them are no frame; `None` if the end is whole.
 fn read_entries(bytes: &[u8]) -> (u32, Option<NoFrame>) {
     let mut rest = bytes;
     let mut read = 0u32;
@@ -376,7 +376,7 @@ fn read_entries(bytes: &[u8]) -> (u32, Option<NoFrame>) {
     (read, None)
 }
 
-/// How many entries stand whole before a place.
+/// Returns how many whole entries lie before a place.
 fn entries_before(place: usize) -> u32 {
     if place < 43 {
         0
@@ -387,7 +387,7 @@ fn entries_before(place: usize) -> u32 {
     }
 }
 
-/// What is told of a journal that ends at a place.
+/// Returns the error for a journal that ends at a place.
 fn cut_at(end: usize) -> Option<NoFrame> {
     if end == 43 || end == 83 {
         None
@@ -396,7 +396,7 @@ fn cut_at(end: usize) -> Option<NoFrame> {
     }
 }
 
-/// Whether the entries are read up to each cut, and the end is cut but behind an entry.
+/// Returns whether the entries are read up to each cut, and the end is cut except after an entry.
 fn are_read_up_to_each_cut(bytes: &[u8]) -> bool {
     for end in 1..bytes.len() {
         if read_entries(&bytes[..end]) != (entries_before(end), cut_at(end)) {
@@ -406,7 +406,7 @@ fn are_read_up_to_each_cut(bytes: &[u8]) -> bool {
     true
 }
 
-/// What is read of the bytes with a bit of a byte flipped.
+/// Returns what is read of the bytes with a bit of a byte flipped.
 fn read_flipped(
     alloc: Global,
     bytes: &[u8],
@@ -420,7 +420,7 @@ fn read_flipped(
     Ok(read_entries(flipped.as_slice()))
 }
 
-/// Whether the bit is found in each byte, and never told as a cut.
+/// Returns whether the bit is detected in each byte, and never reported as a cut.
 fn is_found_in_each_byte(alloc: Global, bytes: &[u8], bit: u8) -> Result<bool, AllocError> {
     for place in 0..bytes.len() {
         let found = read_flipped(alloc, bytes, place, bit)?;

@@ -122,7 +122,7 @@ fn failure_fetch(view: u64) -> Effect {
     }
 }
 
-/// View 1 is finalized, the term of 3 is nullified, 5 has failed, nothing is known of 7, and 9 is notarized.
+/// A record in which view 1 is finalized, the term of 3 is nullified, 5 has failed, nothing is known of 7, and 9 is notarized.
 fn gaps() -> [PlainArtifact; 8] {
     [
         notarization(1),
@@ -136,10 +136,10 @@ fn gaps() -> [PlainArtifact; 8] {
     ]
 }
 
-/// A resolver and what its replay asks for.
+/// A resolver and the effects of its replay.
 type Replayed = (Box<State>, Vec<Effect>);
 
-/// The resolver of a record, on the heap.
+/// Returns the resolver of a record, on the heap.
 fn replayed(alloc: Global, entries: &[PlainArtifact]) -> Result<Replayed, Fail> {
     let (state, effects) = replay_record(alloc, pairs(), entries)?;
     Ok((Box::new(alloc, state)?, effects))
@@ -149,7 +149,7 @@ fn with_gaps(alloc: Global) -> Result<Replayed, Fail> {
     replayed(alloc, &gaps())
 }
 
-/// Whether the effects leave the fetches of views 2, 5 and 7 open, and no other.
+/// Returns whether the effects leave the fetches of views 2, 5 and 7 open, and no other.
 fn opens_the_gaps(alloc: Global, effects: &[Effect]) -> Result<bool, Fail> {
     let mut open = BTreeSet::new(alloc);
     apply(&mut open, effects)?;
@@ -161,7 +161,7 @@ fn opens_the_gaps(alloc: Global, effects: &[Effect]) -> Result<bool, Fail> {
     )
 }
 
-/// Whether view 5 has failed, and view 4 is settled by a nullification and view 2 is not.
+/// Returns whether view 5 has failed, a nullification settles view 4, and none settles view 2.
 fn settles_the_nullified(state: &State) -> bool {
     state.uncertifiable(View::new(5))
         && state.settled(View::new(4), Kind::Nullification)
@@ -182,7 +182,7 @@ fn what_a_record_lacks_is_fetched(rt: HostRuntime) -> Result<(), Fail> {
     Ok(())
 }
 
-/// A certificate that nullifies a view.
+/// Returns a certificate that nullifies a view.
 fn nullified(view: u64) -> Certificate<PlainScheme, PlainDigest>
     ensures { certificate_view result ≡ view }
 {
@@ -203,12 +203,12 @@ fn a_resolver_goes_on_behind_its_record(rt: HostRuntime) -> Result<(), Fail> {
     Ok(())
 }
 
-/// A resolver of a record that keeps its fetches, on the heap.
+/// Returns a resolver of a record that stores its fetches, on the heap.
 fn kept(alloc: Global, entries: &[PlainArtifact]) -> Result<Box<LawfulResolver>, Fail> {
     Ok(Box::new(alloc, LawfulResolver::start(alloc, pairs(), entries)?)?)
 }
 
-/// Whether a nullification of view 7 settles its fetch, and leaves two.
+/// Returns whether a nullification of view 7 settles its fetch, and leaves two.
 fn settles_7(resolver: &mut LawfulResolver) -> Result<bool, Fail> {
     let effects = resolver.updated(&nullified(7))?;
     let fetches = resolver.fetches();
@@ -223,7 +223,7 @@ fn a_kept_resolver_starts_with_its_fetches(rt: HostRuntime) -> Result<(), Fail> 
     Ok(())
 }
 
-/// Whether a notarization of view 3 opens a fetch when the record is read, and its verdict closes it.
+/// Returns whether a notarization of view 3 opens a fetch when the record is read, and its verdict closes it.
 fn fetches_until_certified(resolver: &mut LawfulResolver) -> Result<bool, Fail> {
     resolver.updated(&Certificate::Notarization(notarization_of(3)))?;
     let waits = resolver.fetches().is_empty();
@@ -241,7 +241,7 @@ fn a_kept_resolver_applies_each_call(rt: HostRuntime) -> Result<(), Fail> {
     Ok(())
 }
 
-/// Whether just these bytes are served for view 3.
+/// Returns whether exactly these bytes are served for view 3.
 fn serves_at_3(state: &State, bytes: &[u8]) -> Result<bool, Fail> {
     let served = state.produce(View::new(3))?.ok_or("nothing is served")?;
     Ok(served.as_slice() == bytes)
@@ -267,7 +267,7 @@ fn an_empty_record_fetches_nothing(rt: HostRuntime) -> Result<(), Fail> {
     Ok(())
 }
 
-/// The text of a refusal.
+/// Returns the text of a refusal.
 fn text_of(error: ReplayError) -> &'static str {
     match error {
         ReplayError::ZeroView => "ZeroView",
@@ -277,13 +277,13 @@ fn text_of(error: ReplayError) -> &'static str {
     }
 }
 
-/// Whether a record of two entries is refused so, by an error of its text.
+/// Returns whether a record of two entries is refused with this error, and by its text.
 fn is_refused(alloc: Global, entries: &[PlainArtifact], error: ReplayError) -> Result<bool, Fail> {
     let refused = replay_record(alloc, pairs(), entries).err();
     Ok(refused == Some(error) && format!(in alloc; "{error}")?.as_str() == text_of(error))
 }
 
-/// Two entries each, of which the first breaks a rule, with the refusal.
+/// Returns records of two entries, of which the first breaks a rule, each with its refusal.
 fn bad_records() -> [([PlainArtifact; 2], ReplayError); 5] {
     [
         (

@@ -19,7 +19,7 @@ fn term_of_one() -> TermLength {
     TermLength::new(NonZeroU32::MIN)
 }
 
-/// A round of a view, or of view 1 for genesis.
+/// Returns a round of a view, or of view 1 for genesis.
 fn round_of(epoch: u64, view: u64) -> Round
     ensures { 1 ≤ result.view }
 {
@@ -51,12 +51,12 @@ fn nullified(epoch: u64, view: u64) -> Certificate<PlainScheme, PlainDigest>
     })
 }
 
-/// A resolver in terms of one view, on the heap.
+/// Returns a resolver in terms of one view, on the heap.
 fn begun(alloc: Global) -> Result<Box<State>, AllocError> {
     Ok(Box::new(alloc, State::new(alloc, term_of_one()))?)
 }
 
-/// Whether a nullification of view 3 opens three fetches, and one of view 2 leaves that of view 1.
+/// Returns whether a nullification of view 3 opens three fetches, and one of view 2 leaves that of view 1.
 fn settles_in_turn(alloc: Global, state: &mut State) -> Result<bool, Fail> {
     let mut outstanding = BTreeSet::new(alloc);
     let opened = state.updated(&nullified(1, 3))?;
@@ -74,13 +74,13 @@ fn a_fetch_is_open_until_it_is_settled(rt: HostRuntime) -> Result<(), Fail> {
     Ok(())
 }
 
-/// Whether just these bytes are served for a view.
+/// Returns whether exactly these bytes are served for a view.
 fn serves(state: &State, view: u64, bytes: &[u8]) -> Result<bool, Fail> {
     let served = state.produce(View::new(view))?.ok_or("nothing is served")?;
     Ok(served.as_slice() == bytes)
 }
 
-/// Whether view 3 is settled by a notarization, is to be fetched by no key, and may be certified.
+/// Returns whether a notarization settles view 3, something else is left to ask for there, and it may be certified.
 fn settles_3(state: &State) -> bool {
     state.settled(View::new(3), Kind::Notarization)
         && !state.key_settled(View::new(3))
@@ -114,7 +114,7 @@ fn a_nullification_is_served_whole(rt: HostRuntime) -> Result<(), Fail> {
     Ok(())
 }
 
-/// Whether a certificate is refused so.
+/// Returns whether a certificate is refused with this error.
 fn refuses(
     state: &mut State,
     certificate: &Certificate<PlainScheme, PlainDigest>,

@@ -24,7 +24,7 @@ fn proposal(payload: u64) -> Proposal<PlainDigest> {
     }
 }
 
-/// That proposal, where there is a payload.
+/// Returns that proposal, if there is a payload.
 fn proposal_of(payload: Option<u64>) -> Option<Proposal<PlainDigest>> {
     match payload {
         Some(payload) => Some(proposal(payload)),

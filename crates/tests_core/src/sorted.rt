@@ -13,12 +13,12 @@ fn view(number: u64) -> View
     View::new(number)
 }
 
-/// Whether the value of view 7 stays when another one is put in, which is given back.
+/// Returns whether the value of view 7 stays when another one is inserted, which is returned.
 fn keeps_what_stands(tracked: &mut Tracked<u64>) -> Result<bool, Fail> {
     Ok(tracked.insert(view(7), 2)? == Some(2) && tracked.get(view(7)) == Some(&1))
 }
 
-/// Whether the value of view 7 is changed in place.
+/// Returns whether the value of view 7 is changed in place.
 fn changes_what_stands(tracked: &mut Tracked<u64>) -> bool {
     if let Some(value) = tracked.get_mut(view(7)) {
         *value = 3;
@@ -34,7 +34,7 @@ fn a_value_that_stands_stays(rt: HostRuntime) -> Result<(), Fail> {
     Ok(())
 }
 
-/// A value for each of some views: the view's number.
+/// Returns a value for each of some views: the view's number.
 fn tracked_of(alloc: Global, numbers: [u64; 3]) -> Result<Tracked<u64>, Fail> {
     let mut tracked = Tracked::new(alloc);
     for number in numbers {
@@ -45,10 +45,10 @@ fn tracked_of(alloc: Global, numbers: [u64; 3]) -> Result<Tracked<u64>, Fail> {
     Ok(tracked)
 }
 
-/// Views, each with the place at which it stands among 1, 20 and 21, or would stand.
+/// Views, each with its place among 1, 20 and 21, or the place where it would be inserted.
 static PLACES: [(u64, usize); 4] = [(1, 0), (10, 1), (20, 1), (30, 3)];
 
-/// Whether a place is found, by two probes at most.
+/// Returns whether a place is found, by two probes at most.
 fn is_found(tracked: &Tracked<u64>, number: u64, place: usize) -> bool {
     let (found, probes) = tracked.find(view(number));
     found == place && probes <= 2
@@ -64,14 +64,14 @@ fn a_place_is_found_by_few_probes(rt: HostRuntime) -> Result<(), Fail> {
     Ok(())
 }
 
-/// Whether the nearest of views 5, 2 and 9 are found.
+/// Returns whether the nearest of views 5, 2 and 9 are found.
 fn finds_the_nearest(tracked: &Tracked<u64>) -> bool {
     tracked.first_at(view(5)) == Some((view(5), &5))
         && tracked.first_at(view(10)).is_none()
         && tracked.last_below(view(5)) == Some((view(2), &2))
 }
 
-/// Whether the views of a part are taken from both of its ends.
+/// Returns whether the views of a part are taken from both of its ends.
 fn gives_both_ends(tracked: &Tracked<u64>) -> bool {
     let mut between = tracked.between(view(2), view(9));
     between.pop_last() == Some((view(5), &5))
@@ -80,13 +80,13 @@ fn gives_both_ends(tracked: &Tracked<u64>) -> bool {
         && between.pop_last().is_none()
 }
 
-/// Whether the views below one are listed.
+/// Returns whether the views below one are listed.
 fn lists_the_views_below(alloc: Global, tracked: &Tracked<u64>) -> Result<bool, Fail> {
     let below = tracked.views_below(alloc, view(6))?;
     Ok(below.as_slice() == [view(2), view(5)].as_slice())
 }
 
-/// Whether views are dropped and removed.
+/// Returns whether views are dropped and removed.
 fn drops_and_removes(tracked: &mut Tracked<u64>) -> bool {
     tracked.drop_below(view(5));
     let kept = tracked.len() == 2
@@ -106,7 +106,7 @@ fn views_are_found_listed_dropped_and_removed(rt: HostRuntime) -> Result<(), Fai
     Ok(())
 }
 
-/// Values for views 2, 4 and 8, in terms of five views: each is its view's number.
+/// Returns values for views 2, 4 and 8, in terms of five views: each is its view's number.
 fn kept_by_term(alloc: Global) -> Result<ByTerm<u64>, Fail> {
     let five = TermLength::new(NonZeroU32::MIN.saturating_add(4));
     let mut kept = ByTerm::new(alloc, five);
@@ -118,7 +118,7 @@ fn kept_by_term(alloc: Global) -> Result<ByTerm<u64>, Fail> {
     Ok(kept)
 }
 
-/// Whether the nearest value of a term covers, and a value that stands stays.
+/// Returns whether the nearest value of a term covers, and an existing value stays.
 fn covers_by_the_nearest(kept: &mut ByTerm<u64>) -> Result<bool, Fail> {
     Ok(
         kept.insert(view(4), 0)? == Some(0)
@@ -129,7 +129,7 @@ fn covers_by_the_nearest(kept: &mut ByTerm<u64>) -> Result<bool, Fail> {
     )
 }
 
-/// Whether the views below one are dropped of a term.
+/// Returns whether the views below one are dropped from a term.
 fn drops_views_below(kept: &mut ByTerm<u64>) -> bool {
     kept.drop_ended(view(4));
     let stands = kept.get(view(2)) == Some(&2);
@@ -137,7 +137,7 @@ fn drops_views_below(kept: &mut ByTerm<u64>) -> bool {
     stands && kept.get(view(2)).is_none() && kept.get(view(4)) == Some(&4)
 }
 
-/// Whether a term that ends is dropped.
+/// Returns whether a term that ends is dropped.
 fn drops_ended_terms(kept: &mut ByTerm<u64>) -> bool {
     kept.drop_ended(view(5));
     kept.get(view(4)).is_none() && kept.covering(view(10)) == Some((view(8), &8))

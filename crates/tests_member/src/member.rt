@@ -1,4 +1,4 @@
-//! Members of plain parts: one that goes on from its journal, one that begins at a floor, and their timeouts.
+//! Members of plain parts: one that resumes from its journal, one that begins at a floor, and their timeouts.
 
 mod floors;
 mod records;
@@ -36,7 +36,7 @@ fn terms_of_one() -> Terms {
     }
 }
 
-/// How member 0 of four starts at genesis, in terms of one view, with so many views kept.
+/// Returns how member 0 of four starts at genesis, in terms of one view, with this number of retained views.
 fn start(
     alloc: Global,
     retention: u64,
@@ -46,7 +46,7 @@ fn start(
     start_in(alloc, retention, terms_of_one())
 }
 
-/// How member 0 of four starts at genesis, in such terms, with so many views kept.
+/// Returns how member 0 of four starts at genesis, in these terms, with this number of retained views.
 fn start_in(
     alloc: Global,
     retention: u64,
@@ -106,7 +106,7 @@ fn nullifies_first(member: &mut PlainMember) -> bool {
     matches!(answer, Ok(Some(_)))
 }
 
-/// A member that starts, on the heap.
+/// Returns a member that starts, on the heap.
 fn started(
     alloc: Global,
     start: Start<PlainScheme, PlainElector, PlainDigest>,
@@ -116,7 +116,7 @@ fn started(
     Ok(Box::new(alloc, Member::start(alloc, start)?)?)
 }
 
-/// A member that goes on from its journal, on the heap.
+/// Returns a member that resumes from its journal, on the heap.
 fn resumed(
     alloc: Global,
     stored: Stored,
@@ -128,21 +128,21 @@ fn resumed(
     }
 }
 
-/// View 1 is notarized and certified.
+/// Passes a notarization of view 1, and certifies it.
 fn certify_first(member: &mut PlainMember, now: u64) -> Result<(), Refusal> {
     member.add_notarization(first_notarization())?;
     member.certified(View::new(1), true, now)?;
     Ok(())
 }
 
-/// A member that may vote to finalize view 1.
+/// Returns a member that may vote to finalize view 1.
 fn certified(alloc: Global) -> Result<Box<PlainMember>, Fail> {
     let mut member = started(alloc, start(alloc, 10)?)?;
     certify_first(&mut member, 10)?;
     Ok(member)
 }
 
-/// What a journal reads back of a member.
+/// Returns what a journal reads back of a member.
 fn read_back(alloc: Global, member: &PlainMember) -> Result<(Stored, Vec<PlainArtifact>), Fault> {
     let mut entries = Vec::new(alloc);
     for artifact in member.record_since(0) {
@@ -151,7 +151,7 @@ fn read_back(alloc: Global, member: &PlainMember) -> Result<(Stored, Vec<PlainAr
     Ok((member.stored(), entries))
 }
 
-/// A member that voted to finalize view 1 and was pruned, as a journal reads it back.
+/// Returns a member that voted to finalize view 1 and was pruned, as a journal reads it back.
 fn pruned(alloc: Global) -> Result<(Stored, Vec<PlainArtifact>), Fail> {
     let mut member = certified(alloc)?;
     finalizes_first(&mut member);
@@ -163,7 +163,7 @@ fn pruned(alloc: Global) -> Result<(Stored, Vec<PlainArtifact>), Fail> {
     Ok(read_back(alloc, &member)?)
 }
 
-/// Why a member does not go on from a journal, with the entries.
+/// Returns why a member does not resume from a journal, with the entries.
 fn refused(
     alloc: Global,
     retention: u64,
@@ -176,19 +176,19 @@ fn refused(
     }
 }
 
-/// Whether a member goes on from a journal, with as many views kept as before.
+/// Returns whether a member resumes from a journal, with as many retained views as before.
 fn continues(alloc: Global, stored: Stored, entries: Vec<PlainArtifact>) -> Result<bool, Fail> {
     let refusal = Member::resume(alloc, start(alloc, 10)?, stored, entries).err();
     Ok(refusal.is_none())
 }
 
-/// Another member, that goes on from what a journal reads back of one.
+/// Returns another member, which resumes from what a journal reads back of one.
 fn resumed_from(alloc: Global, member: &PlainMember) -> Result<Box<PlainMember>, Fail> {
     let (stored, entries) = read_back(alloc, member)?;
     resumed(alloc, stored, entries)
 }
 
-/// Whether a member of three entries and of such stored numbers votes for view 1 no more.
+/// Returns whether a member with three entries and these stored numbers no longer votes for view 1.
 fn is_done_with_first(member: &mut PlainMember, stored: Stored) -> bool {
     !finalizes_first(member)
         && !nullifies_first(member)

@@ -25,7 +25,7 @@ use std::io;
 use std::io::{Read, Write};
 use std::test::Fail;
 
-/// Gives one byte a read, and fails once it has no reads left.
+/// Reads one byte at a time, and fails once it has no reads left.
 #[derive(Drop)]
 struct FailingReader<'a> {
     bytes: &'a [u8],
@@ -50,7 +50,7 @@ impl<'a> Read for FailingReader<'a> {
     }
 }
 
-/// Keeps what it is given, and fails once it has no room left.
+/// Stores what it receives, and fails once it has no room left.
 #[derive(Drop)]
 struct FailingWriter {
     written: Vec<u8>,
@@ -73,7 +73,7 @@ impl Write for FailingWriter {
     }
 }
 
-/// The mode of a command line.
+/// Returns the mode of a command line.
 fn mode_of(alloc: Global, line: &str) -> Result<Option<Mode>, AllocError>
     ensures { IfOk result (λ mode. IfSome mode IsServed) }
 {
@@ -84,7 +84,7 @@ fn mode_of(alloc: Global, line: &str) -> Result<Option<Mode>, AllocError>
     Ok(Mode::read(&words))
 }
 
-/// What serving writes, and how it ends.
+/// Returns what serving writes, and how it ends.
 fn run(
     alloc: Global,
     mode: Mode,
@@ -98,7 +98,7 @@ fn run(
     Ok((text, ended))
 }
 
-/// Whether serving an input writes just this, and ends so.
+/// Returns whether serving an input writes exactly this, and ends as expected.
 fn is_answered(
     alloc: Global,
     mode: Mode,
@@ -112,14 +112,14 @@ fn is_answered(
     Ok(output.as_str() == wanted && ended == end)
 }
 
-/// Whether serving an input writes nothing, since its first line is no call.
+/// Returns whether serving an input writes nothing, since its first line is no call.
 fn is_refused(alloc: Global, mode: Mode, input: &str) -> Result<bool, AllocError>
     requires { IsServed mode }
 {
     is_answered(alloc, mode, input, "", Err(ServeError::NotACall(1)))
 }
 
-/// The first line that is served, if one is.
+/// Returns the first line that is served, if one is.
 fn first_served<'a>(
     alloc: Global,
     mode: Mode,
@@ -135,7 +135,7 @@ fn first_served<'a>(
     Ok(None)
 }
 
-/// The scripts of all tables.
+/// Returns the scripts of all tables.
 fn scripts(alloc: Global) -> Result<Vec<Script>, AllocError> {
     let mut scripts = Vec::new(alloc);
     scripts.extend_from_slice(&views::VIEWS)?;
@@ -151,7 +151,7 @@ fn scripts(alloc: Global) -> Result<Vec<Script>, AllocError> {
     Ok(scripts)
 }
 
-/// What a script's lines are answered with, if it is not what the script wants.
+/// Returns the replies to a script's lines, if they are not what the script expects.
 fn other_replies(alloc: Global, script: &Script) -> Result<Option<String>, Fail> {
     let mode = mode_of(alloc, script.command)?.ok_or(script.shows)?;
     let parts = script.parts(alloc)?;
@@ -172,8 +172,7 @@ fn each_line_has_its_reply(rt: HostRuntime) -> Result<(), Fail> {
     Ok(())
 }
 
-/// Command lines that ask for a mode, each with lines and replies that tell its settings: the length of terms, and whether there
-/// is a key.
+/// Command lines that ask for a mode, each with lines and replies that show its settings: the length of terms, and whether there is a key.
 static MODES: [(&str, &str, &str); 4] = [
     (
         "viewstate resolver 1",
@@ -267,7 +266,7 @@ static REASONS: [&str; 10] = [
     "FailedCertification",
 ];
 
-/// Whether a timeout that is triggered for a reason is told with it.
+/// Returns whether a timeout that is triggered for a reason is reported with it.
 fn is_told(alloc: Global, mode: Mode, reason: &str) -> Result<bool, Fail>
     requires { IsServed mode }
 {
@@ -318,7 +317,7 @@ fn refused_lines_of_a_voter(rt: HostRuntime) -> Result<(), Fail> {
     Ok(())
 }
 
-/// Some words, and so many of a character.
+/// Returns some words, and `count` times a character.
 fn padded(alloc: Global, words: &str, character: char, count: usize) -> Result<String, AllocError> {
     let mut line = String::from_str(alloc, words)?;
     for _ in 0..count {
@@ -327,7 +326,7 @@ fn padded(alloc: Global, words: &str, character: char, count: usize) -> Result<S
     Ok(line)
 }
 
-/// The length of the first line of sevens that is served, if one is.
+/// Returns the length of the first line of sevens that is served, if one is.
 fn first_length_served(alloc: Global, command: &str) -> Result<Option<usize>, Fail> {
     let mode = mode_of(alloc, command)?.ok_or("no mode")?;
     for length in [199, 200, 201, 202, 100_000] {
@@ -361,7 +360,7 @@ fn a_long_line_of_spaces(rt: HostRuntime) -> Result<(), Fail> {
     Ok(())
 }
 
-/// Whether bytes whose line of this number is no text are answered up to there.
+/// Returns whether bytes whose line of this number is no text are replied to up to there.
 fn ends_at(alloc: Global, mode: Mode, input: &[u8], line: u64, wanted: &[u8]) -> bool
     requires { IsServed mode }
 {
@@ -379,7 +378,7 @@ fn bytes_that_are_no_text(rt: HostRuntime) -> Result<(), Fail> {
     Ok(())
 }
 
-/// How many lines end here.
+/// Returns how many lines end here.
 fn feeds(bytes: &[u8]) -> usize {
     let mut count: usize = 0;
     for byte in bytes {
@@ -390,7 +389,7 @@ fn feeds(bytes: &[u8]) -> usize {
     count
 }
 
-/// Whether, once a read has failed, each line that came whole has its reply, and the end says what failed.
+/// Returns whether, once a read has failed, each line that came whole has its reply, and the end says what failed.
 fn has_replied(alloc: Global, mode: Mode, parts: &Parts, whole: &[u8], reads_left: usize) -> bool
     requires { IsServed mode }
 {
@@ -408,7 +407,7 @@ fn has_replied(alloc: Global, mode: Mode, parts: &Parts, whole: &[u8], reads_lef
     }
 }
 
-/// After how many reads a failing one is answered otherwise than it is to be, if there is such a number.
+/// Returns after how many reads a failing one has a wrong result, if there is such a number.
 fn first_wrong_read(alloc: Global, script: &Script) -> Result<Option<usize>, Fail> {
     let mode = mode_of(alloc, script.command)?.ok_or(script.shows)?;
     let parts = script.parts(alloc)?;
@@ -434,7 +433,7 @@ fn failing_reads(rt: HostRuntime) -> Result<(), Fail> {
     Ok(())
 }
 
-/// Whether all that there is room for is written, and the end says that a write failed.
+/// Returns whether all that there is room for is written, and the end says that a write failed.
 fn has_filled(alloc: Global, mode: Mode, input: &str, whole: &[u8], room: usize) -> bool
     requires { IsServed mode }
 {
@@ -448,7 +447,7 @@ fn has_filled(alloc: Global, mode: Mode, input: &str, whole: &[u8], room: usize)
         && whole.starts_with(&writer.written)
 }
 
-/// The room behind which a failing write is answered otherwise than it is to be, if there is such a room.
+/// Returns the room after which a failing write has a wrong result, if there is such a room.
 fn first_wrong_write(alloc: Global, script: &Script) -> Result<Option<usize>, Fail> {
     let mode = mode_of(alloc, script.command)?.ok_or(script.shows)?;
     let parts = script.parts(alloc)?;

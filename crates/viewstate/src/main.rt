@@ -1,4 +1,4 @@
-//! `viewstate`: a voter or a resolver, asked by lines.
+//! `viewstate`: a voter or a resolver that lines call.
 #![tactic(auto)]
 
 use simplex_program::mode::Mode;
@@ -27,7 +27,7 @@ fn main(rt: HostRuntime) -> ExitCode {
     }
 }
 
-/// The arguments after the program's name.
+/// Returns the arguments after the program's name.
 fn arguments(rt: &HostRuntime) -> io::Result<Vec<String>> {
     let mut words = Vec::new(rt.alloc());
     for word in env::args(rt)?.skip(1) {

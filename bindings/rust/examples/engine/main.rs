@@ -1,5 +1,5 @@
 //! Four engines in one process, which finalize twenty views: `network.rs` beside it is what a host does around each. Half way member 1's
-//! process ends, and a new one goes on from its disk.
+//! process ends, and a new one resumes from its disk.
 //!
 //!     cargo run --example engine
 

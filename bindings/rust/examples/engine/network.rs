@@ -62,7 +62,7 @@ pub struct Disk {
     pub stored: Option<Stored>,
 }
 
-/// A member: its engine while its process lives, its disk, the blocks that it has, and the chain that it delivered.
+/// A member: its engine while its process runs, its disk, the blocks that it has, and the chain that it delivered.
 #[derive(Debug)]
 pub struct Node {
     pub me: Participant,
@@ -179,7 +179,7 @@ impl Node {
         Ok(())
     }
 
-    /// Takes a message: signatures and certificates are tested, and then the engine is told.
+    /// Takes a message: signatures and certificates are tested, and then the engine receives it.
     pub fn receive(&mut self, from: Participant, message: Message, now: Moment, out: &mut VecDeque<Sent>) -> Outcome {
         let (members, me) = (self.members, self.me);
         let Some(engine) = &mut self.engine else {

@@ -35,7 +35,7 @@ pub enum Input {
         /// The payload's digest.
         payload: Digest,
     },
-    /// The application's verdict on a notarized proposal. It is ignored where no [`Output::Certify`](crate::Output::Certify) of this lifetime
+    /// The application's verdict on a notarized proposal. It is ignored if no [`Output::Certify`](crate::Output::Certify) of this lifetime
     /// named the proposal, or the proposal has its verdict.
     Certified {
         /// Its view.
@@ -47,13 +47,13 @@ pub enum Input {
     GivenUp {
         /// The view.
         view: View,
-        /// Why.
+        /// Its reason.
         reason: TimeoutReason,
     },
 }
 
 impl Input {
-    /// What the library takes of it, but its bytes.
+    /// Returns what the library takes of it, except for its bytes.
     pub(crate) fn flat(&self) -> ffi::Input {
         let kind = self.kind();
         match self {
@@ -96,7 +96,7 @@ impl Input {
         }
     }
 
-    /// The bytes that the library takes with it.
+    /// Returns the bytes that the library takes with it.
     pub(crate) fn bytes(&self) -> &[u8] {
         match self {
             Input::Vote(vote) => &vote.signature,

@@ -42,15 +42,15 @@ pub enum Output {
     Forget(View),
 }
 
-/// An order to vote: the text that is to be signed with the signer's key.
+/// An order to vote: the text to sign with the signer's key.
 #[derive(Clone, PartialEq, Eq, Hash, Debug)]
 #[must_use = "a vote that is dropped is not returned again, but for one to nullify"]
 pub struct Order {
-    /// What the vote says.
+    /// What the vote is about.
     pub subject: Subject,
     /// Who signs.
     pub signer: Participant,
-    /// What is to be signed: `subject.encode()`.
+    /// The text to sign: `subject.encode()`.
     pub text: Vec<u8>,
 }
 
@@ -84,25 +84,25 @@ pub enum FetchKind {
     Notarization,
     /// A nullification that covers the view.
     Nullification,
-    /// Whatever certificate decides the view.
+    /// Any certificate that decides the view.
     Decision,
 }
 
-/// A fetch that is open: asked again and again, of the next member in turn, until it is closed.
+/// An outstanding fetch: it is asked for again and again, of the next member round-robin, until it ends.
 #[derive(Clone, Copy, PartialEq, Eq, Hash, Debug)]
 pub struct OpenFetch {
-    /// What is asked for.
+    /// Which certificate.
     pub kind: FetchKind,
     /// Of which view.
     pub view: View,
     /// How often it was asked for.
     pub count: u64,
-    /// When it is to be asked for next.
+    /// The moment at which it is asked for next.
     pub moment: Moment,
 }
 
 impl Output {
-    /// The output that the library hands out, of whose bytes `bytes` reads those of a place; none where nothing is to be carried out.
+    /// Returns the library's output, whose bytes `bytes` reads; `None` if there is nothing to carry out.
     pub(crate) fn of(flat: &ffi::Output, bytes: impl Fn(u32) -> Vec<u8>) -> Option<Output> {
         let subject = || Subject::of(flat.subject.kind, &flat.subject.proposal);
         let proposal = || Proposal::of(&flat.subject.proposal);
@@ -159,7 +159,7 @@ fn vote(flat: &ffi::Subject, signature: Vec<u8>) -> Vote {
 }
 
 impl FetchKind {
-    /// The kind of a number of the library, which knows no other.
+    /// Returns the kind of a number of the library, which uses no other number.
     fn of(number: u32) -> FetchKind {
         match number {
             ffi::NOTARIZATION => FetchKind::Notarization,
@@ -170,7 +170,7 @@ impl FetchKind {
 }
 
 impl OpenFetch {
-    /// The fetch that the library shows; none where there is no such one.
+    /// Returns the fetch that the library shows; `None` if there is no such fetch.
     pub(crate) fn of(flat: &ffi::Open) -> Option<OpenFetch> {
         (flat.fetch != 0).then(|| OpenFetch {
             kind: FetchKind::of(flat.fetch),

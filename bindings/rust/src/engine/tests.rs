@@ -1,4 +1,4 @@
-//! Numbers that the package itself hands in to no engine.
+//! Numbers that the package itself passes to no engine.
 
 use super::*;
 use crate::numbers::{Digest, Epoch, Participant};
@@ -71,7 +71,7 @@ fn the_kinds_of_votes_are_those_of_subjects_and_0_is_none() {
     }
 }
 
-/// Whether the numbers are those of an input, as the header has them.
+/// Returns whether the numbers are those of an input, as the header has them.
 fn is_input(it: &ffi::Input) -> bool {
     let has_subject = matches!(it.kind, 2 | 3);
     (1..=7).contains(&it.kind) && it.reason < 10 && it.success < 2 && (!has_subject || (1..=3).contains(&it.subject.kind))

@@ -1,4 +1,4 @@
-//! What the resolver says of fetches: which are opened, and which are over.
+//! The resolver's effects on fetches: which are opened, and which are closed.
 
 ghost use Rattle.std.specs.Prelude.{◌≡◌, OnOk};
 ghost use Rattle.engine_fetches.specs.OutstandingFetches.{after_effect, after_effects, wanting};
@@ -10,7 +10,8 @@ use std::alloc::AllocError;
 use std::collections::BTreeSet;
 
 impl Fetches {
-    /// Opens and ends fetches as effects say, in order. What is lacking may be on its way, and is asked for from this moment on.
+    /// Opens and closes fetches as the effects say, in order. A missing certificate may be on its way, and is asked for from this moment
+    /// on.
     pub fn apply(&mut self, effects: &[Effect], moment: u64) -> Result<(), AllocError>
         ensures after { OnOk result (self.new.wanted.items ≡ after_effects moment effects.now self.old.wanted.items) }
         ensures same { (self.new.peers ≡ self.old.peers) × (self.new.retry ≡ self.old.retry) }
@@ -21,7 +22,7 @@ impl Fetches {
         Ok(())
     }
 
-    /// Opens or ends fetches as an effect says.
+    /// Opens or closes fetches as an effect says.
     fn apply_one(&mut self, effect: &Effect, moment: u64) -> Result<(), AllocError>
         ensures after { OnOk result (self.new.wanted.items ≡ after_effect moment effect.now self.old.wanted.items) }
         ensures same { (self.new.peers ≡ self.old.peers) × (self.new.retry ≡ self.old.retry) }
@@ -37,7 +38,7 @@ impl Fetches {
         Ok(())
     }
 
-    /// Opens the fetch of a nullification of each view, which is to be asked for at once.
+    /// Opens the fetch of a nullification of each view, which is due at once.
     pub fn open_all(&mut self, views: &BTreeSet<View>) -> Result<(), AllocError>
         ensures opened { OnOk result (self.new.wanted.items ≡ wanting views.now.keys self.old.wanted.items) }
         ensures same { (self.new.peers ≡ self.old.peers) × (self.new.retry ≡ self.old.retry) }

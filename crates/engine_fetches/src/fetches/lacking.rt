@@ -1,4 +1,4 @@
-//! Which fetches are of what is lacking; the others are closed.
+//! Which fetches are of missing certificates; the others are closed.
 
 ghost use Rattle.std.specs.Prelude.{◌≡◌, filter};
 ghost use Rattle.simplex_resolver.specs.Repair.{has};
@@ -10,8 +10,8 @@ use simplex_voter::voter::State;
 use std::collections::BTreeSet;
 
 impl Fetches {
-    /// Closes the fetches of what is not lacking: of views up to the last finalized one, and of certificates that the state holds.
-    /// The nullifications of these views are wanted though the state may hold them.
+    /// Closes the fetches of certificates that are not missing: of views up to the last finalized one, and of certificates that the state
+    /// has. The nullifications of these views stay outstanding though the state may have them.
     pub fn retain_missing<S: CertificateScheme, L: Elector<S>, D: Digest>(
         &mut self,
         wanted: &BTreeSet<View>,
@@ -24,7 +24,7 @@ impl Fetches {
     }
 }
 
-/// Whether the fetch is of a view above the last finalized one, and of a certificate that is lacking.
+/// Returns whether the fetch is of a view above the last finalized one, and of a missing certificate.
 fn is_missing<S: CertificateScheme, L: Elector<S>, D: Digest>(
     wanted: &BTreeSet<View>,
     state: &State<S, L, D>,
@@ -35,7 +35,7 @@ fn is_missing<S: CertificateScheme, L: Elector<S>, D: Digest>(
     state.last_finalized() < fetch.view && !is_held(wanted, state, fetch)
 }
 
-/// Whether the state holds the certificate, and its nullification is not wanted.
+/// Returns whether the state has the certificate, and its nullification is not outstanding.
 fn is_held<S: CertificateScheme, L: Elector<S>, D: Digest>(
     wanted: &BTreeSet<View>,
     state: &State<S, L, D>,
@@ -52,7 +52,7 @@ fn is_held<S: CertificateScheme, L: Elector<S>, D: Digest>(
     }
 }
 
-/// Whether the view is among these.
+/// Returns whether the view is among these.
 fn is_among(views: &BTreeSet<View>, view: View) -> bool
     ensures { result ≡ has views.now.keys view }
 {

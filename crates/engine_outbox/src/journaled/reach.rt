@@ -15,13 +15,14 @@ use simplex_voter::voter::State;
 impl<S: Scheme<D>, L: Elector<S>, D: Digest> Journaled<S, L, D> {
     ghost use Rattle.engine_outbox.specs.Continuity.{IsWhole};
 
-    /// Whether the record has more than so many entries, and by a pruning more views of it go than stay. So a record of which half
-    /// its views are kept is not written once more.
+    /// Returns whether the record has more entries than this, and a pruning would drop more of its views than it retains. So a record is
+    /// not written again while half of its views are retained.
     ///
-    /// - `short`: where it is not, and all of the record is queued, the record is short.
+    /// - `short`: if not, and all of the record is queued, the record is short.
     pub fn is_record_too_long(&self, long: usize) -> bool
         ensures overgrown { result ≡ is_record_too_long long self.now }
-        ensures short { IsFalse result → ReachesTo self.now.reach self.now.stored self.now.member.facts.entries → IsWhole S.certificate_bytes self.now
+        ensures short { IsFalse result → ReachesTo self.now.reach self.now.stored self.now.member.facts.entries
+            → IsWhole S.certificate_bytes self.now
             → IsShort long self.now.member.facts }
     {
         match self.member.state() {
@@ -30,14 +31,15 @@ impl<S: Scheme<D>, L: Elector<S>, D: Digest> Journaled<S, L, D> {
         }
     }
 
-    /// Whether by a pruning more views of the record go than stay.
+    /// Returns whether a pruning would drop more views of the record than it retains.
     fn reaches_far_below(&self, state: &State<S, L, D>) -> bool
         ensures { let facts = self.now.member.facts in result
-            ≡ is_far_below self.now.reach (min (min_active state.now) (finalized_in facts.entries - facts.retention)) state.now.current }
+            ≡ is_far_below self.now.reach (min (min_active state.now) (finalized_in facts.entries - facts.retention))
+            state.now.current }
     {
         let active = state.min_active();
         let current = state.current_view();
-        // The last finalized view of the record is looked for only where that can matter.
+        // The last finalized view of the record is computed only if it can matter.
         if !is_far_below(self.reach, active, current) {
             return false;
         }
@@ -46,14 +48,14 @@ impl<S: Scheme<D>, L: Elector<S>, D: Digest> Journaled<S, L, D> {
     }
 }
 
-/// Whether a view lies further below the lowest one that is left than the current one lies above that.
+/// Returns whether a view lies further below the lowest one that is left than the current one lies above that.
 fn is_far_below(reach: View, lowest: View, current: View) -> bool
     ensures { result ≡ is_far_below reach lowest current }
 {
     current.get().saturating_sub(lowest.get()) < lowest.get().saturating_sub(reach.get())
 }
 
-/// The lowest of a view and of those of entries.
+/// Returns the lowest of a view and of those of entries.
 pub(super) fn lowest_of<S: CertificateScheme, D: Digest>(
     view: View,
     entries: &[Artifact<S, D>],
@@ -67,7 +69,7 @@ pub(super) fn lowest_of<S: CertificateScheme, D: Digest>(
     lowest
 }
 
-/// The earlier one of two views.
+/// Returns the earlier of two views.
 fn earlier_of(one: View, other: View) -> View
     ensures { result ≡ min one other }
 {

@@ -11,7 +11,7 @@ use simplex_types::types::{Artifact, CertificateScheme, Digest, Subject};
 use std::alloc::{AllocError, Global};
 use std::collections::VecDeque;
 
-/// Copies of the entries, in order.
+/// Returns copies of the entries, in order.
 pub(super) fn copies<S: CertificateScheme, D: Digest>(
     alloc: Global,
     entries: &[Artifact<S, D>],
@@ -28,7 +28,7 @@ pub(super) fn copies<S: CertificateScheme, D: Digest>(
     Ok(copies)
 }
 
-/// An equal vote.
+/// Returns an equal vote.
 pub(super) fn copy_of<S: CertificateScheme, D: Digest>(
     alloc: Global,
     vote: &Vote<D, S::Signature>,
@@ -42,7 +42,7 @@ pub(super) fn copy_of<S: CertificateScheme, D: Digest>(
     })
 }
 
-/// The vote that the entry records.
+/// Returns the vote that the entry records.
 fn vote_in<S: CertificateScheme, D: Digest>(
     alloc: Global,
     entry: &Artifact<S, D>,
@@ -69,7 +69,7 @@ fn vote_in<S: CertificateScheme, D: Digest>(
     })
 }
 
-/// The votes that the entries record, in order, as they are sent.
+/// Returns the votes that the entries record, in order, as they are sent.
 pub(super) fn votes_of<S: CertificateScheme, D: Digest, J: Drop>(
     alloc: Global,
     entries: &[Artifact<S, D>],
@@ -83,7 +83,7 @@ pub(super) fn votes_of<S: CertificateScheme, D: Digest, J: Drop>(
     Ok(votes)
 }
 
-/// Puts the vote that the entry records behind the others, where it is one.
+/// Appends the vote that the entry records, if there is one.
 fn push_vote<S: CertificateScheme, D: Digest, J: Drop>(
     alloc: Global,
     votes: &mut VecDeque<Output<S, D, J>>,
@@ -100,7 +100,7 @@ fn push_vote<S: CertificateScheme, D: Digest, J: Drop>(
     }
 }
 
-/// The newest vote to nullify that the entries record.
+/// Returns the newest vote to nullify that the entries record.
 pub(super) fn newest_nullify<S: CertificateScheme, D: Digest>(
     alloc: Global,
     entries: &[Artifact<S, D>],
@@ -114,7 +114,7 @@ pub(super) fn newest_nullify<S: CertificateScheme, D: Digest>(
     Ok(newest)
 }
 
-/// The vote to nullify that the entry records, or else the one before.
+/// Returns the vote to nullify that the entry records, or else the previous one.
 fn newer<S: CertificateScheme, D: Digest>(
     alloc: Global,
     before: Option<Vote<D, S::Signature>>,

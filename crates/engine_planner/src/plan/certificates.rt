@@ -1,4 +1,4 @@
-//! What follows from a certificate that the member accepted.
+//! The steps that follow a certificate that the member accepted.
 
 ghost use Rattle.std.specs.Prelude.{◌≡◌, ◌≤◌, ◌==◌, ◌+◌, ◌-◌, ◌^◌, min, OnOk, IfErr, IsFalse};
 ghost use Rattle.simplex_resolver.specs.Steps.{highest_view};
@@ -14,19 +14,21 @@ use simplex_types::types::{Certificate, CertificateScheme, Digest, Fault, View, 
 use std::alloc::AllocError;
 
 impl<S: CertificateScheme, D: Digest> Plan<S, D> {
-    /// Follows the answer to a certificate that was handed in.
+    /// Follows the reply to a certificate that was passed to the member.
     ///
     /// # Errors
     ///
-    /// Those of `Repair::updated`, and `OutOfMemory` where the answer is that.
+    /// Those of `Repair::updated`, and `OutOfMemory` if that is the reply.
     pub fn follow_certificate(
         &mut self,
         certificate: &Certificate<S, D>,
         reply: &Reply<S, D>,
         now: u64,
     ) -> Result<(), Fault>
-        ensures followed { OnOk result (IsCertificateFollowed D.bytes S.certificate_bytes now certificate.now reply.now self.old self.new) }
-        ensures refused { IfErr result (λ fault. IsUnrepaired (highest_view certificate.now) fault self.old.repair self.new.repair) }
+        ensures followed { OnOk result
+            (IsCertificateFollowed D.bytes S.certificate_bytes now certificate.now reply.now self.old self.new) }
+        ensures refused { IfErr result
+            (λ fault. IsUnrepaired (highest_view certificate.now) fault self.old.repair self.new.repair) }
     {
         match reply {
             Reply::Added(is_new, equivocator) => {
@@ -38,7 +40,7 @@ impl<S: CertificateScheme, D: Digest> Plan<S, D> {
         }
     }
 
-    /// A notarization or a finalization was handed in.
+    /// Follows the acceptance of a notarization or a finalization.
     fn follow_added(
         &mut self,
         certificate: &Certificate<S, D>,
@@ -46,22 +48,26 @@ impl<S: CertificateScheme, D: Digest> Plan<S, D> {
         equivocator: Option<S::PublicKey>,
         now: u64,
     ) -> Result<(), Fault>
-        ensures followed { OnOk result (IsAddedFollowed D.bytes S.certificate_bytes now certificate.now is_new equivocator self.old self.new) }
-        ensures refused { IfErr result (λ fault. IsUnrepaired (highest_view certificate.now) fault self.old.repair self.new.repair) }
+        ensures followed { OnOk result
+            (IsAddedFollowed D.bytes S.certificate_bytes now certificate.now is_new equivocator self.old self.new) }
+        ensures refused { IfErr result
+            (λ fault. IsUnrepaired (highest_view certificate.now) fault self.old.repair self.new.repair) }
     {
         self.report_equivocation(certificate.view(), equivocator)?;
         self.follow_new(certificate, is_new, now)
     }
 
-    /// A certificate was handed in, which may be new.
+    /// Follows a passed certificate, if it is new.
     fn follow_new(
         &mut self,
         certificate: &Certificate<S, D>,
         is_new: bool,
         now: u64,
     ) -> Result<(), Fault>
-        ensures followed { OnOk result (IsNewFollowed D.bytes S.certificate_bytes now is_new certificate.now self.old self.new) }
-        ensures refused { IfErr result (λ fault. IsUnrepaired (highest_view certificate.now) fault self.old.repair self.new.repair) }
+        ensures followed { OnOk result
+            (IsNewFollowed D.bytes S.certificate_bytes now is_new certificate.now self.old self.new) }
+        ensures refused { IfErr result
+            (λ fault. IsUnrepaired (highest_view certificate.now) fault self.old.repair self.new.repair) }
     {
         if is_new {
             return self.accept(certificate, now);
@@ -69,7 +75,7 @@ impl<S: CertificateScheme, D: Digest> Plan<S, D> {
         Ok(())
     }
 
-    /// Shows that a leader signed two proposals, where one did.
+    /// Reports that a leader signed two proposals, if one did.
     fn report_equivocation(
         &mut self,
         view: View,
@@ -83,11 +89,13 @@ impl<S: CertificateScheme, D: Digest> Plan<S, D> {
         }
     }
 
-    /// A certificate is new: the resolver is told of it.
+    /// Follows a new certificate: the resolver receives it.
     fn accept(&mut self, certificate: &Certificate<S, D>, now: u64) -> Result<(), Fault>
-        ensures followed { OnOk result (IsTakenInAbove D.bytes S.certificate_bytes now (certificate_view certificate.now == 0) certificate.now
+        ensures followed { OnOk result
+            (IsTakenInAbove D.bytes S.certificate_bytes now (certificate_view certificate.now == 0) certificate.now
             self.old self.new) }
-        ensures refused { IfErr result (λ fault. IsUnrepaired (highest_view certificate.now) fault self.old.repair self.new.repair) }
+        ensures refused { IfErr result
+            (λ fault. IsUnrepaired (highest_view certificate.now) fault self.old.repair self.new.repair) }
     {
         let view = certificate.view();
         if is_genesis(view) {
@@ -98,12 +106,14 @@ impl<S: CertificateScheme, D: Digest> Plan<S, D> {
         Ok(())
     }
 
-    /// The resolver is told of a certificate, and a notarization that came is asked for no longer.
+    /// Passes a certificate to the resolver. A notarization that arrived is no longer asked for.
     fn report_certificate(&mut self, certificate: &Certificate<S, D>, now: u64) -> Result<(), Fault>
         requires { 1 ≤ certificate_view certificate.now }
         ensures same { self.new ≡ record self.old { repair = self.new.repair } }
-        ensures heard { OnOk result (IsResolverNotified D.bytes S.certificate_bytes now certificate.now self.old self.new.repair) }
-        ensures refused { IfErr result (λ fault. IsUnrepaired (highest_view certificate.now) fault self.old.repair self.new.repair) }
+        ensures heard { OnOk result
+            (IsResolverNotified D.bytes S.certificate_bytes now certificate.now self.old self.new.repair) }
+        ensures refused { IfErr result
+            (λ fault. IsUnrepaired (highest_view certificate.now) fault self.old.repair self.new.repair) }
     {
         let moment = self.later(now);
         self.repair.updated(certificate, moment)?;
@@ -113,7 +123,7 @@ impl<S: CertificateScheme, D: Digest> Plan<S, D> {
         Ok(())
     }
 
-    /// The moment from which on what is lacking is asked for: until then it may be on its way.
+    /// Returns the moment from which on a missing certificate is asked for: until then it may be on its way.
     pub(super) fn later(&self, now: u64) -> u64
         ensures { result ≡ min (now + self.now.options.on_its_way) (2 ^ 64 - 1) }
     {
@@ -121,7 +131,7 @@ impl<S: CertificateScheme, D: Digest> Plan<S, D> {
     }
 }
 
-/// Whether the view is genesis.
+/// Returns whether the view is genesis.
 pub(super) fn is_genesis(view: View) -> bool
     ensures is { result ≡ (view == 0) }
     ensures above { IsFalse result → 1 ≤ view }

@@ -1,4 +1,4 @@
-//! The next step, and what is planned where none is queued.
+//! The next step, and what is planned if none is queued.
 
 ghost use Rattle.std.specs.Prelude.{◌≡◌, ◌++◌, false, IfOk, OnOk};
 ghost use Rattle.engine_planner.specs.PlanStates.{HasPlanned};
@@ -13,11 +13,13 @@ use std::alloc::AllocError;
 use std::collections::VecDeque;
 
 impl<S: CertificateScheme, D: Digest> Plan<S, D> {
-    /// The next step, at a moment in milliseconds. There is none only where nothing is to be done at the moment.
+    /// Returns the next step, at a moment in milliseconds. Returns `None` only if nothing is due at the moment.
     ///
-    /// Where no step is queued, what is due is planned first: where something has changed since, each block that is to be built is
-    /// asked about, and given up where its view is over; else the timeout is asked for, or else which views may be dropped, once a
-    /// moment each; or else the first fetch that is due.
+    /// If no step is queued, it first plans what is due, in this order:
+    ///
+    /// - if something has changed since, it asks about each block to build, and abandons those of past views;
+    /// - else it asks for the timeout, or else which views may be dropped, once a moment each;
+    /// - or else it asks for the first fetch that is due.
     pub fn next(&mut self, now: u64) -> Result<Option<Step<S, D>>, AllocError>
         ensures { IfOk result (λ step. HasTaken now step self.old self.new) }
     {
@@ -25,7 +27,7 @@ impl<S: CertificateScheme, D: Digest> Plan<S, D> {
         Ok(self.steps.pop_front())
     }
 
-    /// Plans what is due, where no step is queued.
+    /// Plans what is due, if no step is queued.
     fn fill(&mut self, now: u64) -> Result<(), AllocError>
         ensures { OnOk result (IsReady self.old.steps.items now self.old self.new) }
     {
@@ -39,9 +41,10 @@ impl<S: CertificateScheme, D: Digest> Plan<S, D> {
         self.plan_due(now)
     }
 
-    /// Plans to ask whether blocks are of use still, where something has changed since that was done last.
+    /// Plans to ask whether blocks are still needed, if something has changed since the last time.
     fn watch(&mut self) -> Result<(), AllocError>
-        ensures { OnOk result (HasPlanned (watching_where self.old.is_watch_due self.old.views.current self.old.builds.buildings.items)
+        ensures { OnOk result (HasPlanned
+            (watching_where self.old.is_watch_due self.old.views.current self.old.builds.buildings.items)
             (record self.old { is_watch_due = false }) self.new) }
     {
         if !self.is_watch_due {
@@ -51,14 +54,15 @@ impl<S: CertificateScheme, D: Digest> Plan<S, D> {
         self.watch_builds()
     }
 
-    /// Plans to give up the blocks of views that are over, and to ask of each other one whether it has to be.
+    /// Plans to abandon the blocks of past views, and to ask about each other one whether it must be abandoned.
     fn watch_builds(&mut self) -> Result<(), AllocError>
-        ensures { OnOk result (HasPlanned (watching_all self.old.views.current self.old.builds.buildings.items) self.old self.new) }
+        ensures { OnOk result (HasPlanned (watching_all self.old.views.current self.old.builds.buildings.items)
+            self.old self.new) }
     {
         watch_all(self.views.current, self.builds.all(), &mut self.steps)
     }
 
-    /// Plans what is due: first the timeout, then what is dropped, and then what is asked of peers.
+    /// Plans what is due: first the timeout, then the dropping of views, and then the fetches.
     fn plan_due(&mut self, now: u64) -> Result<(), AllocError>
         ensures { OnOk result (IsTimeoutAsked self.old.is_timeout_due now self.old self.new) }
     {
@@ -91,7 +95,7 @@ impl<S: CertificateScheme, D: Digest> Plan<S, D> {
     }
 }
 
-/// Gives up the blocks of views that are over, and asks of each other one whether it has to be.
+/// Abandons the blocks of past views, and asks about each other one whether it must be abandoned.
 fn watch_all<S: CertificateScheme, D: Digest>(
     current: View,
     builds: &[Building<D, S::PublicKey>],
@@ -105,8 +109,8 @@ fn watch_all<S: CertificateScheme, D: Digest>(
     Ok(())
 }
 
-/// What the member is asked of a block that is to be built. A proposal of a view below the current one serves nobody: the view was
-/// nullified, or certified, or others are ahead; and an application that never answers for such blocks would leave ever more.
+/// Returns the call of the member about a block to build. A proposal of a view below the current one serves nobody: the view was nullified
+/// or certified, or other members are ahead. An application that never builds such blocks would leave ever more.
 fn watching_one<D: Digest, P: Copy>(current: View, building: &Building<D, P>) -> Task<D>
     ensures { result ≡ watching_one current building.now }
 {

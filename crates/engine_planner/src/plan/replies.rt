@@ -1,4 +1,4 @@
-//! What follows from the answer to a call.
+//! The steps that follow the reply to a call.
 
 ghost use Rattle.std.specs.Prelude.{◌≡◌, ◌==◌, [], ◌∷◌, OnOk, IfErr, if◌then◌else◌};
 ghost use Rattle.simplex_resolver.specs.Steps.{highest_named};
@@ -22,11 +22,11 @@ use simplex_voter::voter::{CertificateFetch, ProposalRequest, Verify};
 use std::alloc::AllocError;
 
 impl<S: CertificateScheme, D: Digest> Plan<S, D> {
-    /// Follows an answer.
+    /// Follows a reply.
     ///
     /// # Errors
     ///
-    /// `OutOfMemory`, also where the answer is that; where it is a verdict, those of `Repair::certified`.
+    /// `OutOfMemory`, also if that is the reply; for a verdict, those of `Repair::certified`.
     pub fn follow(&mut self, task: Task<D>, reply: Reply<S, D>, now: u64) -> Result<(), Fault>
         ensures followed { OnOk result (IsFollowed D.bytes S.certificate_bytes now task reply self.old self.new) }
         ensures refused { IfErr result (λ fault. IsUnfollowed fault reply self.old self.new) }
@@ -53,7 +53,7 @@ impl<S: CertificateScheme, D: Digest> Plan<S, D> {
         }
     }
 
-    /// A call was not allowed, and has changed nothing: what it was to go on with is over.
+    /// Follows a call that was not allowed, and has changed nothing: the block that the call was about is dropped.
     fn follow_refusal(&mut self, task: Task<D>) -> Result<(), AllocError>
         ensures { OnOk result (IsConsequence (after_refusal task) self.old self.new) }
     {
@@ -69,7 +69,7 @@ impl<S: CertificateScheme, D: Digest> Plan<S, D> {
         }
     }
 
-    /// Whether what was handed in was taken.
+    /// Follows a reply that says whether the call was taken.
     fn follow_flag(&mut self, task: Task<D>, is_taken: bool) -> Result<(), AllocError>
         ensures { OnOk result (IsConsequence (after_flag task is_taken) self.old self.new) }
     {
@@ -84,7 +84,7 @@ impl<S: CertificateScheme, D: Digest> Plan<S, D> {
         }
     }
 
-    /// A block was built.
+    /// Follows a built block.
     fn follow_proposed(&mut self, view: View) -> Result<(), AllocError>
         ensures { OnOk result (IsConsequence (Built view) self.old self.new) }
     {
@@ -92,14 +92,14 @@ impl<S: CertificateScheme, D: Digest> Plan<S, D> {
         self.touch(view)
     }
 
-    /// Something of the view has changed, where it has.
+    /// Plans what a change in the view calls for, if there was one.
     fn touch_where(&mut self, is_changed: bool, view: View) -> Result<(), AllocError>
         ensures { OnOk result (IsConsequence (if is_changed then Touched view else Nothing) self.old self.new) }
     {
         if is_changed { self.touch(view) } else { Ok(()) }
     }
 
-    /// What is built in the view is of no use any more, where another block is to be built.
+    /// Stops the view's block, if another one is to be built instead.
     fn stop_where(&mut self, is_replaced: bool, view: View) -> Result<(), AllocError>
         ensures { OnOk result (IsConsequence (if is_replaced then Stopped view else Nothing) self.old self.new) }
     {
@@ -110,7 +110,7 @@ impl<S: CertificateScheme, D: Digest> Plan<S, D> {
         }
     }
 
-    /// Whether a block that is built has to be given up, or else is replaced by another.
+    /// Follows the reply that says whether a block must be abandoned; if not, it may be replaced by another.
     fn follow_watch(&mut self, task: Task<D>, is_abandoned: bool) -> Result<(), AllocError>
         ensures { OnOk result (IsConsequence (after_watch task is_abandoned) self.old self.new) }
     {
@@ -120,9 +120,10 @@ impl<S: CertificateScheme, D: Digest> Plan<S, D> {
         }
     }
 
-    /// A block that is built is given up, or else may be replaced by another.
+    /// Asks to release a block that is abandoned, or else whether another replaces it.
     fn ask_of_build(&mut self, view: View, is_abandoned: bool) -> Result<(), AllocError>
-        ensures { OnOk result (IsConsequence (Asked (if is_abandoned then Release view else Supersede view)) self.old self.new) }
+        ensures { OnOk result (IsConsequence (Asked (if is_abandoned then Release view else Supersede view))
+            self.old self.new) }
     {
         if is_abandoned {
             self.ask(Task::Release(view))
@@ -131,7 +132,7 @@ impl<S: CertificateScheme, D: Digest> Plan<S, D> {
         }
     }
 
-    /// A proposal is verified; or a certificate is lacking for one, which is not asked for yet.
+    /// Follows a reply to verify: a proposal is to be verified, or a certificate is missing for one, which is fetched unless it is already.
     fn follow_verify(&mut self, verify: Verify<D, S::PublicKey>) -> Result<(), AllocError>
         ensures { OnOk result (IsVerifyFollowed verify self.old self.new) }
     {
@@ -147,9 +148,10 @@ impl<S: CertificateScheme, D: Digest> Plan<S, D> {
         }
     }
 
-    /// A certificate is lacking for a proposal.
+    /// Plans the fetch of a certificate that is missing for a proposal, unless it is outstanding.
     fn lack(&mut self, kind: FetchKind, view: View, proposal: View) -> Result<(), AllocError>
-        ensures { OnOk result (HasPlanned (lacking kind view proposal self.old.repair.fetches.wanted.items) self.old self.new) }
+        ensures { OnOk result (HasPlanned (lacking kind view proposal self.old.repair.fetches.wanted.items)
+            self.old self.new) }
     {
         if self.fetches().is_open(kind, view) {
             return Ok(());
@@ -157,8 +159,8 @@ impl<S: CertificateScheme, D: Digest> Plan<S, D> {
         self.plan(Step::Resolve(kind, view, proposal))
     }
 
-    /// A block is to be built. A member alone builds none ahead of its parent's certification, but once it has entered the view: its
-    /// own application may refuse the parent for good.
+    /// Plans a block to build. A lone member builds none ahead of its parent's certification before it has entered the view: its own
+    /// application may refuse the parent for good.
     fn follow_request(
         &mut self,
         request: Option<ProposalRequest<D, S::PublicKey>>,
@@ -172,14 +174,14 @@ impl<S: CertificateScheme, D: Digest> Plan<S, D> {
         }
     }
 
-    /// Whether a block on a parent that is not certified waits until its view is entered.
+    /// Returns whether a block on a parent that is not certified waits until its view is entered.
     fn waits(&self, context: &Context<D, S::PublicKey>) -> bool
         ensures { result ≡ waits self.now.is_alone self.now.views.current context.now }
     {
         self.is_alone && self.views.current < context.round.view
     }
 
-    /// A certificate is sent to all others, where there is one.
+    /// Sends a certificate to all others, if there is one.
     fn broadcast(&mut self, certificate: Option<Certificate<S, D>>) -> Result<(), AllocError>
         ensures { OnOk result (IsBroadcastFollowed certificate self.old self.new) }
     {
@@ -189,7 +191,7 @@ impl<S: CertificateScheme, D: Digest> Plan<S, D> {
         }
     }
 
-    /// Proposals are certified, and the notarizations that others wait for are fetched.
+    /// Has proposals certified, and fetches the notarizations that other proposals wait for.
     fn follow_candidates(
         &mut self,
         proposals: &[Proposal<D>],
@@ -202,7 +204,7 @@ impl<S: CertificateScheme, D: Digest> Plan<S, D> {
         self.repair.fetch_all(fetches, now)
     }
 
-    /// Proposals are certified.
+    /// Has proposals certified.
     fn certify_all(&mut self, proposals: &[Proposal<D>]) -> Result<(), AllocError>
         ensures { OnOk result (HasPlanned (certifying proposals.now) self.old self.new) }
     {
@@ -212,7 +214,7 @@ impl<S: CertificateScheme, D: Digest> Plan<S, D> {
         Ok(())
     }
 
-    /// A proposal is certified.
+    /// Has a proposal certified.
     fn certify(&mut self, proposal: Proposal<D>) -> Result<(), AllocError>
         ensures { OnOk result (HasPlanned (certifying (proposal ∷ [])) self.old self.new) }
     {
@@ -220,14 +222,15 @@ impl<S: CertificateScheme, D: Digest> Plan<S, D> {
         self.ask(Task::SetHandle(proposal.round.view))
     }
 
-    /// A verdict was given, of which the resolver is told.
+    /// Follows a verdict, and passes it to the resolver.
     fn follow_verdict(
         &mut self,
         is_success: bool,
         notarization: Option<Notarization<S, D>>,
         now: u64,
     ) -> Result<(), Fault>
-        ensures followed { OnOk result (IsVerdictFollowed D.bytes S.certificate_bytes now is_success notarization self.old self.new) }
+        ensures followed { OnOk result
+            (IsVerdictFollowed D.bytes S.certificate_bytes now is_success notarization self.old self.new) }
         ensures refused { IfErr result (λ fault. IsUnjudged fault notarization self.old.repair self.new.repair) }
     {
         match notarization {
@@ -236,16 +239,19 @@ impl<S: CertificateScheme, D: Digest> Plan<S, D> {
         }
     }
 
-    /// The resolver is told of a verdict.
+    /// Passes a verdict to the resolver.
     fn judge(
         &mut self,
         is_success: bool,
         notarization: Notarization<S, D>,
         now: u64,
     ) -> Result<(), Fault>
-        ensures followed { OnOk result (IsVerdictReportedAbove D.bytes S.certificate_bytes now (notarization.proposal.round.view == 0) is_success notarization
+        ensures followed { OnOk result
+            (IsVerdictReportedAbove D.bytes S.certificate_bytes now (notarization.proposal.round.view == 0)
+            is_success notarization
             self.old self.new) }
-        ensures refused { IfErr result (λ fault. IsUnrepaired (highest_named notarization.proposal) fault self.old.repair self.new.repair) }
+        ensures refused { IfErr result
+            (λ fault. IsUnrepaired (highest_named notarization.proposal) fault self.old.repair self.new.repair) }
     {
         let view = notarization.view();
         if is_genesis(view) {
@@ -257,8 +263,8 @@ impl<S: CertificateScheme, D: Digest> Plan<S, D> {
         Ok(())
     }
 
-    /// A vote to nullify was cast, or the one before is sent once more with the best certificate, for those who missed either.
-    /// Where none is allowed the view was voted final, and its finalization ends it.
+    /// Follows a vote to nullify: it was cast, or the one before is sent once more with the best certificate, for members that missed
+    /// either. If none is allowed, the view was voted final, and its finalization ends it.
     fn follow_nullify(
         &mut self,
         answer: Option<(bool, Nullify<S>)>,
@@ -276,7 +282,7 @@ impl<S: CertificateScheme, D: Digest> Plan<S, D> {
         }
     }
 
-    /// The vote to nullify the view is sent once more.
+    /// Sends the vote to nullify the view once more.
     fn repeat(&mut self, view: View) -> Result<(), AllocError>
         ensures { OnOk result (HasPlanned (repeating view) self.old self.new) }
     {
@@ -285,7 +291,7 @@ impl<S: CertificateScheme, D: Digest> Plan<S, D> {
         self.ask(Task::Timeout)
     }
 
-    /// The current view is given up, where its moment has come.
+    /// Plans the vote to nullify the current view, if its moment has come.
     fn follow_timeout(
         &mut self,
         moment: u64,

@@ -1,4 +1,4 @@
-//! Work on proposals: certificates that are lacking, blocks that are built, and what came early.
+//! Work on proposals: missing certificates, blocks to build, and early proposals.
 
 ghost use Rattle.std.specs.List.{list_any};
 ghost use Rattle.std.specs.Prelude.{◌≡◌, ◌+◌, ◌-◌, ◌^◌, min, if◌then◌else◌, [], ◌∷◌, ◌++◌, length, OnOk, OnErr};
@@ -17,8 +17,8 @@ use simplex_types::types::{CertificateScheme, Context, Digest, Participant, Prop
 use std::alloc::AllocError;
 
 impl<S: CertificateScheme, D: Digest> Plan<S, D> {
-    /// Keeps a proposal that came before its view, where few are kept: nobody sends it again, and its view would be lost.
-    /// Without memory nothing has changed.
+    /// Stores a proposal that came before its view, if few are stored: nobody sends it again, and its view would be lost. Without memory
+    /// nothing has changed.
     pub fn store_early(
         &mut self,
         from: Participant,
@@ -42,7 +42,8 @@ impl<S: CertificateScheme, D: Digest> Plan<S, D> {
         Ok(())
     }
 
-    /// A certificate is lacking, and is asked for unless it comes soon, of this member first. Without memory nothing has changed.
+    /// Opens the fetch of a missing certificate, which this member is asked for first, unless it arrives soon. Without memory nothing has
+    /// changed.
     pub fn resolve(
         &mut self,
         kind: FetchKind,
@@ -51,22 +52,26 @@ impl<S: CertificateScheme, D: Digest> Plan<S, D> {
         now: u64,
     ) -> Result<(), AllocError>
         ensures same { self.new ≡ record self.old { repair = self.new.repair } }
-        ensures opened { let fetches = self.old.repair.fetches in let moment = min (now + self.old.options.on_its_way) (2 ^ 64 - 1) in
-            OnOk result (HasFetches (opened kind view (place_of fetches.peers of) moment fetches.wanted.items) self.old.repair self.new.repair) }
-        ensures refused { OnErr result (HasFetches self.old.repair.fetches.wanted.items self.old.repair self.new.repair) }
+        ensures opened { let fetches = self.old.repair.fetches in let moment =
+            min (now + self.old.options.on_its_way) (2 ^ 64 - 1) in
+            OnOk result (HasFetches (opened kind view (place_of fetches.peers of) moment fetches.wanted.items)
+            self.old.repair self.new.repair) }
+        ensures refused { OnErr result
+            (HasFetches self.old.repair.fetches.wanted.items self.old.repair self.new.repair) }
     {
         let moment = self.later(now);
         self.repair.open(kind, view, of, moment)
     }
 
-    /// A block is to be built in the context, in place of one of its view, at once or when its view is entered.
+    /// Adds a block to build in the context, in place of one of its view, now or when its view is entered.
     pub(super) fn build(
         &mut self,
         context: Context<D, S::PublicKey>,
         is_reported: bool,
     ) -> Result<(), AllocError>
         ensures { OnOk result (HasBuilds (asking_for context is_reported)
-            (in_place (record { context = context; is_reported = is_reported }) self.old.builds.buildings.items) self.old self.new) }
+            (in_place (record { context = context; is_reported = is_reported }) self.old.builds.buildings.items)
+            self.old self.new) }
     {
         self.builds.put(context, is_reported)?;
         if is_reported {
@@ -75,21 +80,21 @@ impl<S: CertificateScheme, D: Digest> Plan<S, D> {
         Ok(())
     }
 
-    /// Whether the application was asked for a block in just this context.
+    /// Returns whether the application was asked for a block in exactly this context.
     pub fn is_building(&self, context: &Context<D, S::PublicKey>) -> bool
         ensures { result ≡ list_any (is_asked_in D.eq context.now) self.now.builds.buildings.items }
     {
         self.builds.all().iter().any(|it| is_asked_in(it, context))
     }
 
-    /// Whether the application was asked for a block in the view.
+    /// Returns whether the application was asked for a block in the view.
     fn is_asked(&self, view: View) -> bool
         ensures { result ≡ list_any (is_asked_at view) self.now.builds.buildings.items }
     {
         self.builds.all().iter().any(|it| is_asked_at(it, view))
     }
 
-    /// What is built in the view is of no use any more.
+    /// Stops building in the view.
     pub(super) fn stop_building(&mut self, view: View) -> Result<(), AllocError>
         ensures { OnOk result (IsStopped view self.old self.new) }
     {
@@ -98,7 +103,7 @@ impl<S: CertificateScheme, D: Digest> Plan<S, D> {
         self.push_stop(view, is_reported)
     }
 
-    /// The application is told that what it builds in the view is of no use any more, where it was asked for it.
+    /// Has the application stop building in the view, if it was asked to build.
     fn push_stop(&mut self, view: View, is_reported: bool) -> Result<(), AllocError>
         ensures { OnOk result (HasPlanned (stopping view is_reported) self.old self.new) }
     {
@@ -108,7 +113,7 @@ impl<S: CertificateScheme, D: Digest> Plan<S, D> {
         Ok(())
     }
 
-    /// Nothing is built in the view any more.
+    /// Removes the view's block.
     pub(super) fn end_building(&mut self, view: View)
         ensures { IsEnded view self.old self.new }
     {

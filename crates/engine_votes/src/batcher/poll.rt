@@ -15,7 +15,7 @@ use simplex_types::types::{
 };
 use std::alloc::{AllocError, Global};
 
-/// What a member voted for, and its signature, of type `G`.
+/// The subject that a member voted for, and its signature, of type `G`.
 #[derive(Drop)]
 pub struct Ballot<D, G> {
     pub subject: Subject<D>,
@@ -39,7 +39,7 @@ fn make_room<D: Copy, G: Drop>(
     Ok(())
 }
 
-/// The vote that is held of the member.
+/// Returns the stored vote of the member.
 fn find<D, G>(slots: &[Option<Ballot<D, G>>], member: usize) -> Option<&Ballot<D, G>>
     ensures { option_copied result ≡ ballot_of slots.now member }
 {
@@ -49,7 +49,7 @@ fn find<D, G>(slots: &[Option<Ballot<D, G>>], member: usize) -> Option<&Ballot<D
     }
 }
 
-/// Whether the member's vote is held and is on the subject.
+/// Returns whether the member's vote is stored and is on the subject.
 fn is_on<D: Digest, G>(slots: &[Option<Ballot<D, G>>], member: usize, subject: &Subject<D>) -> bool
     ensures { result ≡ is_on D.eq subject.now (ballot_of slots.now member) }
 {
@@ -59,7 +59,7 @@ fn is_on<D: Digest, G>(slots: &[Option<Ballot<D, G>>], member: usize, subject: &
     }
 }
 
-/// How many of the first so many members voted for the subject.
+/// Returns how many of the first members, up to this number, voted for the subject.
 fn count_on<D: Digest, G>(
     slots: &[Option<Ballot<D, G>>],
     members: u32,
@@ -76,7 +76,7 @@ fn count_on<D: Digest, G>(
     count
 }
 
-/// The member's signature, where its vote is held and is on the subject.
+/// Returns the member's signature, if its vote is stored and is on the subject.
 fn signature_on<S: CertificateScheme, D: Digest>(
     alloc: Global,
     slots: &[Option<Ballot<D, S::Signature>>],
@@ -92,7 +92,7 @@ fn signature_on<S: CertificateScheme, D: Digest>(
     }
 }
 
-/// The signature of a vote, where that is on the subject.
+/// Returns the signature of a vote, if that is on the subject.
 fn copy_on<S: CertificateScheme, D: Digest>(
     alloc: Global,
     ballot: &Ballot<D, S::Signature>,
@@ -108,7 +108,7 @@ fn copy_on<S: CertificateScheme, D: Digest>(
     }
 }
 
-/// The signatures on the subject of the first so many members, by rising member.
+/// Returns the signatures on the subject of the first members, up to this number, by rising member.
 fn collect_on<S: CertificateScheme, D: Digest>(
     alloc: Global,
     slots: &[Option<Ballot<D, S::Signature>>],
@@ -126,7 +126,7 @@ fn collect_on<S: CertificateScheme, D: Digest>(
     Ok(signatures)
 }
 
-/// The certificate of the votes for the subject, where they are just a quorum.
+/// Returns the certificate of the votes for the subject, if they are exactly a quorum.
 pub(super) fn certificate_on<S: Assembly<D>, D: Digest>(
     alloc: Global,
     scheme: &S,
@@ -147,7 +147,7 @@ pub(super) fn certificate_on<S: Assembly<D>, D: Digest>(
     Ok(Some(scheme.assemble(alloc, subject, signatures.as_slice())?))
 }
 
-/// The certificate of the subject's kind, on the subject.
+/// Returns the certificate of the subject's kind, on the subject.
 fn wrap<S: CertificateScheme, D: Digest>(
     subject: Subject<D>,
     certificate: S::Certificate,
@@ -167,8 +167,8 @@ fn wrap<S: CertificateScheme, D: Digest>(
     }
 }
 
-/// What a further vote of a member comes to, whose first one is the ballot. One pair is evidence enough: a member that signs ever more
-/// votes, or whose two votes are passed on again and again, would else fill a log.
+/// Counts a further vote of a member, whose first one is the ballot. One pair is evidence enough: a member that signs ever more votes, or
+/// whose two votes are sent again and again, would otherwise fill a log.
 fn count_again<S: CertificateScheme, D: Digest>(
     alloc: Global,
     ballot: &Ballot<D, S::Signature>,
@@ -198,7 +198,8 @@ fn take<S: Assembly<D>, D: Digest>(
     requires members { length (S.participants scheme.now) ≡ members }
     requires room { vote.signer < vec_len slots.old }
     requires first { ballot_of slots.old.items vote.signer ≡ None }
-    ensures counted { IfOk result (IsCountedIn D.eq (S.IsMadeOf scheme.now) members slots.old.items vote slots.new.items) }
+    ensures counted { IfOk result
+        (IsCountedIn D.eq (S.IsMadeOf scheme.now) members slots.old.items vote slots.new.items) }
     ensures kept { OnErr result (HoldsTheSame slots.old.items slots.new.items) }
 {
     let member = vote.signer.get() as usize;
@@ -218,7 +219,7 @@ fn take<S: Assembly<D>, D: Digest>(
     }
 }
 
-/// Whether two votes that contradict each other are returned.
+/// Returns whether the result is two votes that contradict each other.
 fn is_pair<S: CertificateScheme, D: Digest>(counted: &Counted<S, D>) -> bool
     ensures { result ≡ is_pair counted.now }
 {
@@ -245,7 +246,8 @@ pub(super) fn count<S: Assembly<D>, D: Digest>(
     vote: Vote<D, S::Signature>,
 ) -> Result<Counted<S, D>, AllocError>
     requires { length (S.participants scheme.now) ≡ members }
-    ensures counted { IfOk result (IsCountedIn D.eq (S.IsMadeOf scheme.now) members slots.old.items vote slots.new.items) }
+    ensures counted { IfOk result
+        (IsCountedIn D.eq (S.IsMadeOf scheme.now) members slots.old.items vote slots.new.items) }
     ensures kept { OnErr result (HoldsTheSame slots.old.items slots.new.items) }
 {
     let member = vote.signer.get() as usize;

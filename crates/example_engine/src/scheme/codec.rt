@@ -1,4 +1,4 @@
-//! Signatures and certificates as bytes, and read back.
+//! Signatures and certificates as bytes, and their decoding.
 
 use super::{MemberKey, Seal, SealScheme, Signature};
 use bytes::{BufMut, BytesMut};
@@ -12,7 +12,7 @@ impl SchemeCodec for SealScheme {
 
     ghost signature_of = { signature_from_bytes };
 
-    /// Any bytes are a certificate's; whether it is good is tested by `Scheme::verify`.
+    /// Reads a certificate from any bytes; `Scheme::verify` checks whether it is valid.
     fn read_certificate(alloc: Global, bytes: &[u8]) -> Result<Option<Seal>, AllocError> {
         Ok(Some(Seal {
             signers: Vec::from_slice(alloc, bytes)?,

@@ -1,4 +1,4 @@
-//! What comes in: signatures and certificates are tested, and then the engine is told.
+//! Inputs: a member verifies signatures and certificates, and then passes them to the engine.
 
 use super::Node;
 use crate::message::{Ballot, Message, proposal_of};
@@ -24,7 +24,7 @@ impl Node {
         self.settle(now)
     }
 
-    /// A vote of good signature. One to notarize is a proposal too, where its member leads.
+    /// Takes a vote with a valid signature. One to notarize is a proposal too, if its member leads.
     fn take_vote(&mut self, vote: Ballot, now: u64) -> Result<(), Fault> {
         let is_good = self
             .scheme
@@ -42,7 +42,7 @@ impl Node {
         Ok(())
     }
 
-    /// A certificate that is good.
+    /// Takes a valid certificate.
     fn take_certificate(&mut self, proof: Proof, now: u64) -> Result<(), Fault> {
         let is_good = match &proof {
             Proof::Notarization(it) => self

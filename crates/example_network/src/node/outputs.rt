@@ -1,4 +1,4 @@
-//! What the engine hands out, carried out in order.
+//! The engine's outputs, carried out in order.
 
 use super::Node;
 use crate::message::{Message, copy_vote};
@@ -12,11 +12,11 @@ use simplex_engine::input::Input;
 use simplex_member::member::Stored;
 use simplex_types::types::{Context, Fault, View};
 
-/// The most outputs that are carried out in a row: a member alone goes from view to view without an event.
+/// The most outputs that are carried out in a row: a lone member enters view after view without an event.
 const MOST_OUTPUTS: u32 = 10_000;
 
 impl Node {
-    /// Polls the engine until it has nothing to hand out.
+    /// Polls the engine until it returns no output.
     pub(crate) fn settle(&mut self, now: u64) -> Result<(), Fault> {
         for _ in 0..MOST_OUTPUTS {
             let Some(engine) = &mut self.engine else {
@@ -91,7 +91,7 @@ impl Node {
         self.send_to_all(Message::Certificate(certificate))
     }
 
-    /// A proposal is valid where its block is one of the two that may be built on its parent.
+    /// Verifies a proposal: it is valid if its block is one of the two that may be built on its parent.
     fn verify(
         &mut self,
         context: &Context<BlockDigest, MemberKey>,

@@ -1,15 +1,15 @@
-//! Evidence against a member, for who makes it answer: two of its votes that alone show that it broke a rule.
+//! Evidence that makes a member accountable: two of its votes that alone show that it broke a rule.
 
 ghost use Rattle.std.specs.Prelude.{◌≡◌, ◌≢◌, ◌↔◌, true, IsTrue};
 ghost use Rattle.lawful_member.specs.Evidence.{signed_vote_in, AreEvidence, ShowsABrokenRule};
 
 use simplex_types::types::{Artifact, CertificateScheme, Digest, Proposal};
 
-/// Whether two artifacts are votes of one member, in one epoch, that alone show that it broke a rule: two to notarize one view
-/// or two to finalize it, on two proposals, or one to nullify a view and one to finalize it. No member that runs this code ever
-/// gives such votes, in whichever of its lives.
+/// Returns whether two artifacts are votes of one member, in one epoch, that alone show that it broke a rule: two to notarize one
+/// view or two to finalize it, on two proposals, or one to nullify a view and one to finalize it. No member that runs this code
+/// ever gives such votes, in any of its lifetimes.
 ///
-/// That each signature is the member's is the caller's to verify; of signatures nothing is looked at.
+/// The caller must verify that each signature is the member's; this function does not read signatures.
 pub fn is_evidence<S: CertificateScheme, D: Digest>(
     first: &Artifact<S, D>,
     second: &Artifact<S, D>,
@@ -20,7 +20,7 @@ pub fn is_evidence<S: CertificateScheme, D: Digest>(
     contradict(first, second)
 }
 
-/// Whether they are such votes.
+/// Returns whether they are such votes.
 fn contradict<S: CertificateScheme, D: Digest>(
     first: &Artifact<S, D>,
     second: &Artifact<S, D>,
@@ -53,7 +53,7 @@ fn contradict<S: CertificateScheme, D: Digest>(
     }
 }
 
-/// Whether two proposals are of one round, and differ.
+/// Returns whether two proposals are of one round, and differ.
 fn are_rivals<D: Digest>(one: &Proposal<D>, other: &Proposal<D>) -> bool
     ensures same_round { result ≡ true → one.now.round ≡ other.now.round }
     ensures apart { result ≡ true → one.now ≢ other.now }

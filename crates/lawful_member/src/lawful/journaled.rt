@@ -18,7 +18,7 @@ impl<S: Scheme<D>, L: Elector<S>, D: Digest> LawfulMember<S, L, D> {
     ghost use Rattle.laws_safety.specs.MemberHistory.{HasContinued};
     ghost use Rattle.simplex_member.specs.OutstandingWork.{is_offered};
 
-    /// The state, while the member has not failed: it has a floor, and has not failed either.
+    /// The state while the member has not failed: it has a floor, and has not failed either.
     pub fn state(&self) -> Option<&State<S, L, D>>
         ensures life { option_copied result ≡ self.now.facts.life }
         ensures started { IfSome result (λ state. (state.now.failed ≡ false) × (is_started state.now ≡ true)) }
@@ -42,7 +42,7 @@ impl<S: Scheme<D>, L: Elector<S>, D: Digest> LawfulMember<S, L, D> {
         self.member.record()
     }
 
-    /// What was recorded after the first `count` entries: nothing, where there are no more.
+    /// Returns the entries recorded after the first `count`: none, if there are no more.
     pub fn record_since(&self, count: usize) -> &[Artifact<S, D>]
         ensures entries { entries_of S.certificate_bytes result.now ≡ drop count self.now.facts.entries }
         ensures votes { votes_of result.now ≡ votes_since count self.now }
@@ -50,18 +50,18 @@ impl<S: Scheme<D>, L: Elector<S>, D: Digest> LawfulMember<S, L, D> {
         self.member.record_since(count)
     }
 
-    /// What a journal stores beside the record.
+    /// Returns what a journal stores beside the record.
     pub fn stored(&self) -> Stored
         ensures { result ≡ stored_of self.now.facts }
     {
         self.member.stored()
     }
 
-    /// A member that goes on from its journal, as `Member::resume` makes it, or refuses with its errors and the entries.
+    /// Resumes a member from its journal, as `Member::resume` does, or is refused with its errors and the entries.
     ///
-    /// The elector's members are the scheme's participants.
-    /// - `continues`: in terms of the same length and with the key of the same member or none, what was done by the member that
-    ///   the journal was stored of stays done, and the floor's finalization is accepted too.
+    /// The elector's members must be the scheme's participants.
+    /// - `continues`: in terms of the same length and with the key of the same member or none, what the member whose journal this
+    ///   is did remains done, and the floor's finalization is accepted too.
     pub fn resume(
         alloc: Global,
         start: Start<S, L, D>,

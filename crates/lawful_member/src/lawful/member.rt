@@ -1,4 +1,4 @@
-//! Members whose trace so far keeps the laws, by the code's own steps and replies: a whole run, and a member that goes on.
+//! Members whose trace so far keeps the laws, by the code's own steps and replies: a whole run, and a member that continues.
 
 ghost use Rattle.std.specs.Prelude.{◌≡◌, ℕ, IfOk, IfErr, IfSome, length};
 ghost use Rattle.simplex_member.specs.Runs.{AreSetUp, EndsRunFrom, steps_of};
@@ -16,14 +16,13 @@ use std::marker::Model;
 
 /// Starts a member and takes the steps in order, as `run` does: what it accepted and signed keeps the laws.
 ///
-/// - `exact`: each request for a vote is answered exactly by its rule, and nothing else by a vote.
-/// - `ran`: where each life has terms of one length, not 0, and signs as member `i` or not at all, `AllStartAs`, this is what
-///   member `i` of a network does, so `agreement` tells of it.
-/// - `shows`: its trace is the certificates and the votes that the steps and the replies show: each certificate that a call
-///   hands in and is told whether it is new, the floor's finalization of the start and of each restart that succeeds, and each
-///   vote in a reply.
-/// - `lawful`: they keep the voting rules, over all its lives.
-/// - `ended`: it ends early as `run` does, with the error of a start or a restart that is refused, or with `OutOfMemory`.
+/// - `exact`: the reply to each request for a vote is exactly by its rule, and no other call returns a vote.
+/// - `ran`: if each lifetime has terms of one length, not 0, and signs as member `i` or not at all, `AllStartAs`, this is what
+///   member `i` of a network does, so `agreement` applies to it.
+/// - `shows`: its trace is what the steps and the replies show. These are each certificate that a call passes in and whose reply
+///   says whether it is new, the floor's finalization of the start and of each restart that succeeds, and each vote in a reply.
+/// - `lawful`: they keep the voting rules, over all its lifetimes.
+/// - `ended`: it ends early as `run` does, with the error of a refused start or restart, or with `OutOfMemory`.
 pub fn run_lawfully<S: Scheme<D>, L: Elector<S>, D: Digest>(
     alloc: Global,
     start: Start<S, L, D>,
@@ -38,9 +37,11 @@ pub fn run_lawfully<S: Scheme<D>, L: Elector<S>, D: Digest>(
         → IsExecution D.eq L.elect term_length i
         (execution_of S.me S.participants L.terms L.elects_early S.certificate_bytes start steps.items replies.items)) }
     ensures shows { IfOk result (λ replies.
-        trace_of (execution_of S.me S.participants L.terms L.elects_early S.certificate_bytes start steps.items replies.items)
+        trace_of (execution_of S.me S.participants L.terms L.elects_early S.certificate_bytes start
+        steps.items replies.items)
         ≡ shown_trace start steps.items replies.items) }
-    ensures lawful { IfOk result (λ replies. (term_length i : ℕ) → AllStartAs S.me L.terms term_length i start steps.items
+    ensures lawful { IfOk result
+        (λ replies. (term_length i : ℕ) → AllStartAs S.me L.terms term_length i start steps.items
         → IsLawful term_length (shown_trace start steps.items replies.items)) }
     ensures ended { IfErr result (EndsRunFrom D.eq L.elect
         (start_facts S.me S.participants L.terms L.elects_early S.certificate_bytes start)
@@ -49,11 +50,11 @@ pub fn run_lawfully<S: Scheme<D>, L: Elector<S>, D: Digest>(
     run(alloc, start, steps)
 }
 
-/// A member that a driver keeps, with the law of its votes at each moment.
+/// A member for a host, with the law of its votes at each moment.
 ///
-/// `HasHistory` says what its trace is so far, and as which member of a network: `start` begins the list, `resume` goes on
-/// with that of an ended member, each method says what it adds, read off its arguments and its reply, and `keeps_the_laws` says
-/// what holds of the whole.
+/// `HasHistory` says what its trace is so far, and as which member of a network. `start` begins the list, and `resume` continues that
+/// of an ended member. Each method states what it adds, read off its arguments and its reply, and `keeps_the_laws` states what
+/// holds of the whole.
 #[derive(Drop)]
 pub struct LawfulMember<S: CertificateScheme, L: Elector<S>, D: Digest> {
     pub(super) member: Member<S, L, D>,
@@ -86,10 +87,10 @@ impl<S: Scheme<D>, L: Elector<S>, D: Digest> LawfulMember<S, L, D> {
     ghost use Rattle.laws_safety.specs.RecordsOnce.{HoldsEachEntryOnce};
     ghost use Rattle.laws_safety.specs.ObservedTraces.{votes_in, taken_by};
 
-    /// A member at a floor, as `Member::start` makes it or refuses.
+    /// Starts a member at a floor, as `Member::start` does, with the same errors.
     ///
-    /// The elector's members are the scheme's participants. `OtherEpoch`, `ZeroView` or `ViewTooLarge` where the floor's
-    /// finalization is of another epoch or of view 0, or names a view above 2^63 - 1; `TimeOverflow` where a deadline passes
+    /// The elector's members must be the scheme's participants. Returns `OtherEpoch`, `ZeroView` or `ViewTooLarge` if the floor's
+    /// finalization is of another epoch or of view 0, or names a view above 2^63 - 1; `TimeOverflow` if a deadline passes
     /// 2^64 - 1 milliseconds; `OutOfMemory`.
     /// - `begins`: it has accepted the floor's finalization, if there is one, and done nothing else.
     pub fn start(
@@ -113,30 +114,33 @@ impl<S: Scheme<D>, L: Elector<S>, D: Digest> LawfulMember<S, L, D> {
 
     /// Makes a call of the state, as `Member::call` does.
     ///
-    /// - `answered`: with its answer, or refused, or not allowed, and then nothing is changed but for a member that fails for
-    ///   want of memory.
-    /// - `signed`: a vote that is answered is signed on just what it is on, under the member's key.
-    /// - `votes`: the record holds each vote that is answered, with the very signature that is handed out.
-    /// - `grown`: the record is as it was, with more behind it.
+    /// - `answered`: it returns the call's reply; or it is refused, or not allowed, and then nothing is changed except that a
+    ///   member out of memory may have failed.
+    /// - `signed`: a returned vote is signed on exactly its subject, under the member's key.
+    /// - `votes`: the record holds each returned vote, with the very signature that is returned.
+    /// - `grown`: the record is as it was, with more after it.
     /// - `stored`: what a journal stores beside the record stays.
-    /// - `exact`: a request for a vote is answered exactly by its rule, and nothing else by a vote.
-    /// - `continues`: what the member has done grows by the certificate that is accepted and the vote that is told.
+    /// - `exact`: the reply to a request for a vote is exactly by its rule, and no other call returns a vote.
+    /// - `continues`: what the member has done grows by the accepted certificate and the returned vote.
     pub fn call(&mut self, call: Call<S, D>) -> Reply<S, D>
         ensures of_its_kind { is_reply_to (told S.certificate_bytes result) (asked S.certificate_bytes call) ≡ true }
-        ensures answered { IsCall D.eq L.elect self.old.facts (asked S.certificate_bytes call) (told S.certificate_bytes result) self.new.facts }
+        ensures answered { IsCall D.eq L.elect self.old.facts (asked S.certificate_bytes call)
+            (told S.certificate_bytes result) self.new.facts }
         ensures signed { IfSome self.old.facts.life (IsSignedReply S.IsSignature result) }
         ensures votes { self.new.votes ≡ self.old.votes ++ signed_reply result }
         ensures grown { HasGrown self.old.facts self.new.facts }
         ensures stored { stored_of self.new.facts ≡ stored_of self.old.facts }
-        ensures exact { ExactAt D.eq L.elect self.old.facts.life (Calls (asked S.certificate_bytes call)) (told S.certificate_bytes result) }
-        ensures continues { ExtendsHistory D.eq L.elect self.old.facts (taken_by call result ++ votes_in result) self.new.facts }
+        ensures exact { ExactAt D.eq L.elect self.old.facts.life (Calls (asked S.certificate_bytes call))
+            (told S.certificate_bytes result) }
+        ensures continues { ExtendsHistory D.eq L.elect self.old.facts
+            (taken_by call result ++ votes_in result) self.new.facts }
     {
         self.member.call(call)
     }
 
-    /// Prunes the record within the life, as `Member::prune_record` does.
+    /// Prunes the record within the lifetime, as `Member::prune_record` does.
     ///
-    /// - `continues`: what the member has done stays, also what goes from its record.
+    /// - `continues`: what the member has done stays, also what is removed from its record.
     pub fn prune_record(&mut self)
         ensures pruned { self.new.facts ≡ pruned_member self.old.facts }
         ensures votes { self.new.votes ≡ votes_within self.old.facts self.old.votes }
@@ -145,30 +149,33 @@ impl<S: Scheme<D>, L: Elector<S>, D: Digest> LawfulMember<S, L, D> {
         self.member.prune_record()
     }
 
-    /// Begins another life from what is left of the record, as `Member::restart` does, or is refused with its errors.
+    /// Begins another lifetime from what is left of the record, as `Member::restart` does, or is refused with its errors.
     ///
-    /// The elector's members are the scheme's participants.
-    /// - `continues`: in terms of the same length and with the key of the same member or none, what the member has done stays,
-    ///   also what is dropped from its record or pruned; where the restart succeeds the floor's finalization is accepted too.
+    /// The elector's members must be the scheme's participants.
+    /// - `continues`: in terms of the same length and with the key of the same member or none, what the member has done stays, also
+    ///   what is dropped from its record or pruned; if the restart succeeds the floor's finalization is accepted too.
     pub fn restart(&mut self, restart: Restart<S, L, D>) -> Result<(), RecoverError>
         requires { L.members restart.start.settings.elector ≡ length (S.participants restart.start.settings.scheme) }
         ensures restarted { IsRestart D.eq L.elect self.old.facts
-            (restart_facts S.me S.participants L.terms L.elects_early S.certificate_bytes restart) result self.new.facts }
+            (restart_facts S.me S.participants L.terms L.elects_early S.certificate_bytes restart)
+            result self.new.facts }
         ensures votes { self.new.votes
-            ≡ votes_left self.old.facts (restart_facts S.me S.participants L.terms L.elects_early S.certificate_bytes restart) self.old.votes }
+            ≡ votes_left self.old.facts
+            (restart_facts S.me S.participants L.terms L.elects_early S.certificate_bytes restart) self.old.votes }
         ensures continues { HasRestarted D.eq L.elect S.me L.terms self.old.facts restart.start result self.new.facts }
     {
         self.member.restart(restart)
     }
 
-    /// The laws of all that the member has done so far. It does nothing: its contract is the law.
+    /// The laws of all that the member has done so far. The function does nothing: its contract is the law.
     ///
-    /// - `lawful`: its trace keeps the voting rules, over all its lives.
+    /// - `lawful`: its trace keeps the voting rules, over all its lifetimes.
     /// - `ran`: a network of `agreement` may have it as member `i`.
     /// - `once`: its record holds each entry once, and of each view at most seven.
     pub fn keeps_the_laws(&self)
         ensures lawful { OfEachHistory D.eq L.elect self.now.facts (λ term_length i all. IsLawful term_length all) }
         ensures ran { OfEachHistory D.eq L.elect self.now.facts (MayBeHistoryOf S.PublicKey D.eq L.elect) }
-        ensures once { OfEachHistory D.eq L.elect self.now.facts (λ term_length i all. HoldsEachEntryOnce self.now.facts) }
+        ensures once { OfEachHistory D.eq L.elect self.now.facts
+            (λ term_length i all. HoldsEachEntryOnce self.now.facts) }
     {}
 }

@@ -1,4 +1,4 @@
--- What a certificate that is handed in says of the work on a view, in one shape for all of them.
+-- What a certificate that is passed in says of the work on a view, in one shape for all of them.
 use Rattle.std.proofs.Common.{◌≡◌, refl, ap, sym, ◌∙◌, ℕ, ◌+◌, Bool, true, false, ◌&&◌, ◌||◌, not, if◌then◌else◌, Option, Some, None, is_some, unwrap_or, option_map}
 use Rattle.std.specs.Option.{option_or}
 use Rattle.simplex_round.specs.declared.round.Leader.{Leader}
@@ -23,7 +23,7 @@ pub record SaidOfView (K : Type 0) : Type 0 where
   pub here : Bool
   pub next : Bool
   pub opened : Bool
-  -- it contradicts what was held
+  -- it contradicts what was stored
   pub overruled : Bool
   pub entry : Option ℕ
   pub from : Option Certification

@@ -20,7 +20,7 @@ use Rattle.laws_history.specs.OwnWork.{contradicts}
 use Rattle.laws_history.specs.WorkRequests.{ends_certification}
 use Rattle.laws_history.proofs.Worked.{Worked, work_in, work_of, work_put, work_elsewhere}
 
--- with a certificate of the view, which overrules what was held or not
+-- with a certificate of the view, which overrules what was stored or not
 abbrev pub with_settled : {K D : Type 0} → Bool → Bool → Worked K D → Worked K D
 with_settled here overruled k = record k {
   tracked = here || k.tracked;
@@ -33,7 +33,7 @@ with_settled here overruled k = record k {
 abbrev pub settled_by : {D : Type 0} → ProposalFacts D → Bool → ℕ → Option (Proposal D)
 settled_by c first v = if eqb v c.proposal.round.view && first then Some c.proposal else None
 
--- with a certification that goes on from then
+-- with a certification that continues from then
 abbrev pub with_certification : {K D : Type 0} → Option Certification → Worked K D → Worked K D
 with_certification from k = record k { certification = unwrap_or from k.certification }
 

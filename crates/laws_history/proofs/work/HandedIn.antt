@@ -1,4 +1,4 @@
--- What the certificates and the floor that are handed in say of the work on a view.
+-- What the certificates and the floor that are passed in say of the work on a view.
 use Rattle.std.proofs.Common.{◌≡◌, ◌⊎◌, inl, inr, refl, ap, sym, ◌∙◌, ℕ, ◌+◌, Bool, true, false, ◌&&◌, ◌||◌, eqb, nat_lt, nat_le, max, if◌then◌else◌, Option, Some, None, is_some, unwrap_or, arith}
 use Rattle.std.specs.Prelude.{is_none}
 use Rattle.std.proofs.Math.Bool.{and-true, or-true, or-false, and-false}
@@ -278,7 +278,7 @@ module _ {K L D : Type 0} (same : D → D → Bool) (elect : Elect L) (x : State
               ∙ named_later (wakes elect x (max x.finalized u) u v) gone (is_among v x.named)
           first (Some s) = dropped v
 
-  -- the floor's finalization says what a finalization says, and is handed out
+  -- the floor's finalization says what a finalization says, and is returned
   pub floor_finalization_works : WorkFollows same elect (SetFloor (Finalized c) now) x (after_set_floor same elect x (Finalized c) now)
   floor_finalization_works = record {
     me = f.me;

@@ -28,7 +28,7 @@ module _ {V : Type 0} (test : ℕ × V → Bool) (w : ℕ) (empty : V) (fails : 
   twice true b = refl
   twice false b = refl
 
-  -- what comes to nothing behind a test comes to nothing before it
+  -- what changes nothing after a test changes nothing before it
   behind : (a b c : Bool) → (a || c) ≡ c → (a || (b || c)) ≡ (b || c)
   behind true true c is = refl
   behind true false c is = is

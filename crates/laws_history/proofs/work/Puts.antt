@@ -1,4 +1,4 @@
--- What histories say of the work on each view, where another round stands at a tracked one.
+-- What histories say of the work on each view, where another round is put at a tracked one.
 use Rattle.std.proofs.Common.{◌≡◌, refl, ap, sym, ◌∙◌, ℕ, ◌≤◌, Bool, true, false, ◌&&◌, eqb, if◌then◌else◌, nat_lt, List, Option, None, arith, inl, inr}
 use Rattle.std.proofs.Math.Bool.{and-false}
 use Rattle.std.proofs.lemmas.Bool.{cases_eq, eq-eqb, ne_eqb}
@@ -41,7 +41,7 @@ module _ {K L D : Type 0} (x : StateFacts K L D) where
       either true = refl
       either false = refl
 
-  -- the work on each view where another round is to stand at one
+  -- the work on each view where another round is to be put at one
   work_tracked : (v w : ℕ) (r : RoundFacts K D) → work_of (with_tracked x v r) w ≡ (if is_at x w v then work_in true r else work_of x w)
   work_tracked v w r = by_tracked (is_tracked x v)
     where
@@ -76,7 +76,7 @@ module _ {K L D : Type 0} (same : D → D → Bool) (elect : Elect L) (x : State
       a : StateFacts K L D
       a = at_moment x now
 
-      -- of the view it says what the round holds, of others nothing
+      -- of the view it says what the round has, of others nothing
       silent : (w : ℕ) → is_at x w v ≡ false → (if is_at x w v then work_in true r else work_of x w) ≡ adds_work same elect x e w (work_of x w)
       silent w apart = rw apart (sym (idle w apart (work_of x w)))
 

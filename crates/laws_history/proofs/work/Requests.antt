@@ -172,7 +172,7 @@ module _ {K L D : Type 0} (same : D → D → Bool) (elect : Elect L) (x : State
       idle : (w : ℕ) → is_at x w v ≡ false → SaysNoWork same elect x e w
       idle w apart k = rw (unentered x e w refl, untimed x.settings k.decision, apart) refl
 
-  -- no view waits for certification once the candidates were handed out
+  -- no view waits for certification once the candidates were returned
   pub candidates_works : WorkFollows same elect CertifyCandidates x (after_candidates x)
   candidates_works = record { me = refl; members = refl; elector = refl; elects_early = refl; failed = refl; named = λ v. refl; work = λ v _. sym (idle v (work_of x v)) }
     where

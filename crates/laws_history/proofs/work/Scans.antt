@@ -16,7 +16,7 @@ use Rattle.laws_history.proofs.Worked.{Worked, work_in, work_of, timed, adds_wor
 use Rattle.laws_history.proofs.work.Puts.{unentered, shared_follows}
 use Rattle.laws_history.proofs.work.Timeouts.{latched_timed}
 
--- the work on a view, with what a scan makes of it where the view's proposal stands so
+-- the work on a view, with what a scan makes of it where the view's proposal is in this state
 abbrev stood : {K D : Type 0} → Settings → (moment : ℕ) → (held : Option (Proposal D)) → Standing D → Worked K D → Worked K D
 stood settings moment held s k = record k {
   verify_requested = is_given_out s || k.verify_requested;

@@ -28,7 +28,7 @@ use Rattle.laws_history.proofs.work.NextView.{prepared_only, prepared_work, prep
 use Rattle.laws_history.proofs.work.WithoutMoment.{IsUnmoved, adds_unmoved, unmoved_adds, put_work}
 
 module _ {D : Type 0} (same : D → D → Bool) (s : SlotFacts D) (p : Proposal D) where
-  -- the slot after a proposal was heard of, where this is held
+  -- the slot after a proposal was received, where this is stored
   abbrev received_by : Option (Proposal D) → SlotFacts D
   received_by held =
       option_map_or
@@ -36,7 +36,7 @@ module _ {D : Type 0} (same : D → D → Bool) (s : SlotFacts D) (p : Proposal 
       held
       (record s { held = Some p })
 
-  -- another one than the held one is not verified, and none is asked for
+  -- another one than the stored one is not verified, and none is asked for
   heard_verified : (held : Option (Proposal D)) → (received_by held).verified ≡ unwrap_or (if contradicts same held (Some p) then Some false else None) s.verified
   heard_verified None = refl
   heard_verified (Some h) = by_same (same_proposal same h p)

@@ -75,7 +75,7 @@ module _ {K L D : Type 0} where
   abbrev over : StateFacts K L D → List ℕ → StateFacts K L D
   over x views = fold (λ y w. with_leader_of y (w - 1) w) x views
 
-  -- the nearest leader goes on to a view, unless one is set there
+  -- the nearest leader continues to a view, unless one is set there
   abbrev reaches : StateFacts K L D → Option (Leader K) → Worked K D → Worked K D
   reaches x leader k = with_leader (is_some leader) (same_member x leader) k
 

@@ -48,7 +48,7 @@ each_lives (suc (suc zero)) s at = let same : idle 2 ≡ s = cc in (state 2, sub
 each_lives (suc (suc (suc zero))) s at = let same : idle 3 ≡ s = cc in (state 3, subst (λ t. RunsWith nat_eq in_turn t (state 3)) same (lives 3), knows 3)
 each_lives (suc (suc (suc (suc i)))) s at = absurd (cc)
 
--- so is the rest but that it is a network, and it goes on
+-- so is the rest except that it is a network, and it can finalize
 each_ran : (i : ℕ) (s : Execution ℕ ℕ ℕ) → slice_get with_first_leader i ≡ Some (Honest s) → (i < 4) × (s ≡ idle i)
 each_ran zero s at = absurd (cc)
 each_ran (suc zero) s at = (omega arith, cc)

@@ -28,7 +28,7 @@ some_is : {A : Type 0} (o : Option A) (a : A) → is_some o ≡ true → o ≡ S
 some_is None a is = absurd (false≢true is)
 some_is (Some b) a is = refl
 
--- where it lives
+-- where it has not failed
 pub lives_there : (s : Execution ℕ ℕ ℕ) → FitsIn s → told_in s ≡ s.replies → is_some (end_from nat_eq in_turn (new_member nat_eq in_turn s.start) s.steps).life ≡ true → RunsWith nat_eq in_turn s (state_at_end s)
 lives_there s fits told alive =
     let m = new_member nat_eq in_turn s.start in (
@@ -37,8 +37,8 @@ lives_there s fits told alive =
       some_is (end_from nat_eq in_turn m s.steps).life (new_state s.start.setup) alive,
     )
 
--- what is computed of a member: it is told what its execution says, lives at the end, was set up so, and its view lies below the
--- start, which it doesn't know
+-- what is computed of a member: it received what its execution says, has not failed at the end, was set up so, and its view lies below the start,
+-- which it doesn't know
 pub record IsWorked (term_length start i : ℕ) (s : Execution ℕ ℕ ℕ) : Type 0 where
   pub told : told_in s ≡ s.replies
   pub alive : is_some (end_from nat_eq in_turn (new_member nat_eq in_turn s.start) s.steps).life ≡ true
@@ -46,11 +46,11 @@ pub record IsWorked (term_length start i : ℕ) (s : Execution ℕ ℕ ℕ) : Ty
   pub unknown : is_tracked (state_at_end s) start ≡ false
   pub below : nat_lt (state_at_end s).current start ≡ true
 
--- so it lives
+-- so it has not failed
 pub lives_by : (term_length start i : ℕ) (s : Execution ℕ ℕ ℕ) → FitsIn s → IsWorked term_length start i s → (x : StateFacts ℕ ℕ ℕ) × RunsWith nat_eq in_turn s x × (IsSetUpAs 1 4 term_length i x × (is_tracked x start ≡ false) × (x.current < start))
 lives_by term_length start i s fits worked = (state_at_end s, lives_there s fits worked.told worked.alive, (worked.set_up, worked.unknown, ltb-true (state_at_end s).current start worked.below))
 
--- each honest member lives so, one after another
+-- the same for each honest member, one after another
 abbrev pub AllLive : (ℕ → StateFacts ℕ ℕ ℕ → Type 0) → List (Replica ℕ ℕ ℕ) → Type 0
 AllLive P [] = Unit {0}
 AllLive P (Faulty ∷ network) = AllLive (λ i. P (suc i)) network
@@ -65,7 +65,7 @@ each_lives_so P (Honest t ∷ network) all zero s at =
     (all.0.0, subst (λ u. RunsWith nat_eq in_turn u all.0.0) one all.0.1, all.0.2)
 each_lives_so P (Honest t ∷ network) all (suc i) s at = each_lives_so (λ i. P (suc i)) network all.1 i s at
 
--- no false verdict was told
+-- no false verdict was received
 abbrev pub refuses : List (Bool × Proposal ℕ) → Bool
 refuses verdicts = list_any (λ e. not e.0) verdicts
 
@@ -90,7 +90,7 @@ each_fine (Faulty ∷ network) all (suc i) s at = each_fine network all i s at
 each_fine (Honest t ∷ network) all zero s at = let one : t ≡ s = cc in subst (λ u. refuses (judged_of u) ≡ false) one all.0
 each_fine (Honest t ∷ network) all (suc i) s at = each_fine network all.1 i s at
 
--- so none stands
+-- so none is stored
 pub agree : (term_length : ℕ) (network : List (Replica ℕ ℕ ℕ)) → IsNetworkOf nat_eq in_turn term_length network → AllFine network → EachHonest network (λ i s. EachHonest network (λ j t. (x : StateFacts ℕ ℕ ℕ) (v : ℕ) → HasCertified 1 (judged_of s) v → RunsWith nat_eq in_turn t x → x.finalized < v → is_judged false (round_of x v).certification ≡ false))
 agree term_length network good all i s at j t from x v certified lives above = elim (cases_Bool (is_judged false (round_of x v).certification)) [
   | inr fine ↦ fine

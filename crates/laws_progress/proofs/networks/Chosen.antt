@@ -8,7 +8,7 @@ use Rattle.laws_safety.specs.Executions.{Execution}
 use Rattle.laws_progress.specs.NetworkStates.{RunsWith, EachRuns}
 
 module _ {K L D : Type 0} (same : D → D → Bool) (elect : Elect L) where
-  -- 0, where no member is honest; a member stands there, and each stands there or below
+  -- 0, if no member is honest; a member is there, and each is there or below
   pub record HighestCurrent (network : List (Replica K L D)) (P : ℕ → StateFacts K L D → Type 0) : Type 0 where
     pub top : ℕ
     pub has : (top ≡ 0) ⊎ SomeHonest network (λ i s. (x : StateFacts K L D) × RunsWith same elect s x × P i x × (x.current ≡ top))

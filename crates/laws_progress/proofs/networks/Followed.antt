@@ -1,4 +1,4 @@
--- A network whose honest members all go on.
+-- A network whose honest members all continue.
 use Rattle.std.proofs.Common.{◌≡◌, refl, sym, subst, inl, inr, ℕ, zero, suc, ◌+◌, ◌≤◌, List, [], ◌∷◌, length, slice_get, Contains, Some, arith}
 use Rattle.std.specs.Prelude.{⊤}
 use Rattle.simplex_types.specs.declared.types.messages.Subject.{Subject}
@@ -12,7 +12,7 @@ pub quorum_fits : (n f : ℕ) → f ≤ max_faults n → quorum n + f ≤ n
 quorum_fits n f few = omega arith
 
 module _ {K L D : Type 0} where
-  -- what all honest members have, so many have
+  -- what all honest members have, at least this number have
   pub honest_enough : (P : ℕ → Replica K L D → Type 0) (k count : ℕ) (network : List (Replica K L D)) → ((i j : ℕ) (s : Execution K L D) → slice_get network i ≡ Some (Honest s) → j ≡ k + i → P j (Honest s)) → count + faults network ≤ length network → AtLeastFrom k count P network
   honest_enough P k zero network each fits = tt
   honest_enough P k (suc count) [] each fits = absurd (omega arith)
@@ -20,7 +20,7 @@ module _ {K L D : Type 0} where
   honest_enough P k (suc count) (Honest s ∷ network) each fits = inl (each 0 k s refl (omega arith), honest_enough P (suc k) count network (λ i j t at is. each (suc i) j t at (omega arith)) (omega (arith, faults-cons (Honest s) network)))
 
 module _ {K L D : Type 0} (Q : ℕ → Execution K L D → Execution K L D → Type 0) where
-  -- each replica is the same member, and each honest one goes on so
+  -- each replica is the same member, and each honest one continues so
   abbrev pub ReplicasFollow : ℕ → List (Replica K L D) → List (Replica K L D) → Type 0
   ReplicasFollow k [] [] = ⊤
   ReplicasFollow k (Faulty ∷ network) (Faulty ∷ later) = ReplicasFollow (suc k) network later

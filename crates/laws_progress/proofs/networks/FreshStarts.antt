@@ -1,4 +1,4 @@
--- A term start that nobody touched, at which all honest members stand on one parent, is finalized.
+-- A term start that nobody touched, at which all honest members are on one parent, is finalized.
 use Rattle.std.proofs.Common.{◌≡◌, subst, ℕ, ◌<◌, Bool, true, List, length, slice_get, Some, arith}
 use Rattle.simplex_types.specs.declared.types.messages.Proposal.{Proposal}
 use Rattle.simplex_types.specs.declared.types.messages.Subject.TheVariants.{Finalize}

@@ -1,4 +1,4 @@
--- No network is stuck: its honest members meet below a start, give up term after term, and finalize the start.
+-- No network is stuck: its honest members meet below a start, abandon term after term, and finalize the start.
 use Rattle.std.proofs.Common.{◌≡◌, sym, inl, inr, ℕ, zero, suc, ◌+◌, ◌<◌, ◌≤◌, Bool, true, arith}
 use Rattle.std.proofs.lemmas.Bool.{cases_eq}
 use Rattle.simplex_types.specs.Terms.{term_start, next_term_start}

@@ -21,7 +21,7 @@ module _ {K L D : Type 0} where
   abbrev AreFaulty : List (Replica K L D) → ℕ → ℕ → Type 0
   AreFaulty network low high = (i : ℕ) → low ≤ i → i < high → slice_get network i ≡ Some Faulty
 
-  -- so many in a row
+  -- this number in a row
   a_row : (network : List (Replica K L D)) (from len : ℕ) → from + len ≤ length network → AreFaulty network from (from + len) → len ≤ faults network
   a_row network from zero fits all = omega arith
   a_row [] from (suc len) fits all = absurd (omega (arith, fits))

@@ -1,4 +1,4 @@
--- A network that goes on, and then goes on to finalize, goes on to finalize.
+-- A network that continues, and then can finalize, can finalize.
 use Rattle.std.proofs.Common.{◌≡◌, refl, sym, subst, ◌⊎◌, inl, inr, ℕ, zero, suc, Bool, List, [], ◌∷◌, length, slice_get, Contains, Some}
 use Rattle.simplex_types.specs.declared.types.messages.Proposal.{Proposal}
 use Rattle.simplex_types.specs.declared.types.messages.Subject.{Subject}

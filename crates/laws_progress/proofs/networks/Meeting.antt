@@ -1,4 +1,4 @@
--- Where all can come to stand together, the network goes on to finalize a later start.
+-- If all can come to one view, the network can finalize a later start.
 use Rattle.std.proofs.Common.{◌≡◌, ◌≤◌, Bool, true, length, arith}
 use Rattle.simplex_voter.specs.Facts.{Elect}
 use Rattle.laws_safety.specs.Replicas.{faults, max_faults}

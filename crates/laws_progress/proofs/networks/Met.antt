@@ -1,4 +1,4 @@
--- All honest members can come to stand at one view, on one parent, by what some of them accepted and certified.
+-- All honest members can come to one view, on one parent, by what some of them accepted and certified.
 use Rattle.std.proofs.Common.{◌≡◌, refl, ap, sym, ◌∙◌, subst, ◌⊎◌, inl, inr, ℕ, suc, ◌+◌, ◌<◌, ◌≤◌, max, Bool, true, false, List, [], ◌++◌, length, slice_get, map, Contains, Option, Some, None, is_some, unwrap_or, arith}
 use Rattle.std.proofs.lemmas.Bool.{cases_lt, cases_eq, false≢true, true≢false}
 use Rattle.std.proofs.lemmas.List.Elements.{Contains-append_cases, Contains-append_left}
@@ -88,7 +88,7 @@ module _ {K L D : Type 0} (same : D → D → Bool) (decides : (d e : D) → sam
   abbrev parent : ℕ
   parent = parents.top
 
-  -- the view: the highest that an honest member stands at, or the one above the parent
+  -- the view: the highest that an honest member is at, or the one above the parent
 
   abbrev Lives : ℕ → StateFacts K L D → Type 0
   Lives i x = IsSetUpAs epoch (length network) elector i x × (is_tracked x start ≡ false) × (x.current < start)
@@ -295,7 +295,7 @@ module _ {K L D : Type 0} (same : D → D → Bool) (decides : (d e : D) → sam
         (λ v up down. (let r = road.covering v up down in (r.0, inl r.1, r.2)))
         (elim road.skips_to [ inl just ↦ inl just | inr (r, h, is) ↦ inr (r, inl h, is) ])
 
-  -- the member goes on to stand there
+  -- the member comes to be there
   pub record Joins (i : ℕ) (s t : Execution K L D) : Type 0 where
     continues : ExecutionContinues s t
     ran : IsExecution same elect term_length i t

@@ -51,7 +51,7 @@ module _ {D : Type 0} where
   parts_of (part ∷ rest) = suc (parts_of rest)
 
 module _ {D : Type 0} (leader : ℕ) (p : Proposal D) where
-  -- what is accepted in a part was signed by each before it, and a proposal that is handed in was built before
+  -- what is accepted in a part was signed by each before it, and a proposal that is received was built before
   pub record PartFits (done : ℕ → List (TraceEvent D)) (calls : ℕ → List (CallFacts D)) (part : Part D) : Type 0 where
     pub signed : (i : ℕ) (c : Subject D) → Contains (whole_trace (part i)) (Accepts c) → (j : ℕ) → Contains (done j) (Signs j c)
     pub built : (i v : ℕ) (o : Proposal D) → Contains (calls_in (part i)) (SetProposal v o) → (o ≡ p) × Contains (calls leader) (Proposed p.round.view p.payload 0) × Contains (done leader) (Signs leader (Notarize p))
@@ -61,7 +61,7 @@ module _ {D : Type 0} (leader : ℕ) (p : Proposal D) where
   IsPlan done calls (part ∷ rest) = PartFits done calls part × IsPlan (λ i. done i ++ whole_trace (part i)) (λ i. calls i ++ calls_in (part i)) rest
 
 module _ {K L D : Type 0} (same : D → D → Bool) (elect : Elect L) (term_length : ℕ) where
-  -- a member went on by these calls, with this trace, and may go on by this sequence
+  -- a member continued by these calls, with this trace, and may continue by this sequence
   pub record Along (done : ℕ → List (TraceEvent D)) (calls : ℕ → List (CallFacts D)) (rest : ℕ → List (CallFacts D × List (TraceEvent D))) (i : ℕ) (s t : Execution K L D) : Type 0 where
     pub continues : ExecutionContinues s t
     pub ran : IsExecution same elect term_length i t

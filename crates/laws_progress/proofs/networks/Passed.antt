@@ -1,4 +1,4 @@
--- From one view, on one parent, the honest members go on together to a later term's start, and finalize it.
+-- From one view, on one parent, the honest members continue together to a later term's start, and finalize it.
 use Rattle.std.proofs.Common.{◌≡◌, refl, ap, sym, ◌∙◌, subst, inl, inr, ℕ, zero, suc, ◌<◌, Bool, true, false, List, [], ◌∷◌, length, slice_get, map, Contains, Option, Some, None, is_some, arith}
 use Rattle.std.specs.Prelude.{◌==◌, option_map, MatchOption, is_none}
 use Rattle.std.proofs.lemmas.Bool.{cases_eq, eq-eqb, ne_eqb, false≢true, true≢false}
@@ -40,7 +40,7 @@ same_subject a c e = cc
 two_before : {X : Type 0} (a b : X) (xs : List X) (x : X) → Contains xs x → Contains (a ∷ b ∷ xs) x
 two_before a b xs x h = Contains-cons_rest a (b ∷ xs) x (Contains-cons_rest b xs x h)
 
--- what is done in the views that are given up adds its own, and keeps the rest
+-- what is done in the abandoned views adds its own, and preserves the rest
 
 module _ (K L : Type 0) {D : Type 0} (epoch length : ℕ) (p : Proposal D) where
   pub skip_hears : (count view : ℕ) (calls : List (CallFacts D)) → AllHave (HearsOnly {K = K} {L = L} p) (map Calls calls) → AllHave (HearsOnly {K = K} {L = L} p) (map Calls (skip_calls epoch length count view calls))

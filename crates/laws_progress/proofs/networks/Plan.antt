@@ -1,4 +1,4 @@
--- The plan of the honest members: term after term is given up, and then the start is built, verified, certified and finalized.
+-- The plan of the honest members: term after term is abandoned, and then the start is built, verified, certified and finalized.
 use Rattle.std.proofs.Common.{◌≡◌, refl, ap, sym, ◌∙◌, subst, inl, inr, ℕ, zero, suc, ◌+◌, Bool, true, false, if◌then◌else◌, List, [], ◌∷◌, ◌++◌, Contains, arith}
 use Rattle.std.specs.Prelude.{◌==◌}
 use Rattle.std.proofs.lemmas.Bool.{cases_eq, eq-eqb, ne_eqb}
@@ -38,7 +38,7 @@ module _ {D : Type 0} (epoch length leader start parent : ℕ) (payload q : D) w
   abbrev pub last_sequence_of : ℕ → List (CallFacts D × List (TraceEvent D))
   last_sequence_of i = if i == leader then leader_sequence (replica i) q [] [] else follower_sequence (replica i) q [] []
 
-  -- once a view was voted to be nullified, with so many more to be given up
+  -- once a view was voted to be nullified, with this number more to be abandoned
   abbrev pub plan_from : ℕ → ℕ → List (Part D)
   plan_from zero view = (λ i. skips_now epoch length view ∷ builds_first i) ∷ verifies_then ∷ certifies_then ∷ finalizes_then ∷ []
   plan_from (suc count) view = (λ i. skips_now epoch length view ∷ gives_up_now epoch length i (next_term_start length view) ∷ []) ∷ plan_from count (next_term_start length view)
@@ -56,7 +56,7 @@ module _ {D : Type 0} (epoch length leader start parent : ℕ) (payload q : D) w
   plan_long zero view = refl
   plan_long (suc count) view = ap suc (plan_long count (next_term_start length view)) ∙ omega arith
 
-  -- it is a plan: each accepts what all have signed, and is handed what was built
+  -- it is a plan: each accepts what all have signed, and receives what was built
 
   abbrev p : Proposal D
   p = proposal_in epoch start parent q

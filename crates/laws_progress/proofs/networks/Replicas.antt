@@ -1,4 +1,4 @@
--- The replicas of a network that goes on.
+-- The replicas of a network that continues.
 use Rattle.std.proofs.Common.{◌≡◌, refl, ap, sym, ◌∙◌, subst, inl, inr, ℕ, zero, suc, ◌+◌, ◌≤◌, Bool, List, [], ◌∷◌, ◌++◌, append_assoc, length, map, slice_get, Contains, Some, arith}
 use Rattle.std.proofs.lemmas.List.{append-nil}
 use Rattle.std.proofs.lemmas.List.Elements.{Contains-append_left}
@@ -59,7 +59,7 @@ module _ {K L D : Type 0} where
   same_faults (Honest s ∷ a) (Faulty ∷ b) f = absurd f
   same_faults (Honest s ∷ a) (Honest t ∷ b) f = let rest = same_faults a b f.1 in omega (arith, rest, faults-cons (Honest s) a, faults-cons (Honest t) b)
 
-  -- who was honest is so still, and its execution goes on
+  -- an honest replica still is honest, and its execution continues
   pub still_there : (a b : List (Replica K L D)) (i : ℕ) (s : Execution K L D) → ReplicasContinue a b → slice_get a i ≡ Some (Honest s) → (t : Execution K L D) × (slice_get b i ≡ Some (Honest t)) × ExecutionContinues s t
   still_there [] [] i s f at = absurd (cc)
   still_there [] (p ∷ b) i s f at = absurd f

@@ -1,4 +1,4 @@
--- How many exchanges of messages it takes: one to meet and to give up the view, one for each term further, and four.
+-- How many exchanges of messages it takes: one to meet and to abandon the view, one for each term further, and four.
 use Rattle.std.proofs.Common.{◌≡◌, refl, ap, sym, ◌∙◌, subst, inl, inr, ℕ, zero, suc, ◌+◌, ◌-◌, ◌*◌, ◌/◌, ◌<◌, ◌≤◌, Bool, true, false, if◌then◌else◌, List, [], ◌∷◌, ◌++◌, length, map, slice_get, Contains, Some, arith}
 use Rattle.std.specs.Prelude.{◌==◌}
 use Rattle.std.proofs.lemmas.Bool.{cases_eq, eq-eqb, ne_eqb}
@@ -37,7 +37,7 @@ use Rattle.laws_progress.proofs.runs.Starts.{replica_of}
 use Rattle.laws_progress.proofs.states.Passing.{gives_up_now, skip_sequence, skip_calls, skip_trace, skip_calls_are, skip_trace_is}
 use Rattle.laws_progress.proofs.states.Sequences.{Sequence, parted, calls_in, whole_trace, trace_done, leader_sequence, follower_sequence}
 
--- of members that stand at one view
+-- of members that are at one view
 
 module _ {K L D : Type 0} (same : D → D → Bool) (decides : (d e : D) → same d e ≡ true → d ≡ e) (reflexive : (d : D) → same d d ≡ true) (elect : Elect L)
     (term_length epoch leader parent view start terms : ℕ) (elector : L) (q : D) (network : List (Replica K L D)) (good : IsNetworkOf same elect term_length network) (few : faults network ≤ max_faults (length network))

@@ -1,4 +1,4 @@
--- The honest members of a network all go on, each by a trace of its own that makes their certificates by themselves.
+-- The honest members of a network all continue, each by a trace of its own that makes their certificates by themselves.
 use Rattle.std.proofs.Common.{◌≡◌, refl, sym, subst, ◌⊎◌, inl, inr, ℕ, ◌+◌, ◌≤◌, ◌<◌, Bool, List, ◌++◌, length, slice_get, Contains, Some, arith}
 use Rattle.std.proofs.lemmas.List.Elements.{Contains-append_cases, Contains-append_left, Contains-append_right}
 use Rattle.simplex_types.specs.declared.types.messages.Proposal.{Proposal}
@@ -22,7 +22,7 @@ pub record AreEnough {D : Type 0} (p : Proposal D) (done : ℕ → List (TraceEv
   pub accepts : (i : ℕ) → Contains (done i) (Accepts (Finalize p))
 
 module _ {K L D : Type 0} (same : D → D → Bool) (elect : Elect L) (term_length leader : ℕ) (p : Proposal D) (done : ℕ → List (TraceEvent D)) where
-  -- the member goes on by this trace, and is handed the proposal or builds it
+  -- the member continues by this trace, and receives the proposal or builds it
   pub record ContinuesBy (i : ℕ) (s t : Execution K L D) : Type 0 where
     pub continues : ExecutionContinues s t
     pub ran : IsExecution same elect term_length i t

@@ -82,7 +82,7 @@ none_both : {A B : Type 0} (o : Option A) (p : Option B) → (is_some o || is_so
 none_both None p is = (refl, none_of p is)
 none_both (Some a) p is = absurd (true≢false is)
 
--- what an event hands in of a view
+-- what an event passes in of a view
 
 at_its_view : {D : Type 0} (v : ℕ) (d c : ProposalFacts D) (b : Bool) → (v == d.proposal.round.view) ≡ b → (if b then Some d else None) ≡ Some c → (Some d ≡ Some c) × (c.proposal.round.view ≡ v)
 at_its_view {D} v d c true at is = let one : d ≡ c = cc in (is, ap (λ (f : ProposalFacts D). f.proposal.round.view) (sym one) ∙ sym (eqb-true v d.proposal.round.view at))

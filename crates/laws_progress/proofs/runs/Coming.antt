@@ -43,7 +43,7 @@ use Rattle.laws_progress.proofs.states.Sequences.{answered}
 use Rattle.laws_progress.proofs.states.Skipping.{small_under}
 
 module _ {K L D : Type 0} (same : D → D → Bool) (elect : Elect L) (Q : Subject D → Type 0) (R : Proposal D → Type 0) where
-  -- the member goes on by calls that hand in such certificates and certify such proposals, and its state is such then
+  -- the member continues by calls that pass such certificates and certify such proposals, and its state is such then
   pub record ComesTo (P : StateFacts K L D → Type 0) (m : MemberFacts K L D) : Type 0 where
     pub calls : List (CallFacts D)
     pub replies : List (ReplyFacts K D)
@@ -91,7 +91,7 @@ module _ {K L D : Type 0} (same : D → D → Bool) (elect : Elect L) (Q : Subje
       told : ReplyFacts K D
       told = answer same elect x m.outstanding_work call
 
--- a nullification that may be handed in, and skips to the view or below
+-- a nullification that may be passed in, and skips to the view or below
 pub record SkipsUpTo {D : Type 0} (Q : Subject D → Type 0) (term_length epoch view start finalized : ℕ) (round : Round) : Type 0 where
   pub accepted : Q (subject.Nullify round)
   pub in_epoch : round.epoch ≡ epoch
@@ -100,7 +100,7 @@ pub record SkipsUpTo {D : Type 0} (Q : Subject D → Type 0) (term_length epoch 
   pub low : round.view < start
   pub next : next_term_start term_length round.view ≤ view
 
--- the member came to stand at the view or below, where these nullifications are known, and stands on the parent
+-- the member came to the view or below, where these nullifications are known, and is on the parent
 pub record Came {K L D : Type 0} (term_length epoch count me : ℕ) (elector : L) (parent view start : ℕ) (given : Round → Type 0) (x : StateFacts K L D) : Type 0 where
   pub set : IsSetUpAs epoch count elector me x
   pub terms : x.terms.term_length ≡ term_length
@@ -174,7 +174,7 @@ module _ {K L D : Type 0} (same : D → D → Bool) (decides : (d e : D) → sam
     shut : (y : StateFacts K L D) (is_first : Bool) → y.terms.term_length ≡ term_length → tracks_by elect y is_first start c ≡ false
     shut y is_first terms = no_window_there elect y c is_first start (subst (λ n. next_term_start n q.round.view ≤ start) (sym terms) (subst (λ v. next_term_start term_length v ≤ start) (sym view_is) behind)) (omega (arith, view_is, next, far))
 
-    -- where it was finalized its finalization is handed in
+    -- if it was finalized, its finalization is passed in
     pub takes_final : finalized ≤ parent → Q (subject.Finalize q) → ComesTo same elect Q R (Arrived given) m
     takes_final low accepted =
         comes_on same elect Q R (Arrived given) m x (AddFinalization c 0) alive takes no_fault (λ d h. subst Q (accepted_is d h) accepted) (λ p h. absurd (omega (arith, h.1))) (λ v p e. cc)
@@ -204,7 +204,7 @@ module _ {K L D : Type 0} (same : D → D → Bool) (decides : (d e : D) → sam
         after : Near parent verdict given (after_event same elect x e)
         after = event_nears same decides elect term_length epoch count me elector parent view start x e takes refl far finalized parent verdict verdict given near (omega (arith, view_is, next)) (shut x (is_none (round_of x q.round.view).finalization) near.terms) (omega (arith, view_is, low)) refl
 
-    -- where it was certified its notarization is handed in, and then a true verdict
+    -- if it was certified, its notarization is passed in, and then a true verdict
     pub takes_certified : finalized ≤ parent → (verdict ≡ Some false → ⊥) → Q (subject.Notarize q) → ((p : Proposal D) → p.round.view ≡ parent → R p) → ComesTo same elect Q R (Arrived given) m
     takes_certified low not_bad accepted certified =
         comes_on same elect Q R (Arrived given) m x (AddNotarization c) alive takes no_fault (λ d h. subst Q (accepted_is d h) accepted) (λ p h. absurd (omega (arith, h.1))) (λ v p e. cc)

@@ -16,14 +16,14 @@ use Rattle.laws_safety.proofs.records.RunsLawful.{LivesOn, run_lives, start_live
 use Rattle.laws_progress.proofs.runs.Owned.{Owns, event_owns, floor_owns}
 use Rattle.laws_progress.specs.NetworkStates.{RunsWith}
 
--- the lives of a member of a network share a length of terms
+-- the lifetimes of a member of a network share a length of terms
 pub terms_kept : {K L D : Type 0} (term_length i : ℕ) (steps : List (StepFacts K L D)) → ((r : _) → Contains steps (Restarts r) → BeginsAs term_length i r.start.setup) → KeepTerms term_length steps
 terms_kept term_length i [] later = tt
 terms_kept term_length i (Calls call ∷ steps) later = terms_kept term_length i steps (λ r h. later r (Contains-cons_rest (Calls call) steps (Restarts r) h))
 terms_kept term_length i (Prunes ∷ steps) later = terms_kept term_length i steps (λ r h. later r (Contains-cons_rest Prunes steps (Restarts r) h))
 terms_kept term_length i (Restarts q ∷ steps) later = ((later q (0, omega arith, refl)).terms, terms_kept term_length i steps (λ r h. later r (Contains-cons_rest (Restarts q) steps (Restarts r) h)))
 
--- what the run shows of a state that lives at its end
+-- what the run shows of a state at its end
 pub record Shown {K L D : Type 0} (term_length : ℕ) (s : Execution K L D) (m : MemberFacts K L D) (x : StateFacts K L D) : Type 0 where
   pub owns : Owns x
   pub times_out : TimesOut x

@@ -59,7 +59,7 @@ module _ {K L D : Type 0} (term_length : ℕ) (trace : List (TraceEvent D)) (ver
       by_round None at is = absurd (false≢true (ap is_some is))
       by_round (Some r) at is = by_parts r (ap (λ o. unwrap_or o (new_round x.me x.members (round_number x v))) at) r.finalization refl (is_certified r.certification) refl is
 
-  -- each verdict that stands was told
+  -- each stored verdict was received
   pub verdict_led : (v : ℕ) (success : Bool) → is_judged success (round_of x v).certification ≡ true → HasJudged success x.settings.epoch verdicts v
   verdict_led v success is = led.rounds.judged v success (verdict_stands (round_of x v).certification success is)
 
@@ -136,7 +136,7 @@ gapless_test x p v some gapless = by_gap (first_unnullified_view x p v) (first_u
     by_gap (Some w) gap = absurd (true≢false (sym (gapless w gap.above gap.below) ∙ gap.uncovered))
 
 module _ {K L D : Type 0} (term_length epoch count me : ℕ) (elector : L) (parent view start : ℕ) (some : 0 < term_length) (given : Round → Type 0) (trace : List (TraceEvent D)) (verdicts : List (Bool × Proposal D)) (x : StateFacts K L D) (came : Came term_length epoch count me elector parent view start given x) (led : Led term_length trace verdicts x) where
-  -- the member stands at the view on the parent, where that is the highest view that was finalized or certified
+  -- the member is at the view on the parent, if that is the highest view that was finalized or certified
   pub came_stands : ((v : ℕ) (payload : D) → 0 < v → explicit_ancestry_payload x v ≡ Some payload → v < x.current)
       → ((v : ℕ) → v < view → HasFinalized epoch trace v → v ≤ parent) → ((v : ℕ) → v < view → HasCertified epoch verdicts v → v ≤ parent)
       → ((v : ℕ) → parent < v → v < view → (r : Round) × given r × (covers term_length r.view v ≡ true))

@@ -80,7 +80,7 @@ module _ {K L D : Type 0} (same : D → D → Bool) (decides : (d e : D) → sam
   epoch : ℕ
   epoch = x.settings.epoch
 
-  -- a verdict is told with the notarization that was held
+  -- a verdict is received with the notarization that was stored
   judged_told : (v now : ℕ) (success : Bool) → takes_verdict x v success ≡ true → is_tracked x v ≡ true → HasJudged success x.settings.epoch (others (calls.Certified v success now)) v
   judged_told v now success takes tracked = by_round (round_at x v) refl (and_parts (is_started x) _ takes).1 tracked
     where

@@ -1,4 +1,4 @@
--- Over a member's lives: where it lives, its current view was led to, and so was each view that it voted to nullify.
+-- Over a member's lifetimes: while it has not failed, its current view was led to, and so was each view that it voted to nullify.
 use Rattle.std.proofs.Common.{◌≡◌, refl, ap, sym, ◌∙◌, subst, inl, inr, ℕ, zero, suc, ◌-◌, ◌<◌, Bool, true, false, ◌&&◌, if◌then◌else◌, nat_lt, List, [], ◌∷◌, ◌++◌, append_assoc, length, take, drop, map, Contains, Option, Some, None, Result, Ok, Err, is_some, unwrap_or, arith}
 use Rattle.std.specs.Prelude.{MatchOption, ◌==◌}
 use Rattle.std.proofs.lemmas.Bool.{false≢true, eqb-true}
@@ -93,7 +93,7 @@ cut_within : {K L D : Type 0} (m : MemberFacts K L D) (drop : ℕ) (prune : Bool
 cut_within m drop true e h = left_within m.closed drop m.entries e (pruned_within m.retention (without_last m.closed drop m.entries) e h)
 cut_within m drop false e h = left_within m.closed drop m.entries e h
 
--- a new life
+-- a new lifetime
 
 -- an entry's verdict, given or replayed
 module _ {D : Type 0} (epoch : ℕ) (verdicts : List (Bool × Proposal D)) where
@@ -267,7 +267,7 @@ floor_signs_none (Genesis payload) round h = signed_none (subject.Nullify round)
 floor_signs_none (FinalizedFloor c) round h = let e = only_signed (Accepts (subject.Finalize c.proposal)) (subject.Nullify round) h in cc
 
 module _ {K L D : Type 0} (same : D → D → Bool) (decides : (d e : D) → same d e ≡ true → d ≡ e) (elect : Elect L) (term_length : ℕ) (trace : List (TraceEvent D)) (verdicts : List (Bool × Proposal D)) where
-  -- a life from a copy of a record whose entries were accepted or certified
+  -- a lifetime from a copy of a record whose entries were accepted or certified
   from_copy : (n : MemberFacts K L D) (start : StartFacts K L D) (copy : List (ArtifactFacts D)) → HasTerms term_length start.setup → RecordLed trace verdicts n.entries → ((round : Round) → HasSigned trace (subject.Nullify round) → IsLedTo term_length round.epoch trace verdicts round.view) → ((success : Bool) (p : Proposal D) → Contains verdicts (success, p) → Contains trace (Accepts (subject.Notarize p))) → ((e : ArtifactFacts D) → Contains copy e → Contains n.entries e) → first_recover_error same start.setup.settings.epoch start.setup.me start.floor copy ≡ None → MemberLed term_length (trace ++ of_floor start.floor) verdicts (new_lifetime same elect n start copy)
   from_copy n start copy fresh kept signed notarized within none = record {
     life = subst (λ t. Led t (trace ++ of_floor start.floor) verdicts (recovered_state same elect (new_state start.setup) start.floor start.now copy)) fresh.terms (recovered_led same decides elect trace verdicts start copy none (within_led trace verdicts n.entries copy within kept));
@@ -308,7 +308,7 @@ module _ {K L D : Type 0} (same : D → D → Bool) (decides : (d e : D) → sam
             let between = cut_between term_length trace m r.drop lives.0 r.prune (between_of term_length trace m.closed lives.0 m.entries m.outstanding_work m.life lives.1) in
             continues (cut_member m r.drop r.prune) r result left between.0 fresh between.1 (cut_within m r.drop r.prune) goes
 
-    -- a pruning within the life
+    -- a pruning within the lifetime
     pub pruned_led : MemberLed term_length (trace ++ []) (verdicts ++ []) (pruned_member m)
     pruned_led = still_led same decides elect term_length trace verdicts (pruned_member m) (record {
       life = led.life;
@@ -370,7 +370,7 @@ module _ {K L D : Type 0} (same : D → D → Bool) (decides : (d e : D) → sam
   unfolding IsRunFrom
   nullified_led round h = (member_led ran.run.1 ran.run.2).signed round h
 
-  -- each proposal that it was told a verdict on has a notarization that it accepted
+  -- each proposal that it received a verdict on has a notarization that it accepted
   pub judged_are_notarized : (success : Bool) (p : Proposal D) → Contains (judged_of s) (success, p) → Contains (trace_of s) (Accepts (subject.Notarize p))
   unfolding IsRunFrom
   judged_are_notarized success p h = (member_led ran.run.1 ran.run.2).notarized success p h

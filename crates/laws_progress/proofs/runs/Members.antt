@@ -1,4 +1,4 @@
--- How the execution of each member of a network goes on from an untouched term start.
+-- How the execution of each member of a network continues from an untouched term start.
 use Rattle.std.proofs.Common.{◌≡◌, refl, ap, sym, ◌∙◌, subst, ◌⊎◌, inl, inr, ℕ, Bool, true, false, List, [], ◌∷◌, ◌++◌, map, Contains, Some, unwrap_or, arith}
 use Rattle.std.specs.Prelude.{◌==◌}
 use Rattle.std.proofs.lemmas.Bool.{eq-eqb, ne_eqb, cases_eq}
@@ -49,7 +49,7 @@ one_has P [] x all h = absurd (omega (arith, h.1))
 one_has P (y ∷ xs) x all h = elim (Contains-cases y xs x h) [ inl here ↦ subst P here all.0 | inr later ↦ one_has P xs x all.1 later ]
 
 module _ {K L D : Type 0} (p : Proposal D) where
-  -- no other proposal is handed in
+  -- no other proposal is received
   abbrev pub HearsOnly : StepFacts K L D → Type 0
   HearsOnly step = (v : ℕ) (o : Proposal D) → step ≡ Calls (SetProposal v o) → o ≡ p
 
@@ -60,7 +60,7 @@ module _ {K L D : Type 0} (p : Proposal D) where
   leader_hears = (λ v o e. absurd (cc), (λ v o e. absurd (cc), (λ v o e. absurd (cc), (λ v o e. absurd (cc), (λ v o e. absurd (cc), (λ v o e. absurd (cc), (λ v o e. absurd (cc), tt)))))))
 
 module _ {K L D : Type 0} (same : D → D → Bool) (elect : Elect L) where
-  -- the member goes on to finalize the proposal, which it is handed or builds
+  -- the member continues to finalize the proposal, which it receives or builds
   pub record MemberFinalizes (term_length leader : ℕ) (p : Proposal D) (i : ℕ) (s t : Execution K L D) : Type 0 where
     pub continues : ExecutionContinues s t
     pub ran : IsExecution same elect term_length i t

@@ -1,4 +1,4 @@
--- A member that is handed what leads to a view, by certificates and verdicts below it: what stays so with each event.
+-- A member that receives what leads to a view, by certificates and verdicts below it: what each event preserves.
 use Rattle.std.proofs.Common.{◌≡◌, refl, ap, sym, ◌∙◌, subst, ◌⊎◌, inl, inr, ℕ, zero, suc, ◌+◌, ◌-◌, ◌<◌, ◌≤◌, max, min, length, Bool, true, false, ◌&&◌, ◌||◌, if◌then◌else◌, nat_lt, nat_le, [], Option, Some, None, arith}
 use Rattle.std.specs.Prelude.{◌==◌}
 use Rattle.std.specs.List.{range_with_len}
@@ -29,8 +29,8 @@ use Rattle.laws_history.proofs.FollowingReplays.{event_follows}
 use Rattle.laws_progress.specs.NetworkStates.{IsSetUpAs}
 use Rattle.laws_progress.proofs.runs.Brought.{new_or_old, notarizes_by}
 
--- the member stands at the view or below it, with this finalized view, and this verdict on the parent; these nullifications are
--- known, and it knows nothing of the start
+-- the member is at the view or below it, with this finalized view, and this verdict on the parent; these nullifications are known, and it
+-- knows nothing of the start
 pub record Nears {K L D : Type 0} (term_length epoch count me : ℕ) (elector : L) (parent view start finalized : ℕ) (verdict : Option Bool) (given : Round → Type 0) (x : StateFacts K L D) : Type 0 where
   pub alive : x.failed ≡ false
   pub set : IsSetUpAs epoch count elector me x
@@ -128,7 +128,7 @@ module _ {K L D : Type 0} where
       let closed : opens elect x v c ≡ None = rw shut refl in
       rw (ne_eqb v u (λ at. absurd (omega (arith, at, below))), ne_eqb v (u + 1) (λ at. absurd (omega (arith, at, below))), closed) (and-false is_first)
 
--- what may be handed in
+-- what may be passed in
 
 module _ {K L D : Type 0} (term_length epoch count me : ℕ) (elector : L) (parent view start finalized : ℕ) (verdict : Option Bool) (given : Round → Type 0) (x : StateFacts K L D) (nears : Nears term_length epoch count me elector parent view start finalized verdict given x) where
   pub takes_it : (round : Round) → round.epoch ≡ epoch → 1 ≤ round.view → finalized ≤ round.view → takes_round x round ≡ true
@@ -154,7 +154,7 @@ module _ {K L D : Type 0} (term_length epoch count me : ℕ) (elector : L) (pare
     known = λ r h. nears.known r (within r h);
   }
 
--- a nullification that is handed in is known then
+-- a nullification that is passed in is known then
 module _ {K L D : Type 0} (same : D → D → Bool) (decides : (d e : D) → same d e ≡ true → d ≡ e) (elect : Elect L) (term_length epoch count me : ℕ) (elector : L) (parent view start finalized : ℕ) (verdict : Option Bool) (given : Round → Type 0) (x : StateFacts K L D) (nears : Nears term_length epoch count me elector parent view start finalized verdict given x) (c : NullificationFacts) (far : view < start) (takes : takes_round x c.round ≡ true) (next : next_term_start term_length c.round.view ≤ view) (low : c.round.view < start) where
   pub nullified_nears : Nears term_length epoch count me elector parent view start finalized verdict (λ r. (r ≡ c.round) ⊎ given r) (after_event same elect x (event.AddNullification c 0))
   nullified_nears = record {

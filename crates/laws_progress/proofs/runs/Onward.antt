@@ -1,4 +1,4 @@
--- An execution that goes on by calls.
+-- An execution that continues by calls.
 use Rattle.std.proofs.Common.{◌≡◌, refl, ap, sym, ◌∙◌, subst, inl, inr, ℕ, Bool, List, [], ◌∷◌, ◌++◌, append_assoc, map, Contains, arith}
 use Rattle.std.proofs.lemmas.List.Elements.{Contains-append_cases}
 use Rattle.simplex_voter.specs.Facts.{Elect}
@@ -12,7 +12,7 @@ use Rattle.laws_safety.proofs.lists.Splits.{Contains-cases}
 use Rattle.laws_progress.specs.ViewCauses.{judged_by, judged_in}
 use Rattle.laws_progress.proofs.states.Sequences.{Does}
 
--- verdicts that are told one after another
+-- verdicts that are received one after another
 pub judged_joined : {K D : Type 0} (replies more : List (ReplyFacts K D)) → judged_in (replies ++ more) ≡ judged_in replies ++ judged_in more
 judged_joined [] more = refl
 judged_joined (told ∷ replies) more = ap (λ ps. judged_by told ++ ps) (judged_joined replies more) ∙ sym (append_assoc (judged_by told) (judged_in replies) (judged_in more))

@@ -45,7 +45,7 @@ module _ {D : Type 0} (signer : ℕ) (round : Round) where
   entry_split (FinalizeVote p i) before after is = one_split _ before after is
   entry_split _ before after is = absurd (none_split before after vote is)
 
-  -- none is handed in
+  -- none is passed in
   no_certificate : (call : CallFacts D) (before after : List (TraceEvent D)) → passed_certificates call ++ [] ≡ before ++ vote ∷ after → ⊥
   no_certificate (AddNotarization c) before after is = let one = single_split _ vote before after is in let apart = one.1 in cc
   no_certificate (AddNullification c now) before after is = let one = single_split _ vote before after is in let apart = one.1 in cc
@@ -55,7 +55,7 @@ module _ {D : Type 0} (signer : ℕ) (round : Round) where
   no_floor : (floor : _) (before after : List (TraceEvent D)) → of_floor floor ≡ before ++ vote ∷ after → ⊥
   no_floor floor before after is = floor_signs_none floor round (signer, subst (λ ds. Contains ds vote) (sym is) (Contains-middle before after vote))
 
-  -- the vote is all that its step does, and no verdict is told then
+  -- the vote is all that its step does, and no verdict is received then
   record IsAll {K L : Type 0} (step : StepFacts K L D) (told : ReplyFacts K D) (before : List (TraceEvent D)) : Type 0 where
     alone : IsAlone (trace_at step told) before
     no_verdict : judged_by told ≡ []

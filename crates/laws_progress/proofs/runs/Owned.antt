@@ -1,4 +1,4 @@
--- Each state of a run goes on, and each of its rounds is its member's.
+-- Each state of a run continues, and each of its rounds is its member's.
 use Rattle.std.proofs.Common.{◌≡◌, refl, ap, sym, ◌∙◌, subst, ℕ, Bool, false, inl, inr, Option, unwrap_or, arith}
 use Rattle.simplex_types.specs.Config.{FloorFacts}
 use Rattle.simplex_round.specs.Round.{RoundFacts, new_round}

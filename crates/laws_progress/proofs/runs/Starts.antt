@@ -1,4 +1,4 @@
--- A member of a network that stands at an untouched term start: what its run shows of it, and that it goes on.
+-- A member of a network that is at an untouched term start: what its run shows of it, and that it continues.
 use Rattle.std.proofs.Common.{◌≡◌, refl, ap, sym, ◌∙◌, subst, ℕ, ◌<◌, Bool, true, false, ◌&&◌, nat_lt, ltb-true, List, [], ◌∷◌, Option, Some, None, is_some, unwrap_or, arith}
 use Rattle.std.specs.Prelude.{option_map, if◌then◌else◌}
 use Rattle.std.specs.List.{filter_map, cons_option, last_or, list_any}

@@ -1,4 +1,4 @@
--- The leader's two calls, in a state that stands at an untouched term start.
+-- The leader's two calls, in a state that is at an untouched term start.
 use Rattle.std.proofs.Common.{◌≡◌, refl, ap, sym, ◌∙◌, ℕ, ◌<◌, Bool, true, false, cond, Some, None, is_some, arith}
 use Rattle.std.specs.Ordering.{nat_cmp}
 use Rattle.std.specs.Cmp.{nat_cmp_total}

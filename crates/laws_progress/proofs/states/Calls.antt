@@ -1,4 +1,4 @@
--- What each call makes of a state that stands at an untouched term start.
+-- What each call makes of a state that is at an untouched term start.
 use Rattle.std.proofs.Common.{◌≡◌, refl, ap, sym, ◌∙◌, subst, ℕ, ◌+◌, Bool, true, false, ◌&&◌, nat_lt, if◌then◌else◌, List, Option, Some, None, is_some, arith}
 use Rattle.std.specs.Option.{option_map_or}
 use Rattle.std.proofs.Math.Bool.{and-false}
@@ -46,11 +46,11 @@ module _ {D : Type 0} where
   abbrev pub nothing_done : Work D
   nothing_done = record { slot = empty_slot; decided = false; notarization = None; certification = Ready; binding = None }
 
-  -- the proposal is held
+  -- the proposal is stored
   abbrev pub heard : Proposal D → Work D
   heard p = record nothing_done { slot = record { held = Some p; conflict = false; verified = false; build_requested = false; verify_requested = false } }
 
-  -- it was given out to be verified on its parent's payload
+  -- it was returned to be verified on its parent's payload
   abbrev pub being_verified : Proposal D → D → Work D
   being_verified p d = record nothing_done {
     slot = record { held = Some p; conflict = false; verified = false; build_requested = false; verify_requested = true };
@@ -98,7 +98,7 @@ module _ {K L D : Type 0} (same : D → D → Bool) (elect : Elect L) (reflexive
   abbrev p : Proposal D
   p = built_on l q
 
-  -- 1: the proposal is handed in
+  -- 1: the proposal is passed in
   pub sets_proposal : StandsAtView l (with_work r nothing_done) l.view x → Makes same elect l (with_work r (heard p)) l.view x o (SetProposal l.view p)
   sets_proposal s =
       let ready = next_ready l elect (with_work r nothing_done) l.view x s in

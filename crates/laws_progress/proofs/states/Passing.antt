@@ -1,4 +1,4 @@
--- A member gives up one term after another, up to the untouched term start.
+-- A member abandons one term after another, up to the untouched term start.
 use Rattle.std.proofs.Common.{◌≡◌, refl, ap, sym, ◌∙◌, subst, ℕ, zero, suc, ◌<◌, ◌≤◌, Bool, true, false, List, [], ◌∷◌, Option, Some, None, is_some, unwrap_or, arith}
 use Rattle.std.specs.Prelude.{option_map}
 use Rattle.std.proofs.lemmas.Bool.{false≢true}
@@ -44,7 +44,7 @@ module _ {D : Type 0} (epoch length : ℕ) where
   abbrev pub skips_now : ℕ → CallFacts D × List (TraceEvent D)
   skips_now view = (AddNullification (record { round = record { epoch = epoch; view = view }; bytes = [] }) 0, Accepts (subject.Nullify (record { epoch = epoch; view = view })) ∷ [])
 
-  -- so many terms on, and then the rest
+  -- this number of terms later, and then the rest
   abbrev pub skip_sequence : ℕ → ℕ → ℕ → List (CallFacts D × List (TraceEvent D)) → List (CallFacts D × List (TraceEvent D))
   skip_sequence me zero view rest = rest
   skip_sequence me (suc count) view rest = gives_up_now me view ∷ skips_now view ∷ skip_sequence me count (next_term_start length view) rest
@@ -70,7 +70,7 @@ module _ {D : Type 0} (epoch length : ℕ) where
   skip_trace_is me (suc count) view rest = ap (λ ds. Signs me (subject.Nullify (record { epoch = epoch; view = view })) ∷ Accepts (subject.Nullify (record { epoch = epoch; view = view })) ∷ ds) (skip_trace_is me count (next_term_start length view) rest)
 
 module _ {K L D : Type 0} where
-  -- a member that stands at the start, which nobody touched
+  -- a member that is at the start, which nobody touched
   pub record IsReady (l : StandingMember D) (leader : ℕ) (x : StateFacts K L D) : Type 0 where
     pub round : RoundFacts K D
     pub stands : StandsAtView l (with_work round nothing_done) l.view x

@@ -1,4 +1,4 @@
--- The call for work to verify, in a state that stands at an untouched term start and has heard of its proposal.
+-- The call for work to verify, in a state that is at an untouched term start and has received its proposal.
 use Rattle.std.proofs.Common.{◌≡◌, refl, ap, sym, ◌∙◌, subst, ℕ, ◌<◌, Bool, true, false, ◌&&◌, not, nat_le, ltb, ltb-true, Option, Some, None, is_some, arith}
 use Rattle.std.specs.Prelude.{T, map as map_list, option_map}
 use Rattle.std.specs.Option.{option_map_or}

@@ -1,4 +1,4 @@
--- The current view is given up: the vote to nullify it, and its nullification.
+-- The current view is abandoned: the vote to nullify it, and its nullification.
 use Rattle.std.proofs.Common.{◌≡◌, refl, ap, sym, ◌∙◌, subst, ℕ, ◌<◌, ◌≤◌, Bool, true, false, ◌&&◌, nat_lt, nat_le, List, Option, Some, None, is_some, unwrap_or, arith}
 use Rattle.std.specs.Prelude.{◌==◌, if◌then◌else◌, option_map, option_and_then}
 use Rattle.std.specs.Ordering.{nat_cmp}

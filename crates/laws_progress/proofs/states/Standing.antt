@@ -1,4 +1,4 @@
--- What is known of a state that stands at an untouched term start, and what leaves it so.
+-- What is known of a state that is at an untouched term start, and what leaves it so.
 use Rattle.std.proofs.Common.{◌≡◌, refl, ap, ◌∙◌, subst, ℕ, zero, suc, ◌+◌, ◌-◌, ◌<◌, ◌≤◌, Bool, true, false, ◌&&◌, cond, nat_lt, if◌then◌else◌, List, [], Option, Some, None, arith}
 use Rattle.std.specs.Prelude.{◌==◌, T, min}
 use Rattle.std.specs.List.{fold, range_with_len}
@@ -27,7 +27,7 @@ module _ {K L D : Type 0} where
   pub round_kept : (x : StateFacts K L D) (v w : ℕ) (r : RoundFacts K D) → (w ≡ v → ⊥) → round_at (with_round x v r) w ≡ round_at x w
   round_kept x v w r other = find-put nat_cmp nat_cmp_total w v r x.rounds ∙ ap (λ b. cond b (Some r) (round_at x w)) (is_eq-nat_cmp w v ∙ ne_eqb w v other)
 
-  -- the round that was put at a view stands there
+  -- the round that was put at a view is there
   pub round_here : (x : StateFacts K L D) (v : ℕ) (r : RoundFacts K D) → round_at (with_round x v r) v ≡ Some r
   round_here x v r = find-put nat_cmp nat_cmp_total v v r x.rounds ∙ ap (λ b. cond b (Some r) (round_at x v)) (is_eq-nat_cmp v v ∙ eq-eqb v v refl)
 
@@ -39,7 +39,7 @@ pub record StandingMember (D : Type 0) : Type 0 where
   pub parent : ℕ
   pub payload : D
 
--- the member stands at this view or the next one, where the round is this; a proposal on the parent may be verified
+-- the member is at this view or the next one, where the round is this; a proposal on the parent may be verified
 pub record StandsAtView {K L D : Type 0} (l : StandingMember D) (r : RoundFacts K D) (stands_at : ℕ) (x : StateFacts K L D) : Type 0 where
   pub here : round_at x l.view ≡ Some r
   pub ordered : T (is_sorted nat_cmp x.rounds)
@@ -57,7 +57,7 @@ pub record StandsAtView {K L D : Type 0} (l : StandingMember D) (r : RoundFacts 
   pub small : is_too_large l.view ≡ false
 
 module _ {K L D : Type 0} (l : StandingMember D) where
-  -- rounds that keep the parent's, and what stands beside them
+  -- rounds that preserve the parent's, and what is beside them
   pub remade : (r q : RoundFacts K D) (c d : ℕ) (x : StateFacts K L D) (rounds : List (ℕ × RoundFacts K D)) (named : List ℕ) (moment : ℕ)
       → StandsAtView l r c x
       → find nat_cmp l.view rounds ≡ Some q

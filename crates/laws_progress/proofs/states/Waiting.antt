@@ -24,7 +24,7 @@ use Rattle.simplex_record.proofs.Rounds.{round_put}
 use Rattle.laws_progress.proofs.states.Standing.{StandingMember, StandsAtView, round_kept, round_here}
 use Rattle.laws_progress.proofs.runs.Starts.{no_gate}
 
--- the member stands at a view up to the start, where this is known of the start's round; all between the parent and `covered_to` is nullified
+-- the member is at a view up to the start, where this is known of the start's round; all between the parent and `covered_to` is nullified
 pub record Waits {K L D : Type 0} (length : ℕ) (l : StandingMember D) (h : Option (RoundFacts K D)) (stands_at covered_to : ℕ) (x : StateFacts K L D) : Type 0 where
   pub here : round_at x l.view ≡ h
   pub ordered : T (is_sorted nat_cmp x.rounds)
@@ -154,7 +154,7 @@ module _ {K L D : Type 0} (length : ℕ) (l : StandingMember D) where
     small = w.small;
   }
 
-  -- where the start is entered, the member stands there
+  -- where the start is entered, the member is there
   pub stands_now : (r : RoundFacts K D) (x : StateFacts K L D) → 0 < length → Waits length l (Some r) l.view l.view x → StandsAtView l r l.view x
   stands_now r x some w =
       let start : l.view ≡ term_start x.terms.term_length l.view = w.start ∙ ap (λ n. term_start n l.view) (sym w.terms) in

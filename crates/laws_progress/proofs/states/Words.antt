@@ -1,4 +1,4 @@
--- The words of the voter in a state that stands at an untouched term start.
+-- The words of the voter in a state that is at an untouched term start.
 use Rattle.std.proofs.Common.{◌≡◌, refl, ap, sym, ℕ, ◌+◌, ◌<◌, ◌≤◌, Bool, true, false, ◌&&◌, ◌||◌, nat_le, if◌then◌else◌, Option, Some, None, is_some, unwrap_or, arith}
 use Rattle.std.specs.Prelude.{◌==◌, is_none}
 use Rattle.std.proofs.lemmas.Bool.{eq-eqb, lt-ltb, le-leb, false≢true}

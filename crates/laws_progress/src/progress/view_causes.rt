@@ -1,20 +1,20 @@
-//! What led members to their views.
+//! The certificates and verdicts that led members to their views.
 
 ghost use Rattle.laws_progress.specs.ViewCauses.{CurrentViewsAreLedTo, NullifiedViewsAreLedTo, NullifyVotesComeAfter};
 ghost use Rattle.laws_progress.specs.ViewCauses.{ExplicitViewsAreAccepted, JudgedAreNotarized, VerdictsAreReported};
 
 use simplex_types::types::{Digest, Elector, Scheme};
 
-/// What led a member of a network to its views, over all its calls and restarts: the certificates that it accepted and the
-/// verdicts that it was told. It does nothing: its contract is the law.
+/// Does nothing: its contract is the law. It says what led a member of a network to its views, over all its calls and restarts: the
+/// certificates that it accepted and the verdicts that it received.
 ///
-/// - `current`: where the member lives, its current view is the first one, or lies just above one that it finalized or
-///   certified, or begins the term after one whose nullification it accepted, each in the epoch that it lives in.
-/// - `nullified`: so does each view that it voted to nullify, in the vote's epoch.
+/// - `current`: while the member has not failed, its current view is the first one, or lies just above one that it finalized or certified, or begins
+///   the term after one whose nullification it accepted, each in its epoch.
+/// - `nullified`: the same for each view that it voted to nullify, in the vote's epoch.
 /// - `ordered`: and what led to the view came before the vote.
-/// - `explicit`: where it lives, each view but genesis that a proposal may be built on was finalized or certified.
-/// - `verdicts`: where it lives, each verdict that stands was told.
-/// - `judged`: each proposal that it was told a verdict on has a notarization that it accepted.
+/// - `explicit`: while it has not failed, each view but genesis that a proposal may be built on was finalized or certified.
+/// - `verdicts`: while it has not failed, each verdict that it stores was received.
+/// - `judged`: each proposal that it received a verdict on has a notarization that it accepted.
 pub fn views_are_led_to<S: Scheme<D>, L: Elector<S>, D: Digest>()
     ensures current { CurrentViewsAreLedTo S.PublicKey D.eq L.elect }
     ensures nullified { NullifiedViewsAreLedTo S.PublicKey D.eq L.elect }

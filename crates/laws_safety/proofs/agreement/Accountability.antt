@@ -26,7 +26,7 @@ use Rattle.laws_safety.proofs.agreement.Quorums.{AtLeastFrom-both, AtLeastFrom-m
 use Rattle.laws_safety.proofs.agreement.VoteOrder.{Same, First, Second, in_order, voted, earlier}
 use Rattle.laws_safety.proofs.records.RunsLawful.{execution_lawful}
 
--- what was accepted can be looked up
+-- an accepted certificate can be looked up
 
 abbrev Decided : Type 0 → Type 0
 Decided P = P ⊎ (P → ⊥)
@@ -434,7 +434,7 @@ module _ {D : Type 0} (same : D → D → Bool) (decides : (d e : D) → same d 
   pub traced_to_guilt : ContradictionsAreTraced D
   traced_to_guilt term_length members a b accept against has_a has_b = trace term_length members accept (suc (distance a b)) a b (omega arith) against has_a has_b
 
--- members that keep the rules answer for none, so the others are as many as two quorums share
+-- members that keep the rules are accountable for none, so the others are as many as two quorums share
 
 module _ {K L D : Type 0} (same : D → D → Bool) (decides : (d e : D) → same d e ≡ true → d ≡ e) (itself : (d : D) → same d d ≡ true) (elect : Elect L) (term_length : ℕ) (network : List (Replica K L D)) (good : IsBackedNetwork same elect term_length network) (few : faults network < length network - 2 * max_faults (length network)) where
   third_backed : (a b : Subject D) (k : ℕ) (s : Execution K L D) → slice_get network k ≡ Some (Honest s) → (nearer : HasAcceptedNearer term_length a b (trace_of s)) → Backed network nearer.third

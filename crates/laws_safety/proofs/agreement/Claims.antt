@@ -29,7 +29,7 @@ module _ {K L D : Type 0} (same : D → D → Bool) (decides : (d e : D) → sam
   lawful : (k : ℕ) (s : Execution K L D) → slice_get network k ≡ Some (Honest s) → IsLawful term_length (trace_of s)
   lawful k s at = execution_lawful same decides elect term_length k s (good.honest k s at)
 
-  -- what an honest member accepted before a vote is backed
+  -- a certificate that an honest member accepted before a vote is backed
   backed_before : (k : ℕ) (s : Execution K L D) (before : List (TraceEvent D)) (vote certificate : Subject D) → slice_get network k ≡ Some (Honest s) → SignsAfter (trace_of s) before vote → Contains before (Accepts certificate) → Backed network certificate
   backed_before k s before vote certificate at signs accepted = good.backed k s certificate at (earlier (trace_of s) before vote (Accepts certificate) signs accepted)
 

@@ -1,5 +1,5 @@
 -- For `agreement`.
--- Each vote is told exactly where its rule holds.
+-- Each vote is returned exactly if its rule holds.
 use Rattle.std.proofs.Common.{◌≡◌, refl, sym, subst, ℕ, inl, inr, Bool, true, false, ◌&&◌, List, [], ◌∷◌, Contains, Option, Some, None, Result, Ok, Err, arith}
 use Rattle.std.specs.Prelude.{is_some, if◌then◌else◌, option_map, option_and_then}
 use Rattle.std.proofs.lemmas.Bool.{false≢true}
@@ -35,7 +35,7 @@ no_subject : {D : Type 0} (vote : Subject D) → None ≡ Some vote → ⊥
 no_subject vote e = absurd (cc)
 
 module _ {K D : Type 0} where
-  -- no vote is told, since there is no key, the rule doesn't hold, or the call is refused
+  -- no vote is returned, since there is no key, the rule doesn't hold, or the call is refused
   untold : (Rule : Type 0) (me : Option ℕ) (about : Option (Subject D)) (told : ReplyFacts K D) → signed_in told ≡ [] → ((d : TraceEvent D) → ends_in_fault told ≡ false → Rule → IsSignedFor me about d → ⊥) → IsExact Rule me about told
   untold Rule me about told none never = record {
     only = λ d h. absurd (let g : Contains [] d = subst (λ (ds : List (TraceEvent D)). Contains ds d) none h in omega (arith, g.1));

@@ -51,7 +51,7 @@ lawful_start {D} term_length =
       gapless = λ before p skipped at low high. absurd (no_cast (subject.Notarize p) before at);
     }
 
--- a trace that keeps the rules and one event more that they allow keep the rules
+-- a trace that keeps the rules and one more event that they allow keep the rules
 pub lawful_push : {D : Type 0} (term_length : ℕ) (trace : List (TraceEvent D)) (trace_event : TraceEvent D) → IsLawful term_length trace → Allows term_length trace (vote_of trace_event) → IsLawful term_length (trace ++ trace_event ∷ [])
 lawful_push {D} term_length trace trace_event lawful allows =
     record {

@@ -26,7 +26,7 @@ module _ {X : Type 0} where
   AtLeastFrom-both P Q i (suc a) (suc b) (suc c) (x ∷ xs) e (inr h) (inl k) = inr (AtLeastFrom-both P Q (suc i) (suc a) b (suc c) xs (omega arith) h k.1)
   AtLeastFrom-both P Q i (suc a) (suc b) (suc c) (x ∷ xs) e (inr h) (inr k) = inr (AtLeastFrom-both P Q (suc i) (suc a) (suc b) (suc c) xs (omega arith) h k)
 
-  -- what holds wherever another does
+  -- a claim that holds wherever another does
   pub AtLeastFrom-map : (P Q : ℕ → X → Type 0) (i count : ℕ) (xs : List X) → ((j : ℕ) (x : X) → P j x → Q j x) → AtLeastFrom i count P xs → AtLeastFrom i count Q xs
   AtLeastFrom-map P Q i zero xs f h = tt
   AtLeastFrom-map P Q i (suc count) [] f h = absurd h

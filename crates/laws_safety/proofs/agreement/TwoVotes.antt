@@ -1,5 +1,5 @@
 -- For `agreement`.
--- Two votes of one member that cannot both be, and what covers a view covers between.
+-- Two votes of one member that cannot both exist, and covering of the views between.
 use Rattle.std.proofs.Common.{◌≡◌, ℕ, zero, suc, ◌-◌, ◌/◌, ◌≤◌, List, arith, sym, div-mul-le_self}
 use Rattle.std.specs.Prelude.{true}
 use Rattle.std.proofs.Math.Nat.{div-zero, mul-le-mul_right}

@@ -1,5 +1,5 @@
 -- For `agreement`.
--- The order of two votes of one member, and what the trace before a vote has in common with the whole.
+-- The order of two votes of one member, and the relation of the trace before a vote to the whole.
 use Rattle.std.proofs.Common.{◌≡◌, ℕ, zero, suc, inl, inr, List, [], ◌∷◌, ◌++◌, Contains, arith, refl, sym, ap, ◌∙◌, subst, append_assoc}
 use Rattle.std.proofs.lemmas.List.Elements.{Contains-append_left, Contains-append_right, Contains-append_cases}
 use Rattle.simplex_types.specs.declared.types.messages.Subject.{Subject}
@@ -22,7 +22,7 @@ module _ {D : Type 0} where
   pub voted : (trace : List (TraceEvent D)) (vote : Subject D) → HasSigned trace vote → (before : List (TraceEvent D)) × SignsAfter trace before vote
   voted trace vote h = let parts = Contains-split trace (Signs h.0 vote) h.1 in (parts.0, (h.0, parts.1, parts.2))
 
-  -- what came before a vote is in the whole trace
+  -- an event before a vote is in the whole trace
   pub earlier : (trace before : List (TraceEvent D)) (vote : Subject D) (trace_event : TraceEvent D) → SignsAfter trace before vote → Contains before trace_event → Contains trace trace_event
   earlier trace before vote trace_event (i, after, is) h = subst (λ xs. Contains xs trace_event) (sym is) (Contains-append_left before (Signs i vote ∷ after) trace_event h)
 
@@ -36,7 +36,7 @@ module _ {D : Type 0} (trace : List (TraceEvent D)) (a b : Subject D) where
   signs_same : (i j : ℕ) → Signs i a ≡ Signs j b → a ≡ b
   signs_same i j e = cc
 
-  -- where the list is split at the first vote and holds the second one behind it
+  -- if the list is split at the first vote and has the second one after it
   second_later : (before after : List (TraceEvent D)) (i j : ℕ) → trace ≡ before ++ Signs i a ∷ after → Contains after (Signs j b) → Order trace a b
   second_later before after i j is there =
       let parts = Contains-split after (Signs j b) there in
@@ -44,7 +44,7 @@ module _ {D : Type 0} (trace : List (TraceEvent D)) (a b : Subject D) where
       let split = is ∙ (ap (λ (xs : List (TraceEvent D)). before ++ Signs i a ∷ xs) parts.2 ∙ sym (append_assoc before (Signs i a ∷ parts.0) (Signs j b ∷ parts.1))) in
       First front (j, parts.1, split) (i, Contains-middle before parts.0 (Signs i a))
 
-  -- where the second vote is the first one or stands behind it
+  -- if the second vote is the first one or comes after it
   from_first : (before after : List (TraceEvent D)) (i j : ℕ) → trace ≡ before ++ Signs i a ∷ after → Contains (Signs i a ∷ after) (Signs j b) → Order trace a b
   from_first before after i j is (zero, less, same) = Same (signs_same i j same)
   from_first before after i j is (suc k, less, same) = second_later before after i j is (k, omega arith, same)

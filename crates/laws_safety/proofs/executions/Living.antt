@@ -1,4 +1,4 @@
--- A member's execution goes on step by step.
+-- A member's execution continues step by step.
 use Rattle.std.proofs.Common.{◌≡◌, refl, ap, sym, subst, ℕ, inl, inr, Bool, true, List, [], ◌∷◌, ◌++◌, append_assoc, ◌∙◌, None, Result, Ok, Err, arith}
 use Rattle.std.specs.Prelude.{IfOk}
 use Rattle.std.proofs.lemmas.List.Elements.{Contains-append_cases}

@@ -1,4 +1,4 @@
--- What the code's steps and replies show is what the execution of them says.
+-- The code's steps and replies show the trace of their execution.
 use Rattle.std.proofs.Common.{◌≡◌, refl, ap, sym, subst, ◌∙◌, ℕ, inl, inr, Option, Bool, List, [], ◌∷◌, ◌++◌, map, Contains, Some, None, Result, Ok, Err, arith}
 use Rattle.simplex_types.specs.Config.{floor_facts}
 use Rattle.simplex_types.specs.declared.config.Floor.{Floor}
@@ -38,7 +38,7 @@ module _ {S D K G C : Type 0} (bytes_of : C → List ℕ) where
   floor_shown (floor.Genesis payload) = refl
   floor_shown (floor.Finalized f) = refl
 
--- the certificate of a call that is told whether it is new
+-- the certificate of a call whose reply says whether it is new
 abbrev where_added : {K D : Type 0} → ReplyFacts K D → List (TraceEvent D) → List (TraceEvent D)
 where_added (Added _ _) trace = trace
 where_added (AddedNullification _) trace = trace

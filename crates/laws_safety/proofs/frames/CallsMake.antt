@@ -1,5 +1,5 @@
--- Each call of a member is one event or none, and an entry that is taken again one or two; so what each event keeps holds
--- after each call and in each new life.
+-- Each call of a member is one event or none, and an entry that is taken again one or two; so the invariants of each event hold after each
+-- call and in each new lifetime.
 use Rattle.std.proofs.Common.{◌≡◌, refl, sym, subst, ℕ, Bool, true, false, if◌then◌else◌, nat_lt, List, [], ◌∷◌, Option, Some, None}
 use Rattle.std.proofs.lemmas.Bool.{false≢true}
 use Rattle.simplex_types.specs.Certificates.{Notarized, Nullified, Finalized, ArtifactFacts, NotarizeVote, NullifyVote, FinalizeVote, Verdict, Accepted}
@@ -23,7 +23,7 @@ use Rattle.simplex_record.proofs.Steps.{IsSilent}
 use Rattle.simplex_member.proofs.EventsMake.{after_one, call_is}
 use Rattle.laws_safety.proofs.frames.CallsOnWork.{is_work}
 
--- how a life begins
+-- the first event of a lifetime
 abbrev pub is_floor : {K D : Type 0} → Event K D → Bool
 is_floor (SetFloor _ _) = true
 is_floor _ = false
@@ -54,7 +54,7 @@ module _ {K L D : Type 0} (same : D → D → Bool) (elect : Elect L) (x : State
   call_taken o calls.GetBestCertificate is = tt
   call_taken o _ is = (tt, refl, refl)
 
-  -- what holds of no change and of each event that is taken holds of a call that is allowed
+  -- a claim that holds of no change and of each accepted event holds of an allowed call
   pub call_by_event : (o : OutstandingWork K D) (P : List (Event K D) → StateFacts K L D → Type 0) → P [] x → ((e : Event K D) → IsEvent x e → is_floor e ≡ false → P (e ∷ []) (after_event same elect x e)) → (call : CallFacts D) → is_allowed x o call ≡ true → P (events_of o call) (after_call same elect x o call)
   call_by_event o P still each call allowed = subst (P (events_of o call)) (sym (call_is same elect x o call)) (by_one P still each (events_of o call) (call_taken o call allowed))
 
@@ -86,7 +86,7 @@ module _ {K D : Type 0} where
   work_silent o calls.Prune work = absurd (false≢true work)
   work_silent o _ work = (record { notarization = refl; nullification = refl; finalization = refl; verdict = refl; note = refl; nullify = refl; finalize = refl; final = refl; prune = refl }, tt)
 
--- what each event keeps, whether it is taken or not, holds of each new life
+-- an invariant of each event, accepted or not, holds of each new lifetime
 
 module _ {K L D : Type 0} (same : D → D → Bool) (elect : Elect L) (P : StateFacts K L D → Type 0) (keeps : (x : StateFacts K L D) (e : Event K D) → P x → P (after_event same elect x e)) (now : ℕ) where
   pub retaken_keeps : (x : StateFacts K L D) (e : ArtifactFacts D) → P x → P (after_entry same elect x now e)

@@ -1,4 +1,4 @@
--- What a path does to each round: changes of the round alone, but where a prune drops the view.
+-- The effect of a path on each round: only changes of the round, unless a prune drops the view.
 use Rattle.std.proofs.Common.{◌≡◌, refl, ap, sym, ◌∙◌, subst, ℕ, ◌<◌, ◌⊎◌, inl, inr, Bool, true, false, cond, if◌then◌else◌, nat_le, None, is_some, unwrap_or, arith}
 use Rattle.std.specs.Ordering.{nat_cmp}
 use Rattle.std.specs.FinMap.Entries.{find-where_key}
@@ -19,7 +19,7 @@ use Rattle.laws_safety.proofs.votes.NullifyVotes.{tied}
 use Rattle.simplex_record.proofs.Steps as step
 use Rattle.simplex_record.proofs.Steps.{RoundStep, Step, Path, Puts, Raises, Scans, Prunes, Still, Then}
 
--- the view lay below what is kept, and isn't tracked
+-- the view lay below the retained ones, and isn't tracked
 pub record IsGone {K L D : Type 0} (x y : StateFacts K L D) (v : ℕ) : Type 0 where
   pub below : v < min_active x
   pub untracked : round_at y v ≡ None
@@ -66,7 +66,7 @@ module _ {K L D : Type 0} (same : D → D → Bool) (elect : Elect L) (begun : S
   step_round low x y _ w = inl step.Kept
 
   module _ (low : ℕ) (Q : ℕ → RoundFacts K D → RoundFacts K D → Type 0) (on : (v : ℕ) (r s t : RoundFacts K D) → Q v r s → Q v s t → Q v r t) (changes : (x : StateFacts K L D) (v : ℕ) (r s : RoundFacts K D) → RoundStep same elect begun e x v r s → Q v r s) where
-    -- what each change of a round brings about holds between its first and its last state
+    -- a relation that each change of a round has holds between its first and its last state
     pub rounds_along : is_prune e ≡ false → (x y : StateFacts K L D) → Path same elect begun e low x y → (v : ℕ) → Q v (round_of x v) (round_of y v)
     rounds_along no_prune x y Still v = changes x v _ _ step.Kept
     rounds_along no_prune x y (Then {y = w} path s) v = elim (step_round low w y s v) [
@@ -74,7 +74,7 @@ module _ {K L D : Type 0} (same : D → D → Bool) (elect : Elect L) (begun : S
       | inr prunes ↦ absurd (true≢false (sym prunes.0 ∙ no_prune))
     ]
 
--- the same with a prune, which drops a round or leaves it
+-- the same with a prune, which drops a round or keeps it
 
 pub prune_alone : {K L D : Type 0} (same : D → D → Bool) (elect : Elect L) (x : StateFacts K L D) (e : Event K D) → is_prune e ≡ true → after_event same elect x e ≡ after_prune x
 prune_alone same elect x Prune is = refl

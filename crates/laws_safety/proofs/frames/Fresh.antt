@@ -1,4 +1,4 @@
--- The state that a life begins with.
+-- The state that a lifetime begins with.
 use Rattle.std.proofs.Common.{◌≡◌, ◌<◌, ℕ, refl}
 use Rattle.simplex_voter.specs.Facts.{StateFacts, new_facts}
 use Rattle.simplex_record.specs.Start.{Setup, new_state}

@@ -1,4 +1,4 @@
--- A state's tracked views stand in order, and stay so with each event.
+-- A state's tracked views are in order, and stay so with each event.
 use Rattle.std.proofs.Common.{sym, subst, ℕ, Bool, if◌then◌else◌, nat_le, List, Option, arith}
 use Rattle.std.specs.Prelude.{T}
 use Rattle.std.specs.Ordering.{nat_cmp}

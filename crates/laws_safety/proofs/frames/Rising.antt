@@ -41,7 +41,7 @@ module _ {K L D : Type 0} where
   pub never_falls : (x y : StateFacts K L D) → UnchangedOrHigher x y → NeverFalls x y
   never_falls x y goes = record { current = goes.current; finalized = goes.finalized }
 
-  -- what is kept begins no lower
+  -- the lowest retained view never falls
   pub floor_goes : (x y : StateFacts K L D) → UnchangedOrHigher x y → min_active x ≤ min_active y
   floor_goes x y goes =
       let retention = ap (λ s. s.view_retention) goes.settings in

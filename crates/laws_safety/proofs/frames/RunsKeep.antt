@@ -1,4 +1,4 @@
--- What a floor sets up in a new state and each event keeps holds of each state of a run.
+-- An invariant that a floor sets up in a new state and each event keeps holds of each state of a run.
 use Rattle.std.proofs.Common.{◌≡◌, sym, subst, ℕ, inl, inr, Bool, true, false, List, [], ◌∷◌, Option, Some, None, Result, Ok, Err}
 use Rattle.std.specs.Prelude.{MatchOption}
 use Rattle.simplex_types.specs.Config.{FloorFacts}
@@ -19,7 +19,7 @@ use Rattle.simplex_member.proofs.EventsMake.{call_by_any}
 use Rattle.laws_safety.proofs.frames.CallsMake.{floor_then_all_keep}
 use Rattle.laws_safety.proofs.lives.WithinLives.{call_outcome}
 
--- while the member lives
+-- while the member has not failed
 abbrev pub HoldsIn : {K L D : Type 0} → (StateFacts K L D → Type 0) → Option (StateFacts K L D) → Type 0
 HoldsIn P None = Unit {0}
 HoldsIn P (Some x) = P x
@@ -27,7 +27,7 @@ HoldsIn P (Some x) = P x
 module _ {K L D : Type 0} (same : D → D → Bool) (elect : Elect L) (term_length : ℕ) (P : StateFacts K L D → Type 0)
     (begins : (x : StateFacts K L D) (floor : FloorFacts D) (now : ℕ) → IsNewState term_length x → P (after_set_floor same elect x floor now))
     (keeps : (x : StateFacts K L D) (e : Event K D) → P x → P (after_event same elect x e)) where
-  -- one that goes on is made again, and another one has no state
+  -- a restart that succeeds makes the state again, and a refused one leaves no state
   from_copy : (n : MemberFacts K L D) (start : StartFacts K L D) (result : Result (Unit {0}) RecoverError) (left : MemberFacts K L D) → HasTerms term_length start.setup → RecoversByView same elect n start result left → HoldsIn P left.life
   from_copy n start result left fresh (inl (is, leaves)) = rw leaves tt
   from_copy n start result left fresh (inr (copy, by_view, goes)) = by_error (recover_error same (new_state start.setup) start.floor start.now copy) goes
@@ -52,7 +52,7 @@ module _ {K L D : Type 0} (same : D → D → Bool) (elect : Elect L) (term_leng
         | inr (x, y, alive, lives, leads) ↦ subst (HoldsIn P) (sym lives) (leads (subst (HoldsIn P) alive sound))
       ]
 
-  -- from a member that keeps it on, over calls and restarts
+  -- from a member with the invariant on, over calls and restarts
   pub run_keeps : (steps : List (StepFacts K L D)) (replies : List (ReplyFacts K D)) (m end : MemberFacts K L D) → KeepTerms term_length steps → HoldsIn P m.life → IsRun same elect m steps replies end → HoldsIn P end.life
   run_keeps [] [] m end fresh sound run = subst (λ n. HoldsIn P n.life) run sound
   run_keeps [] (told ∷ replies) m end fresh sound run = absurd run

@@ -1,5 +1,5 @@
--- What each state of a life keeps: its terms, the current view above the last finalized one, each certificate at its view,
--- and the tracked views in order.
+-- The invariant of each state of a lifetime: its terms, the current view above the last finalized one, each certificate at its view, and
+-- the tracked views in order.
 use Rattle.std.proofs.Common.{◌≡◌, refl, ap, sym, ◌∙◌, subst, ℕ, ◌+◌, ◌<◌, ◌≤◌, ◌⊎◌, inl, inr, Bool, true, false, List, Option, Some, None, unwrap_or, nat_lt, arith}
 use Rattle.std.proofs.lemmas.Bool.{true≢false}
 use Rattle.std.proofs.lemmas.Bool.Decides.{nat_tests}
@@ -27,7 +27,7 @@ use Rattle.laws_safety.proofs.frames.Rising.{event_goes, goes_along, event_final
 abbrev pub IsAhead : {K L D : Type 0} → StateFacts K L D → Type 0
 IsAhead x = x.finalized < x.current
 
--- each certificate stands at its own view
+-- each certificate is at its own view
 pub record IsPlaced {K L D : Type 0} (x : StateFacts K L D) : Type 0 where
   pub views : (kind : KindOfCertificate) (v u : ℕ) → standing_view kind (round_of x v) ≡ Some u → u ≡ v
 
@@ -72,7 +72,7 @@ none_at_first D Nullification me members round = refl
 none_at_first D Finalization me members round = refl
 
 module _ {K L D : Type 0} where
-  -- no certificate stands where the view isn't tracked
+  -- there is no certificate if the view isn't tracked
   pub nothing_stands : (y : StateFacts K L D) (v : ℕ) → round_at y v ≡ None → (kind : KindOfCertificate) → standing_view kind (round_of y v) ≡ None
   nothing_stands y v untracked kind = ap (λ o. standing_view kind (unwrap_or o (new_round y.me y.members (round_number y v)))) untracked ∙ none_at_first D kind y.me y.members (round_number y v)
 

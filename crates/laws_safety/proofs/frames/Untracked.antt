@@ -63,7 +63,7 @@ module _ {K L D : Type 0} (same : D → D → Bool) (elect : Elect L) (low : ℕ
       along same elect x e low (IsClear low) (λ y z s clear. record { views = λ v below. step_out y z s v below (clear.views v below) }) x (after_event same elect x e)
       (event_path same elect low x e reached asked) clear
 
--- what is asked in a life is kept
+-- the requirements of a call in a lifetime
 
 module _ {K L D : Type 0} (x : StateFacts K L D) where
   pub kept_view : (round : Round) → takes_round x round ≡ true → (1 ≤ round.view) × (min_active x ≤ round.view)
@@ -120,12 +120,12 @@ key_passes test v (e ∷ es) h =
     ]) refl h
 
 module _ {K L D : Type 0} (same : D → D → Bool) (elect : Elect L) (x : StateFacts K L D) where
-  -- what an event drops
+  -- the views that an event drops
   pub event_dropped : (e : Event K D) (v : ℕ) → v < (if is_prune e then min_active x else 0) → is_tracked (after_event same elect x e) v ≡ false
   event_dropped event.Prune v below = (let test : nat_le (min_active x) v ≡ false = grind (arith, nat_tests) in ap is_some (pruned_view x v ∙ ap (λ b. cond b (round_at x v) None) test))
   event_dropped _ v below = absurd (omega (arith, below))
 
-  -- only a prune is told what was dropped
+  -- only the reply of a prune has dropped views
   pub call_drops : (o : OutstandingWork K D) (call : CallFacts D) (views : List ℕ) (v : ℕ) → answer same elect x o call ≡ Dropped views → Contains views v → (v < min_active x) × IsClear (min_active x) (after_call same elect x o call)
   call_drops o Prune views v tells among =
       let same_views : prune_answer x ≡ views = cc in

@@ -1,4 +1,4 @@
--- Where an element stands in a filtered list.
+-- The place of an element in a filtered list.
 use Rattle.std.proofs.Common.{◌≡◌, refl, sym, ap, ◌∙◌, subst, ℕ, inl, inr, Bool, true, false, cond, List, [], ◌∷◌, ◌++◌, Contains, filter, arith}
 use Rattle.std.specs.Prelude.{◌==◌}
 use Rattle.std.proofs.lemmas.Bool.{eq-eqb}
@@ -24,7 +24,7 @@ kept_split {X} test y xs after x rest false is before e =
     let left_out : filter test (y ∷ h.0) ≡ filter test h.0 = rw is in
     (y ∷ h.0, h.1, ap (λ (zs : List X). y ∷ zs) h.2, cc)
 
--- what is kept stands in the whole list behind what was kept before it
+-- an element that passes is in the whole list after those that passed before it
 pub filter_split : {X : Type 0} (test : X → Bool) (xs before after : List X) (x : X) → filter test xs ≡ before ++ x ∷ after → (front back : List X) × (xs ≡ front ++ x ∷ back) × (before ≡ filter test front)
 filter_split {X} test [] [] after x e = absurd (cc)
 filter_split {X} test [] (b ∷ before) after x e = absurd (cc)
@@ -48,7 +48,7 @@ Contains-filtered {X} test xs x h =
     let whole = filter_split test xs parts.0 parts.1 x parts.2 in
     subst (λ (zs : List X). Contains zs x) (sym whole.2) (Contains-middle whole.0 whole.1 x)
 
--- what is kept passes the test
+-- a filtered element passes the test
 pub filtered_passes : {X : Type 0} (test : X → Bool) (xs : List X) (x : X) → Contains (filter test xs) x → test x ≡ true
 filtered_passes test [] x h = absurd (omega (arith, h.1))
 filtered_passes {X} test (y ∷ xs) x h = (elim (test y) as (λ b. test y ≡ b → Contains (cond b (y ∷ filter test xs) (filter test xs)) x → test x ≡ true) [

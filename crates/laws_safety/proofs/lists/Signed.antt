@@ -1,4 +1,4 @@
--- What is signed in traces, whoever signs.
+-- The signed votes of traces, by any signer.
 use Rattle.std.proofs.Common.{◌≡◌, ◌⊎◌, inl, inr, ℕ, List, [], ◌∷◌, ◌++◌, Option, Some, None, refl, ap, arith}
 use Rattle.std.proofs.lemmas.List.Elements.{Contains-append_left, Contains-append_right, Contains-append_cases, Contains-push_cases}
 use Rattle.simplex_types.specs.declared.types.messages.Subject.{Subject}

@@ -1,8 +1,8 @@
--- Where an element stands in a list, and in one that was made longer by one.
+-- The place of an element in a list, and in one that was made longer by one.
 use Rattle.std.proofs.Common.{◌≡◌, ◌⊎◌, inl, inr, zero, suc, List, [], ◌∷◌, ◌++◌, Contains, refl, ap, arith}
 use Rattle.std.proofs.lemmas.List.Elements.{Contains-append_right}
 
--- an element of a longer list stands in the shorter one or is the new one
+-- an element of a longer list is in the shorter one or is the new one
 pub push_split : {X : Type 0} (xs before after : List X) (y x : X) → xs ++ y ∷ [] ≡ before ++ x ∷ after → ((rest : List X) × (xs ≡ before ++ x ∷ rest)) ⊎ ((before ≡ xs) × (y ≡ x))
 push_split [] [] after y x e = inr (refl, cc)
 push_split [] (b ∷ []) after y x e = absurd (cc)

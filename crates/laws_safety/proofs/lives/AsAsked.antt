@@ -1,5 +1,5 @@
 -- For `runs_keep_order`.
--- A certificate that is handed out is what was asked for, where each certificate stands at its own view.
+-- A certificate that is returned for broadcast is the requested one, if each certificate is at its own view.
 use Rattle.std.proofs.Common.{◌≡◌, refl, ap, sym, ◌∙◌, subst, ℕ, inl, inr, Bool, [], ◌∷◌, Option, Some, None}
 use Rattle.std.specs.Prelude.{option_map}
 use Rattle.simplex_types.specs.Certificates.{CertificateFacts, Notarized, Nullified, Finalized}

@@ -1,5 +1,5 @@
 -- For `runs_keep_order`.
--- A conflict of a view stays in a life until the view is pruned.
+-- A conflict of a view stays in a lifetime until the view is pruned.
 use Rattle.std.proofs.Common.{◌≡◌, refl, subst, ℕ, ◌≤◌, inl, inr, Bool, true, List, [], ◌∷◌, arith}
 use Rattle.std.proofs.lemmas.List.Elements.{Contains-append_left}
 use Rattle.simplex_voter.specs.Facts.{StateFacts, Elect}
@@ -16,7 +16,7 @@ use Rattle.laws_safety.proofs.lives.Lasting.{call_lasts}
 use Rattle.simplex_record.proofs.Paths.{tracked_by}
 use Rattle.laws_safety.proofs.lives.WithinLives.{alive_still, alive_joined, each_call}
 
--- conflicts stay, and what is kept does not begin lower
+-- conflicts stay, and the lowest retained view never falls
 pub record ConflictsLast {K L D : Type 0} (replies : List (ReplyFacts K D)) (x y : StateFacts K L D) : Type 0 where
   pub floor : min_active x ≤ min_active y
   pub conflicts : ConflictsStay replies x y

@@ -1,5 +1,5 @@
 -- For readers.
--- Calls of one life by the definitions, of member 0 of the recoveries' examples, who keeps 5 views.
+-- Calls of one lifetime by the definitions, of member 0 of the recoveries' examples, who retains 5 views.
 use Rattle.std.proofs.Common.{◌≡◌, refl, ℕ, true, false, List, [], ◌∷◌, Some, None, nat_eq}
 use Rattle.std.specs.List.{fold}
 use Rattle.simplex_types.specs.Config.{Genesis}
@@ -26,12 +26,12 @@ Call = CallFacts ℕ
 abbrev Reply : Type 0
 Reply = ReplyFacts ℕ ℕ
 
--- begun at genesis, in terms of so many views
+-- begun at genesis, in terms of this many views
 abbrev begun_in : ℕ → State
 begun_in term_length =
     after_set_floor nat_eq in_turn (new_facts (record settings { view_retention = 5 }) (Some 0) (0 ∷ 1 ∷ 2 ∷ 3 ∷ []) 1 (record { term_length = term_length; optimistic_views = 0; stall_timeout = None }) true) (Genesis 0) 0
 
--- what allowed calls leave, and what they are told; none of them is answered by what is open
+-- the state after allowed calls, and their replies; no reply depends on the open requests
 abbrev after_all : State → List Call → State
 after_all x calls = fold (λ y call. after_call nat_eq in_turn y no_outstanding_work call) x calls
 
@@ -63,7 +63,7 @@ asked_often =
     ∷ BroadcastFinalization 1
     ∷ []
 
--- nothing before it stands there, and once then; the best certificate is shown as often as one likes
+-- none before it is there, and once then; the best certificate is returned as often as one likes
 once_each : handed Notarization asked_often ≡ 1 ∷ 2 ∷ []
 once_each = refl
 
@@ -77,7 +77,7 @@ contradicted = AddNotarization (certificate 1 0) ∷ AddFinalization (certificat
 conflict : has_conflict (after contradicted) 1 ≡ true
 conflict = refl
 
--- a prune takes nothing that is kept
+-- a prune drops no retained view
 still_kept : has_conflict (after (AddNotarization (certificate 1 0) ∷ AddFinalization (certificate 1 9) 0 ∷ Prune ∷ [])) 1 ≡ true
 still_kept = refl
 

@@ -1,5 +1,5 @@
 -- For `votes_are_lawful`.
--- In each state of a run, what may be voted for skips only views that the state knows to be nullified.
+-- In each state of a run, a proposal that may be voted for skips only views that the state knows to be nullified.
 use Rattle.std.proofs.Common.{◌≡◌, ℕ, ◌<◌, Bool, true, List, ◌++◌, Option, Some, None, arith}
 use Rattle.std.specs.Prelude.{MatchOption}
 use Rattle.simplex_types.specs.Certificates.{ArtifactFacts}

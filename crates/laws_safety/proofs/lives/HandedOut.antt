@@ -1,5 +1,5 @@
 -- For `runs_keep_order`.
--- Within a life each certificate is handed out to broadcast once.
+-- Within a lifetime each certificate is returned for broadcast once.
 use Rattle.std.proofs.Common.{◌≡◌, refl, ap, sym, ◌∙◌, subst, ℕ, ◌<◌, ◌||◌, ◌⊎◌, inl, inr, Bool, true, false, if◌then◌else◌, List, [], ◌∷◌, Option, Some, None, is_some, unwrap_or, arith}
 use Rattle.std.specs.Prelude.{option_map, option_and_then, nat_eq}
 use Rattle.std.specs.List.{IsDistinct, AllByRecursion}
@@ -24,12 +24,12 @@ use Rattle.simplex_record.specs.Events.{Event, IsEvent, after_event}
 use Rattle.simplex_record.proofs.Rounds.{round_put}
 use Rattle.laws_safety.proofs.lives.WithinLives.{call_outcome}
 
--- the view's certificate is not to be handed out any more: it was, or none stands there and none comes
+-- the view's certificate is not to be returned any more: it was, or there is none and none comes
 abbrev pub IsSpent : {K L D : Type 0} → KindOfCertificate → ℕ → StateFacts K L D → Type 0
 IsSpent kind v x =
     (is_handed kind (round_of x v) ≡ true) ⊎ ((v < min_active x) × (standing_view kind (round_of x v) ≡ None))
 
--- no view's certificate is handed out, or one that was not spent, and is then
+-- no view's certificate is returned, or one that was not spent, and is then
 abbrev pub Hands : {K L D : Type 0} → KindOfCertificate → List ℕ → StateFacts K L D → StateFacts K L D → Type 0
 Hands kind views x y = (views ≡ []) ⊎ ((v : ℕ) × (views ≡ v ∷ []) × (IsSpent kind v x → ⊥) × IsSpent kind v y)
 
@@ -38,7 +38,7 @@ pub record HandsOut {K L D : Type 0} (call : CallFacts D) (told : ReplyFacts K D
   pub hands : (kind : KindOfCertificate) → Hands kind (returned_by_call kind call told) x y
 
 module _ {K L D C : Type 0} (flag : RoundFacts K D → Bool) (certificate : RoundFacts K D → Option C) (x : StateFacts K L D) (v : ℕ) where
-  -- what is answered stands there, and was not handed out
+  -- the returned certificate is there, and was not returned before
   pub record IsFirst (c : C) : Type 0 where
     pub fresh : flag (round_of x v) ≡ false
     pub stands : certificate (round_of x v) ≡ Some c
@@ -75,12 +75,12 @@ or_some true o c is = refl
 or_some false o c is = ap is_some is
 
 module _ {K L D : Type 0} where
-  -- a view whose certificate stands there and was not handed out is not spent
+  -- a view whose certificate is there and was not returned is not spent
   unspent : (kind : KindOfCertificate) (x : StateFacts K L D) (v : ℕ) → is_handed kind (round_of x v) ≡ false → is_some (standing_view kind (round_of x v)) ≡ true → IsSpent kind v x → ⊥
   unspent kind x v unsent stands (inl sent) = false≢true (sym unsent ∙ sent)
   unspent kind x v unsent stands (inr (below, none)) = false≢true (sym (ap is_some none) ∙ stands)
 
-  -- a round that is put at a tracked view and was handed out
+  -- a round that is stored at a tracked view and was returned
   now_spent : (kind : KindOfCertificate) (x : StateFacts K L D) (v : ℕ) (r : RoundFacts K D) → is_tracked x v ≡ true → is_handed kind r ≡ true → IsSpent kind v (if is_tracked x v then with_round x v r else x)
   now_spent kind x v r tracked sent =
       subst (λ b. IsSpent kind v (if b then with_round x v r else x)) (sym tracked)
@@ -179,7 +179,7 @@ IsSpentIn kind v None = Unit {0}
 IsSpentIn kind v (Some x) = IsSpent kind v x
 
 module _ {K L D : Type 0} (same : D → D → Bool) (elect : Elect L) (kind : KindOfCertificate) where
-  -- what is spent is not handed out any more
+  -- a spent certificate is not returned any more
   never_again : (v : ℕ) (m end : MemberFacts K L D) (calls : List (CallFacts D)) (replies : List (ReplyFacts K D)) → IsSpentIn kind v m.life → IsLifetime same elect m calls replies end → AllByRecursion (λ w. nat_eq v w ≡ false) (returned_in kind calls replies)
   never_again v m end [] [] spent life = tt
   never_again v m end [] (told ∷ replies) spent life = absurd life

@@ -1,5 +1,5 @@
 -- For `runs_keep_order`.
--- What lasts of each round within a life: a conflict, its certificates, and which of them were handed out.
+-- What lasts of each round within a lifetime: a conflict, its certificates, and which of them were returned for broadcast.
 use Rattle.std.proofs.Common.{◌≡◌, refl, ap, sym, ◌∙◌, subst, ℕ, ◌<◌, ◌≤◌, ◌⊎◌, inl, inr, Bool, true, false, ◌||◌, not, if◌then◌else◌, nat_lt, cond, List, [], ◌∷◌, Contains, Option, Some, None, is_some, arith}
 use Rattle.std.specs.Prelude.{option_map, ◌&&◌, map, filter}
 use Rattle.std.specs.Option.{option_map_or}
@@ -35,19 +35,19 @@ use Rattle.simplex_record.proofs.Steps.{RoundStep, notarization_by, nullificatio
 use Rattle.laws_safety.proofs.frames.Untracked.{kept_view}
 
 module _ {K D : Type 0} where
-  -- the certificate of this kind was handed out, and stands there
+  -- the certificate of this kind was returned, and is there
   abbrev pub is_handed : KindOfCertificate → RoundFacts K D → Bool
   is_handed Notarization r = r.notarization_broadcast
   is_handed Nullification r = r.nullification_broadcast
   is_handed Finalization r = r.finalization_broadcast
 
-  -- the view of the one that stands there
+  -- the view of the one that is there
   abbrev pub standing_view : KindOfCertificate → RoundFacts K D → Option ℕ
   standing_view Notarization r = option_map (λ c. c.proposal.round.view) r.notarization
   standing_view Nullification r = option_map (λ c. c.round.view) r.nullification
   standing_view Finalization r = option_map (λ c. c.proposal.round.view) r.finalization
 
--- what stands is as before, or has come to its own view, which is kept
+-- it is as before, or has come to its own view, which is retained
 abbrev pub UnchangedOrOwnView : (low v : ℕ) (before after : Option ℕ) → Type 0
 UnchangedOrOwnView low v before after = (after ≡ before) ⊎ ((low ≤ v) × (after ≡ Some v))
 
@@ -56,7 +56,7 @@ stands_on low v a b c (inl p) (inl q) = inl (q ∙ p)
 stands_on low v a b c (inr (kept, p)) (inl q) = inr (kept, q ∙ p)
 stands_on low v a b c p (inr q) = inr q
 
--- a round of the view v becomes another, by an event before which the views from `low` on are kept
+-- a round of the view v becomes another, by an event before which the views from `low` on are retained
 pub record RoundLasts {K D : Type 0} (low v : ℕ) (r s : RoundFacts K D) : Type 0 where
   pub conflict : r.slot.conflict ≡ true → s.slot.conflict ≡ true
   pub notarization_handed : r.notarization_broadcast ≡ true → s.notarization_broadcast ≡ true
@@ -77,7 +77,7 @@ module _ {K D : Type 0} (low v : ℕ) where
   certificates r s lasts Nullification = lasts.nullification
   certificates r s lasts Finalization = lasts.finalization
 
-  -- none comes below the views that are kept
+  -- none comes below the retained views
   pub none_comes : (r s : RoundFacts K D) → RoundLasts low v r s → (kind : KindOfCertificate) → v < low → standing_view kind r ≡ None → standing_view kind s ≡ None
   none_comes r s lasts kind below none = elim (certificates r s lasts kind) [ inl same ↦ same ∙ none | inr (kept, comes) ↦ absurd (omega arith) ]
 
@@ -123,7 +123,7 @@ module _ {D : Type 0} (same : Proposal D → Proposal D → Bool) (s : SlotFacts
       by_test true = h
       by_test false = h
 
--- the certificates that an event brings are of views that are kept
+-- the certificates that an event brings are of retained views
 pub record BringsFrom {K D : Type 0} (low : ℕ) (e : Event K D) : Type 0 where
   pub notarization : (c : ProposalFacts D) → notarization_by e ≡ Some c → low ≤ c.proposal.round.view
   pub nullification : (c : NullificationFacts) → nullification_by e ≡ Some c → low ≤ c.round.view
@@ -173,7 +173,7 @@ module _ {K L D : Type 0} (same : D → D → Bool) (elect : Elect L) (x : State
   event_lasts = rounds_or_gone same elect x e 0 (RoundLasts low) (round_joined low) change_lasts (event_path same elect 0 x e (omega arith) (asked_of_all x e))
 
 module _ {K L D : Type 0} (x : StateFacts K L D) where
-  -- within a life
+  -- within a lifetime
   pub brings_kept : (e : Event K D) → IsEvent x e → is_floor e ≡ false → BringsFrom (min_active x) e
   brings_kept (event.SetFloor floor now) takes none = absurd (true≢false none)
   brings_kept (event.AddNotarization c) takes none = record { notarization = λ d is. (let e : c ≡ d = cc in subst (λ (h : ProposalFacts D). min_active x ≤ h.proposal.round.view) e (kept_view x c.proposal.round takes).1); nullification = λ d is. absurd (cc); finalization = λ d is. absurd (cc) }
@@ -187,7 +187,7 @@ brings_any e = record { notarization = λ c is. omega arith; nullification = λ 
 
 -- calls
 
--- what is found under a key that passes a test is among the keys that do
+-- an entry found under a key that passes a test is among the keys that do
 found_key : {V : Type 0} (test : ℕ → Bool) (v : ℕ) (es : List (ℕ × V)) → is_some (find nat_cmp v es) ≡ true → test v ≡ true → Contains (map (λ e. e.0) (filter (λ e. test e.0) es)) v
 found_key test v [] there passes = absurd (cc)
 found_key test v (e ∷ es) there passes = elim (cases_eq v e.0) [
@@ -201,7 +201,7 @@ found_key test v (e ∷ es) there passes = elim (cases_eq v e.0) [
       ])
 ]
 
--- a view below those that were kept isn't tracked from a call on, which is told that it was dropped
+-- a view below the retained ones isn't tracked after a call whose reply says that it was dropped
 pub record Drops {K L D : Type 0} (x y : StateFacts K L D) (told : ReplyFacts K D) (v : ℕ) : Type 0 where
   pub gone : IsGone x y v
   pub dropped : is_tracked x v ≡ true → WasDropped (told ∷ []) v

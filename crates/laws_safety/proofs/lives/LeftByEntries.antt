@@ -1,5 +1,5 @@
 -- For `states_time_out`.
--- A recovery leaves each view whose true verdict stands in the record, and so each that it decides to finalize.
+-- A recovery leaves each view whose true verdict is in the record, and so each that it decides to finalize.
 use Rattle.std.proofs.Common.{◌≡◌, refl, sym, ◌∙◌, ℕ, ◌<◌, ◌≤◌, ◌⊎◌, inl, inr, Bool, true, false, if◌then◌else◌, ◌&&◌, ◌==◌, nat_lt, List, [], ◌∷◌, ◌++◌, Option, None, arith}
 use Rattle.std.proofs.lemmas.Bool.{false≢true, eqb-true, or_cases}
 use Rattle.std.proofs.lemmas.Bool.Decides.{nat_tests}
@@ -28,18 +28,18 @@ use Rattle.laws_safety.proofs.lives.TimingOut.{TimesOut, new_times_out, event_ti
 use Rattle.laws_safety.proofs.lives.LeftViews.{LeftUnless, None_settled, left_but, event_left, floor_left, unsettled_timeout}
 use Rattle.laws_safety.proofs.votes.ShownVotesByCalls.{certified_passes}
 
--- what the entries that were taken leave
+-- the state after the entries that were taken
 pub record EntriesLeft {K L D : Type 0} (before : List (ArtifactFacts D)) (x : StateFacts K L D) : Type 0 where
   pub times_out : TimesOut x
   pub left : LeftUnless None_settled x
-  -- a true verdict enters a later view, or lies below what is kept
+  -- a true verdict enters a later view, or lies below the retained ones
   pub verdicts : (v : ℕ) → stands v (is_verdict true) before ≡ true → v < x.current
 
 module _ {K L D : Type 0} (same : D → D → Bool) (elect : Elect L) where
   abbrev replay_of : ArtifactFacts D → Event K D
   replay_of a = event.Replay a
 
-  -- an event that settles no view but those that it leaves
+  -- an event that settles only views that it leaves
   settled_left : (x : StateFacts K L D) (e : Event K D) → ((v : ℕ) → settles v e ≡ true → v < (after_event same elect x e).current) → LeftUnless None_settled x → LeftUnless None_settled (after_event same elect x e)
   settled_left x e leaves left = left_but (after_event same elect x e) _ None_settled by_event (event_left same elect None_settled x e left)
     where
@@ -73,7 +73,7 @@ module _ {K L D : Type 0} (same : D → D → Bool) (elect : Elect L) where
     never_settles : (v : ℕ) → false ≡ true → ⊥
     never_settles v is = false≢true is
 
-    -- an entry of a view that is kept
+    -- an entry of a retained view
     entry_left : (before : List (ArtifactFacts D)) (e : ArtifactFacts D) → lacks_true_verdict before e ≡ false → EntriesLeft before x → LeftUnless None_settled (after_entry same elect x now e)
     entry_left before (NotarizeVote p m) judged kept = settled_left x (event.Replay (NotarizeVote p m)) (λ v is. absurd (never_settles v is)) kept.left
     entry_left before (NullifyVote round m) judged kept = settled_left x (event.Replay (NullifyVote round m)) (λ v is. absurd (never_settles v is)) kept.left
@@ -111,7 +111,7 @@ module _ {K L D : Type 0} (same : D → D → Bool) (elect : Elect L) where
       ];
     }
 
-    -- one of a lower view is passed over
+    -- one of a lower view is skipped
     passed_left : (before : List (ArtifactFacts D)) (e : ArtifactFacts D) → nat_lt (entry_view e) (min_active x) ≡ true → EntriesLeft before x → EntriesLeft (e ∷ before) x
     passed_left before e low kept = record {
       times_out = kept.times_out;
@@ -133,7 +133,7 @@ module _ {K L D : Type 0} (same : D → D → Bool) (elect : Elect L) where
 abbrev Rules : Type 0
 Rules = List (Bool × RecoverError)
 
--- an entry that breaks no rule has what a vote to finalize asks for
+-- an entry that breaks no rule has what a vote to finalize requires
 module _ {D : Type 0} (same : D → D → Bool) (epoch : ℕ) (me : Option ℕ) where
   judged_before : (before : List (ArtifactFacts D)) (e : ArtifactFacts D) → first_error (entry_rules same epoch me before e) ≡ None → lacks_true_verdict before e ≡ false
   judged_before before e kept =

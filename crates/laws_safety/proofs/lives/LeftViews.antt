@@ -24,7 +24,7 @@ use Rattle.laws_safety.proofs.frames.Rising.{event_goes}
 use Rattle.laws_safety.proofs.lives.TimingOut.{TimesOut, new_times_out, event_times_out, says_timeout}
 use Rattle.laws_safety.proofs.votes.ShownVotesByCalls.{certified_passes}
 
--- a verdict and a decision of a round stood before, or are the event's
+-- a verdict and a decision of a round were there before, or are the event's
 pub record Decides {K D : Type 0} (e : Event K D) (v : ℕ) (r s : RoundFacts K D) : Type 0 where
   pub certified : is_certified s.certification ≡ true → (is_certified r.certification ≡ true) ⊎ (verdict_by e ≡ Some (v, true))
   pub finalize : is_finalize s.decision ≡ true → (is_finalize r.decision ≡ true) ⊎ (finalize_by e ≡ Some v)
@@ -139,7 +139,7 @@ module _ {K L D : Type 0} (same : D → D → Bool) (elect : Elect L) (settled :
       ]
       by_decision v is (inr gone) = absurd (false≢true (sym (ap (λ (r : RoundFacts K D). is_finalize r.decision) (fresh v gone.1)) ∙ is))
 
--- what says that no view is settled
+-- the claim that no view is settled
 abbrev pub None_settled : ℕ → Type 0
 None_settled v = ⊥
 

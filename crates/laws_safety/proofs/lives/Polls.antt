@@ -37,7 +37,7 @@ has_its_timeout term_length trace closed kept entries o x timed lives =
       | inr (inr decided) ↦ absurd (let left = here.left decided in omega (arith, left))
     ]
 
--- what a poll answers
+-- the result of a poll
 
 some_mapped : {A B : Type 0} (f : A → B) (o : Option A) → is_some o ≡ true → (b : B) × (option_map f o ≡ Some b)
 some_mapped f None is = absurd (false≢true is)

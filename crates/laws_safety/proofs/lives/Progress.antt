@@ -61,7 +61,7 @@ module _ {K L D : Type 0} (v : ℕ) where
       either_reaches (option_map_or (waits_for elect x p) (round_at x (p + 1)) false) (named_also x (p + 1)) x
       (either_reaches (nat_lt x.finalized (p + 1)) (record x { named = insert_key nat_cmp x.named (p + 1) }) x reached reached) reached
 
--- a state that goes on, above its last finalized view
+-- a state that has not failed, above its last finalized view
 pub record IsSoundAndAlive {K L D : Type 0} (term_length : ℕ) (x : StateFacts K L D) : Type 0 where
   pub sound : IsSound term_length x
   pub alive : x.failed ≡ false

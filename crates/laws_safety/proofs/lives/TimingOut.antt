@@ -1,5 +1,5 @@
 -- For `current_views_time_out`.
--- The current view lies above the last finalized one, no finalization stands from it on, and it times out.
+-- The current view lies above the last finalized one, there is no finalization from it on, and it times out.
 use Rattle.std.proofs.Common.{◌≡◌, refl, ap, sym, ◌∙◌, subst, ℕ, ◌+◌, ◌<◌, ◌≤◌, ◌⊎◌, inl, inr, Bool, true, false, ◌||◌, ◌&&◌, not, List, Option, Some, None, is_some, unwrap_or, arith}
 use Rattle.std.specs.Option.{option_map_or}
 use Rattle.std.specs.Prelude.{if◌then◌else◌}
@@ -54,7 +54,7 @@ module _ {K L D : Type 0} (same : D → D → Bool) (elect : Elect L) (begun : S
     | inr prunes ↦ absurd (true≢false (sym prunes.0 ∙ no_prune))
   ]
 
--- a finalization stands where one stood, or the event brings it
+-- there is a finalization if there was one, or the event brings it
 abbrev FinalizedBy : {K D : Type 0} → Event K D → ℕ → RoundFacts K D → RoundFacts K D → Type 0
 FinalizedBy {K} {D} e v r s = (s.finalization ≡ r.finalization) ⊎ ((c : ProposalFacts D) × (finalization_by e ≡ Some c) × (c.proposal.round.view ≡ v))
 
@@ -81,7 +81,7 @@ module _ {K L D : Type 0} (same : D → D → Bool) (elect : Elect L) (x : State
   path : Path same elect x e 0 x after
   path = event_path same elect 0 x e (omega arith) (asked_of_all x e)
 
-  -- none comes to stand from the current view on
+  -- none appears from the current view on
   still_open : IsAhead after → ((v : ℕ) → x.current ≤ v → (round_of x v).finalization ≡ None) → (v : ℕ) → after.current ≤ v → (round_of after v).finalization ≡ None
   still_open ahead none v from =
       elim (rounds_or_gone same elect x e 0 (FinalizedBy e) (finalized_on same elect x e) (change_finalized same elect x e) path v) [
@@ -99,7 +99,7 @@ module _ {K L D : Type 0} (same : D → D → Bool) (elect : Elect L) (x : State
       none_there : IsGone x after v → (round_of after v).finalization ≡ None
       none_there gone = ap (λ o. (unwrap_or o (new_round after.me after.members (round_number after v))).finalization) gone.untracked
 
-  -- the current view times out behind a prune, which keeps it
+  -- the current view times out after a prune, which keeps it
   pruned_timed : TimesOut x → is_timed (round_of (after_prune x) x.current).decision ≡ true
   pruned_timed times_out = elim (pruned_round x x.current) [
     | inl kept ↦ ap (λ (r : RoundFacts K D). is_timed r.decision) kept ∙ times_out.timed
@@ -147,7 +147,7 @@ module _ {K L D : Type 0} (same : D → D → Bool) (elect : Elect L) where
   floor_times_out term_length x floor now fresh =
       subst (λ y. TimesOut (after_set_floor same elect y floor now)) (sym fresh.fresh) (new_times_out x.settings x.me x.members x.elector x.terms x.elects_early floor now)
 
--- what is said of the timeout
+-- claims about the timeout
 
 module _ {K L D : Type 0} (x : StateFacts K L D) where
   pub says_timeout : TimesOut x → (has_timeout x ≡ true) ⊎ (is_certified (round_of x x.current).certification ≡ true) ⊎ (is_finalize (round_of x x.current).decision ≡ true)

@@ -1,5 +1,5 @@
 -- For `lifetimes_keep_order`.
--- What holds of each call holds of each life.
+-- A law of each call is one of each lifetime.
 use Rattle.std.proofs.Common.{◌≡◌, refl, ap, ◌∙◌, ◌⊎◌, subst, Bool, true, false, List, [], ◌∷◌, Option, Some, None, inl, inr, sym}
 use Rattle.simplex_types.specs.declared.types.fault.Fault.{Fault}
 use Rattle.simplex_voter.specs.Facts.{StateFacts, Elect}
@@ -25,7 +25,7 @@ module _ {K L D : Type 0} where
   alive_joined P Q R (Some x) (Some y) (Some z) join p q = join x y z p q
 
 module _ {K L D : Type 0} (same : D → D → Bool) (elect : Elect L) where
-  -- a relation of each state to itself where a call is refused, and to what is left where it is answered
+  -- a relation of each state to itself if a call is refused, and to the next one if it is answered
   module _ (Holds : CallFacts D → ReplyFacts K D → StateFacts K L D → StateFacts K L D → Type 0)
       (refused : (call : CallFacts D) (fault : Fault) (x : StateFacts K L D) → Holds call (Refused fault) x x)
       (not_allowed : (call : CallFacts D) (x : StateFacts K L D) → Holds call NotAllowed x x)

@@ -1,5 +1,5 @@
 -- For `runs_keep_order`.
--- The lives of a run from a start, and what each of them keeps.
+-- The lifetimes of a run from a start, and the laws of each.
 use Rattle.std.proofs.Common.{◌≡◌, refl, sym, ◌∙◌, subst, ℕ, ◌<◌, ◌≤◌, inl, inr, Bool, true, List, [], ◌∷◌, ◌++◌, length, map, Option, Some, None, arith}
 use Rattle.std.proofs.lemmas.List.{length-map}
 use Rattle.simplex_types.specs.declared.types.fault.Fault.{Fault}
@@ -26,7 +26,7 @@ use Rattle.laws_safety.proofs.frames.Sound.{IsSound, event_sound, floor_sound}
 use Rattle.laws_safety.proofs.frames.RunsKeep.{HoldsIn, run_induction}
 use Rattle.laws_safety.proofs.lives.WithinLives.{alive_still, alive_joined, each_call, call_outcome}
 
--- where no view below one that is kept is tracked none comes to be, also where views are dropped on the way
+-- if no view below a retained one is tracked none becomes so, also if views are dropped on the way
 pub record Away {K L D : Type 0} (replies : List (ReplyFacts K D)) (x y : StateFacts K L D) : Type 0 where
   pub floor : min_active x ≤ min_active y
   pub clear : (low : ℕ) → low ≤ min_active x → IsClear low x → IsClear low y
@@ -95,12 +95,12 @@ module _ {K L D : Type 0} (same : D → D → Bool) (elect : Elect L) (term_leng
       (told_away some m call told next is_call)
       (life_away some next end calls replies rest)
 
--- while it lives
+-- while it has not failed
 abbrev pub IsSoundIn : {K L D : Type 0} → ℕ → Option (StateFacts K L D) → Type 0
 IsSoundIn term_length life = HoldsIn (IsSound term_length) life
 
 module _ {K L D : Type 0} (same : D → D → Bool) (elect : Elect L) (term_length : ℕ) where
-  -- a life of a run begins with a sound state
+  -- a lifetime of a run begins with a sound state
   pub life_sound : (start : StartFacts K L D) (steps : List (StepFacts K L D)) (told : List (ReplyFacts K D)) (m end : MemberFacts K L D) (calls : List (CallFacts D)) (replies : List (ReplyFacts K D)) → HasTerms term_length start.setup → KeepTerms term_length steps → IsLifetimeOfRun same elect start steps told m calls replies end → IsSoundIn term_length m.life
   life_sound start steps told m end calls replies begins fresh of_run =
       run_induction same elect term_length (IsSound term_length) (λ x floor now new. floor_sound same elect term_length x floor now new) (λ x e sound. event_sound same elect term_length x e sound) start steps told m begins fresh of_run.reached
@@ -128,7 +128,7 @@ module _ {K L D : Type 0} (same : D → D → Bool) (elect : Elect L) (term_leng
       life_hands_once same elect m end calls replies of_run.life
 
 module _ (K : Type 0) {D : Type 0} where
-  -- what a call is told that is refused is as asked
+  -- the reply to a refused call is as requested
   refused_rightly : (call : CallFacts D) (fault : Fault) → IsAsAsked {K = K} call (Refused fault)
   refused_rightly call fault = λ kind v d asks tells. absurd (cc)
 
@@ -175,7 +175,7 @@ module _ {K L D : Type 0} (same : D → D → Bool) (elect : Elect L) where
       let first = run_apart steps after told rest (new_member same elect start) last as_many run in
       (accepted, first.0, first.1)
 
-  -- calls of a run without a restart among them go on from a member that the run leads to
+  -- calls of a run without a restart among them continue from a member that the run leads to
   pub stretch_is_life : (start : StartFacts K L D) (steps after : List (StepFacts K L D)) (calls : List (CallFacts D)) (told replies rest : List (ReplyFacts K D)) → length steps ≡ length told → length calls ≡ length replies → IsRunFrom same elect start (steps ++ (map Calls calls ++ after)) (told ++ (replies ++ rest)) → (m end : MemberFacts K L D) × IsLifetimeOfRun same elect start steps told m calls replies end
   unfolding IsRunFrom
   stretch_is_life start steps after calls told replies rest as_many as_told (accepted, last, run) =

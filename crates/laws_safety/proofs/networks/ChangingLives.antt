@@ -1,5 +1,5 @@
 -- For `lifetimes_may_differ`, `refusals_accept_nothing`.
--- Members of whom much is refused, and whose lives differ, run as they are told.
+-- A member that refuses much, and one whose lifetimes differ, run with these replies.
 use Rattle.std.proofs.Common.{◌≡◌, refl, ℕ, inl, inr, true, false, List, [], ◌∷◌, ◌++◌, nat_eq, arith}
 use Rattle.simplex_types.specs.Certificates.{ArtifactFacts, NullifyVote, FinalizeVote, Verdict, Accepted, Notarized, Nullified, Finalized as CertifiedFinal}
 use Rattle.simplex_voter.specs.Gaps.{first_unnullified_view}
@@ -21,7 +21,7 @@ use Rattle.laws_safety.proofs.networks.Continuations.{network_of}
 use Rattle.laws_safety.proofs.networks.Scripts.{patient_ran}
 use Rattle.laws_safety.proofs.networks.ComputedRuns.{FindsRisingRecords, fits_run_from, rises, each_begins, told_from}
 
--- what the steps are told, and that the record rises at each restart
+-- the replies to the steps, and that the record rises at each restart
 abbrev FitsFrom : Execution ℕ ℕ ℕ → Type 0
 FitsFrom s = FindsRisingRecords nat_eq leader (new_member nat_eq leader s.start) s.steps
 
@@ -29,7 +29,7 @@ refusing_told : told_from nat_eq leader refusing ≡ refusing.replies
 unfolding first_recover_error recovered_state after_kept_entry may_drop pruned_entries has_valid_parent_span ancestry_payload_for_child first_unnullified_view explicit_ancestry_payload in_issuance_window is_admitted verification_matches parent_payload_for may_notarize may_nullify may_finalize has_conflicting_nullify required_certification_parent
 refusing_told = refl
 
--- what is left of the record at the first two restarts, and at the others
+-- the record that remains at the first two restarts, and at the others
 abbrev finalized_first : List (ArtifactFacts ℕ)
 finalized_first = Accepted (Notarized (certificate one)) ∷ Verdict (round 1) true ∷ FinalizeVote one 1 ∷ Accepted (CertifiedFinal (certificate one)) ∷ []
 
@@ -57,7 +57,7 @@ changing_told : told_from nat_eq leader changing ≡ changing.replies
 unfolding first_recover_error recovered_state after_kept_entry may_drop pruned_entries standing has_valid_parent_span ancestry_payload_for_child first_unnullified_view explicit_ancestry_payload in_issuance_window is_admitted verification_matches parent_payload_for may_notarize may_nullify may_finalize has_conflicting_nullify required_certification_parent optimistic_ancestry_payload is_handoff_parent is_voted_ancestor can_chain_on
 changing_told = refl
 
--- what is left of the record at the first restart, and at the others
+-- the record that remains at the first restart, and at the others
 abbrev without_votes : List (ArtifactFacts ℕ)
 without_votes = Accepted (Notarized (certificate one)) ∷ Verdict (round 1) true ∷ []
 

@@ -1,5 +1,5 @@
 -- For the worked networks.
--- A run that is computed: what each step of a list is told where no memory is wanted, and that this is a run.
+-- A run that is computed: the reply to each step of a list if memory never runs out, and that this is a run.
 use Rattle.std.proofs.Common.{◌≡◌, refl, subst, ℕ, zero, suc, ◌≤◌, ◌<◌, inl, inr, Bool, true, false, List, [], ◌∷◌, length, Contains, Option, Some, None, Result, Ok, Err, arith}
 use Rattle.std.specs.Prelude.{◌&&◌, nat_le}
 use Rattle.std.specs.List.{slice_index_or}
@@ -21,41 +21,41 @@ use Rattle.simplex_member.specs.Pruning.{pruned_member}
 use Rattle.laws_safety.specs.Executions.{new_member, Execution, BeginsAs}
 use Rattle.laws_safety.proofs.lists.Splits.{Contains-cases}
 
--- what a restart answers, by whether the retention grows and the error that is due
+-- the result of a restart, by whether the retention grows and by the error that applies
 abbrev result_then : Bool → Option RecoverError → Result (Unit {0}) RecoverError
 result_then true due = Err error.RetentionGrown
 result_then false None = Ok tt
 result_then false (Some e) = Err e
 
 module _ {K L D : Type 0} (same : D → D → Bool) (elect : Elect L) where
-  -- the error that is due of what a restart leaves of the record, in the order of the record
+  -- the error that applies to the record after a restart's cut, in the order of the record
   abbrev due_error : MemberFacts K L D → RestartFacts K L D → Option RecoverError
   due_error m r = recover_error same (new_state r.start.setup) r.start.floor r.start.now (cut_member m r.drop r.prune).entries
 
-  -- more views are to be kept than before
+  -- more views are to be retained than before
   abbrev grows_at : MemberFacts K L D → RestartFacts K L D → Bool
   grows_at m r = retention_grows m r.prune r.start.setup.settings.view_retention
 
-  -- what a restart is told, by whether the retention grows and the error that is due
+  -- the reply to a restart, by whether the retention grows and by the error that applies
   abbrev pub told_restart : Bool → Option RecoverError → ReplyFacts K D
   told_restart true due = NotRestarted error.RetentionGrown
   told_restart false None = Restarted
   told_restart false (Some e) = NotRestarted e
 
-  -- and what it leaves
+  -- and the member after it
   abbrev pub left_restart : Bool → Option RecoverError → MemberFacts K L D → RestartFacts K L D → MemberFacts K L D
   left_restart true due m r = m
   left_restart false None m r = new_lifetime same elect (cut_member m r.drop r.prune) r.start (cut_member m r.drop r.prune).entries
   left_restart false (Some e) m r = without_lifetime (cut_member m r.drop r.prune)
 
-  -- what is told, where no growth is refused
+  -- the reply, if memory never runs out
   abbrev pub reply_then : Option (StateFacts K L D) → MemberFacts K L D → StepFacts K L D → ReplyFacts K D
   reply_then life m Prunes = Done
   reply_then life m (Restarts r) = told_restart (grows_at m r) (due_error m r)
   reply_then None m (Calls call) = Refused fault.Failed
   reply_then (Some x) m (Calls call) = reply_of same elect x m.outstanding_work call
 
-  -- and what is left
+  -- and the member after it
   abbrev pub next_then : Option (StateFacts K L D) → MemberFacts K L D → StepFacts K L D → MemberFacts K L D
   next_then life m Prunes = pruned_member m
   next_then life m (Restarts r) = left_restart (grows_at m r) (due_error m r) m r
@@ -109,7 +109,7 @@ module _ {K L D : Type 0} (same : D → D → Bool) (elect : Elect L) where
       let due = due_error m r in
       (next_then m.life m (Restarts r), (result_then grows due, restart_made m r fits.0, told_so grows due), fits_run (next_then m.life m (Restarts r)) steps fits.1)
 
-  -- what the steps of an execution are told, from its start on
+  -- the replies to the steps of an execution, from its start on
   abbrev pub told_from : Execution K L D → List (ReplyFacts K D)
   told_from s = replies_from (new_member same elect s.start) s.steps
 
@@ -138,7 +138,7 @@ rises n low (x ∷ xs) is zero (suc j) d le less = above n (n x) xs (and_parts (
 rises n low (x ∷ xs) is (suc i) zero d le less = absurd (omega arith)
 rises n low (x ∷ xs) is (suc i) (suc j) d le less = rises n (n x) xs (and_parts (nat_le low (n x)) (rises_from n (n x) xs) is).1 i j d (omega arith) (omega arith)
 
--- the lives that the steps begin do so rightly
+-- the lifetimes that the steps begin do so rightly
 abbrev pub AllBegin : {K L D : Type 0} → ℕ → ℕ → List (StepFacts K L D) → Type 0
 AllBegin term_length i [] = Unit {0}
 AllBegin term_length i (Calls call ∷ steps) = AllBegin term_length i steps

@@ -1,6 +1,6 @@
 -- For `conflicts_are_left`, `gaps_are_closed`, `nullified_handoffs_are_left`, `rivals_have_faulty_members`,
 -- `skipped_finalizations_have_faulty_members`, `views_ahead_are_agreed_on`.
--- Tests by which it is computed that a network goes on as another, and what each of them shows. Payloads are numbers.
+-- Tests by which it is computed that a network continues as another, and what each of them shows. Payloads are numbers.
 use Rattle.std.proofs.Common.{◌≡◌, refl, ap, sym, ◌∙◌, subst, ℕ, zero, suc, ◌+◌, ◌<◌, ◌⊎◌, inl, inr, Bool, true, false, ◌&&◌, ◌||◌, not, if◌then◌else◌, List, [], ◌∷◌, map, length, slice_get, Contains, Some, nat_eq, nat_lt, arith}
 use Rattle.std.specs.Prelude.{◌==◌}
 use Rattle.std.specs.List.{list_any}
@@ -26,7 +26,7 @@ use Rattle.laws_safety.proofs.agreement.Quorums.{shared_member}
 use Rattle.laws_safety.proofs.lists.Splits.{Contains-cases}
 use Rattle.laws_safety.proofs.lives.WithinRuns.{run_from_before}
 
--- equal votes, events and proposals handed in
+-- equal votes, events and proposals passed in
 
 abbrev same_subject : Subject ℕ → Subject ℕ → Bool
 same_subject (Notarize p) (Notarize q) = same_proposal nat_eq p q
@@ -74,7 +74,7 @@ has_done d s = list_any (same_trace_event d) (trace_of s)
 pub done : (d : TraceEvent ℕ) (s : Execution ℕ ℕ ℕ) → has_done d s ≡ true → Contains (trace_of s) d
 done d s is = Contains-from_any same_trace_event-true d (trace_of s) is
 
--- steps by which a proposal is handed in or built
+-- steps by which a proposal is passed in or built
 abbrev same_step : StepFacts ℕ ℕ ℕ → StepFacts ℕ ℕ ℕ → Bool
 same_step (Calls (SetProposal v p)) (Calls (SetProposal w q)) = v == w && same_proposal nat_eq p q
 same_step (Calls (Proposed v d now)) (Calls (Proposed w e moment)) = v == w && (d == e && now == moment)
@@ -164,7 +164,7 @@ some_honest-true test j (Honest s ∷ network) is = elim (or_cases (test j s) (s
       (suc found.0, found.1, found.2, subst (λ k. test k found.1 ≡ true) (omega arith) found.3))
 ]
 
--- what backs a certificate
+-- the votes that back a certificate
 
 abbrev may_have_signed : Subject ℕ → ℕ → Replica ℕ ℕ ℕ → Bool
 may_have_signed vote i Faulty = true
@@ -217,7 +217,7 @@ pub accepted_so : (test : Subject ℕ → Bool) (network : List (Replica ℕ ℕ
 accepted_so test network is i s at c h =
     each_one-true (passes test) (trace_of s) (each_honest-true (λ j t. each_one (passes test) (trace_of t)) 0 network is i s at) (Accepts c) h
 
--- each proposal that is handed to them does
+-- each proposal that they receive does
 
 abbrev passes_handing : (ℕ → Proposal ℕ → Bool) → StepFacts ℕ ℕ ℕ → Bool
 passes_handing test (Calls (SetProposal v p)) = test v p
@@ -302,7 +302,7 @@ module _ (elect : Elect ℕ) (term_length : ℕ) where
         all_ran_before (suc j) network later parts.1 goes all.1,
       )
 
-  -- a network that goes on as a later one
+  -- a network that continues as a later one
   module _ (network later : List (Replica ℕ ℕ ℕ)) (final : Proposal ℕ) where
     abbrev comes_from_honest : Subject ℕ → Bool
     comes_from_honest c = some_honest (λ i s. has_done (Accepts c) s) 0 network || is_honestly_backed later c
@@ -354,7 +354,7 @@ module _ (elect : Elect ℕ) (term_length : ℕ) where
         let below = each_one-true (finalizes_below final.round.view) (trace_of found.1) (each_honest-true (λ i s. each_one (finalizes_below final.round.view) (trace_of s)) 0 network is found.0 found.1 found.2) (Signs found.3.0 (Finalize p)) found.3.1 in
         ltb-true p.round.view final.round.view below
 
-    -- what is computed of it
+    -- the tests that are computed of it
     pub record PassesTests : Type 0 where
       pub backed : each_accepted (is_backed later) later ≡ true
       pub certificates : each_accepted comes_from_honest later ≡ true

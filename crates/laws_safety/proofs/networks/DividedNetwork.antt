@@ -1,5 +1,5 @@
 -- For `conflicts_are_left`.
--- The network whose first leader proposes twice goes on.
+-- The network whose first leader proposes twice continues.
 use Rattle.std.proofs.Common.{◌≡◌, refl, ℕ, inl, inr, List, [], ◌∷◌, Contains, nat_eq, arith}
 use Rattle.simplex_types.specs.Certificates.{ArtifactFacts, NotarizeVote}
 use Rattle.simplex_types.specs.declared.types.messages.Proposal.{Proposal}

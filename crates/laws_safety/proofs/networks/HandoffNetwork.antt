@@ -1,5 +1,5 @@
 -- For `nullified_handoffs_are_left`.
--- The network whose handoff is nullified goes on.
+-- The network whose handoff is nullified continues.
 use Rattle.std.proofs.Common.{◌≡◌, refl, ℕ, inl, inr, true, Contains, ◌≤◌, nat_eq, arith}
 use Rattle.std.proofs.lemmas.Bool.{ltb-true}
 use Rattle.simplex_types.specs.declared.types.messages.Proposal.{Proposal}

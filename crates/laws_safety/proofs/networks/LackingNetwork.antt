@@ -1,5 +1,5 @@
 -- For `gaps_are_closed`.
--- The network in which certificates are lacking goes on.
+-- The network in which certificates are missing continues.
 use Rattle.std.proofs.Common.{◌≡◌, refl, ℕ, inl, nat_eq, arith}
 use Rattle.simplex_types.specs.declared.types.messages.Subject.TheVariants.{Notarize, Nullify}
 use Rattle.simplex_voter.specs.Gaps.{first_unnullified_view}
@@ -69,7 +69,7 @@ lacking_network = network_of in_turn 1 missing_certificates few (all_ran_before 
 pub lacking_goes_on : ContinuesToFinalize nat_eq in_turn 1 missing_certificates supplied over_two
 lacking_goes_on = goes_on_so in_turn 1 missing_certificates supplied over_two few later_few goes all_ran (record { backed = refl; certificates = refl; proposals = refl; finalized = refl; new = refl })
 
--- what two members have not accepted
+-- the certificates that two members have not accepted
 
 pub none_skipped : HasAccepted (Nullify (round 2)) 0 lacks_nullification → ⊥
 none_skipped h = not_accepted (Nullify (round 2)) lacks_nullification refl refl h

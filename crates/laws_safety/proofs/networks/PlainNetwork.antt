@@ -22,7 +22,7 @@ use Rattle.laws_safety.specs.PlainNetwork.{plain_first, plain_proposer, plain_fo
 use Rattle.laws_safety.specs.Executions.{trace_of, IsExecution}
 use Rattle.laws_safety.proofs.networks.ComputedRuns.{fits_run_from, each_begins, told_from}
 
--- payloads are the same where their bytes are, and the members lead in turn
+-- payloads are the same if their bytes are, and the members lead round-robin
 abbrev same : PlainDigest → PlainDigest → Bool
 same d e = bytes_eq d.bytes e.bytes
 

@@ -1,5 +1,5 @@
 -- For `rivals_have_faulty_members`, `skipped_finalizations_have_faulty_members`.
--- Networks in which certificates contradict, and who answers for it.
+-- Networks in which certificates contradict, and who is accountable for it.
 use Rattle.std.proofs.Common.{◌≡◌, ◌≢◌, refl, ap, subst, ℕ, zero, suc, inl, inr, Bool, true, ◌&&◌, List, [], ◌∷◌, length, slice_get, Contains, Option, Some, None, nat_eq, arith}
 use Rattle.std.specs.List.{list_any}
 use Rattle.std.proofs.lemmas.Map.Views.{Contains-from_any}

@@ -1,5 +1,5 @@
 -- For `conflicts_are_left`, `gaps_are_closed`, `nullified_handoffs_are_left`, `views_ahead_are_agreed_on`.
--- Members of the networks in which leaders take turns: what an execution is whose replies are computed.
+-- Members of the networks in which leaders take turns: an execution whose replies are computed.
 use Rattle.std.proofs.Common.{◌≡◌, refl, ℕ, inl, ◌<◌, [], List, None, nat_eq}
 use Rattle.simplex_member.specs.Calls.{ReplyFacts}
 use Rattle.simplex_record.specs.Recovery.{recover_error}
@@ -11,7 +11,7 @@ use Rattle.laws_safety.proofs.networks.ComputedRuns.{replies_from, FindsRisingRe
 pub begins : (term_length me : ℕ) → 0 < term_length → BeginsAs term_length me (begin_at term_length me).setup
 begins term_length me some = record { terms = record { terms = refl; some = some }; signs_as = inl refl }
 
--- what the steps of an execution are told by the definitions
+-- the replies to the steps of an execution by the definitions
 abbrev pub told_in : Execution ℕ ℕ ℕ → List (ReplyFacts ℕ ℕ)
 told_in s = replies_from nat_eq in_turn (new_member nat_eq in_turn s.start) s.steps
 

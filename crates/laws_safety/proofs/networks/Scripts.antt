@@ -35,7 +35,7 @@ module _ where
   unfolding standing has_valid_parent_span ancestry_payload_for_child first_unnullified_view explicit_ancestry_payload in_issuance_window is_admitted verification_matches parent_payload_for may_notarize may_nullify may_finalize has_conflicting_nullify required_certification_parent
   patient_told_1 = refl
 
-  -- what is left of the record at the restart of the third member
+  -- the record that remains at the restart of the third member
   abbrev kept : List (ArtifactFacts ℕ)
   kept = NotarizeVote one 2 ∷ Accepted (Notarized (certificate one)) ∷ Verdict (round 1) true ∷ FinalizeVote one 2 ∷ []
 
@@ -66,7 +66,7 @@ module _ where
   unfolding standing has_valid_parent_span ancestry_payload_for_child first_unnullified_view explicit_ancestry_payload in_issuance_window is_admitted verification_matches parent_payload_for may_notarize may_nullify may_finalize has_conflicting_nullify required_certification_parent
   skipping_told_2 = refl
 
-  -- what is left of the record at the first restart, and at each later one
+  -- the record that remains at the first restart, and at each later one
   abbrev once : List (ArtifactFacts ℕ)
   once = Accepted (Notarized (certificate one)) ∷ Verdict (round 1) true ∷ FinalizeVote one 1 ∷ []
 
@@ -129,7 +129,7 @@ module _ where
   abbrev FourBack : Subject ℕ → Type 0
   FourBack c = Backed four c
 
-  -- what holds of each certificate that one accepts
+  -- a claim about each certificate that one accepts
 
   impatient_accepts : (P : Subject ℕ → Type 0) → P (subject.Notarize one) → P (subject.Notarize two) → P (subject.Finalize one) → (c : Subject ℕ) → Contains (trace_of impatient) (Accepts c) → P c
   impatient_accepts P n m f c (zero, less, same) = absurd (cc)
@@ -159,7 +159,7 @@ module _ where
   forgetful_accepts c (suc (suc (suc (suc (suc (suc (suc zero)))))), less, same) = absurd (cc)
   forgetful_accepts c (suc (suc (suc (suc (suc (suc (suc (suc k))))))), less, same) = absurd (omega arith)
 
-  -- what holds of each honest replica holds of its execution
+  -- a claim about each honest member is one about its execution
   four_replicas : (P : ℕ → Execution ℕ ℕ ℕ → Type 0) → P 0 impatient → P 1 (patient 1) → P 2 (forgetful) → (i : ℕ) (s : Execution ℕ ℕ ℕ) → slice_get four i ≡ Some (Honest s) → P i s
   four_replicas P a b c zero s is = (let e : impatient ≡ s = cc in subst (λ t. P 0 t) e a)
   four_replicas P a b c (suc zero) s is = (let e : patient 1 ≡ s = cc in subst (λ t. P 1 t) e b)

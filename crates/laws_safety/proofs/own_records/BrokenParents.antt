@@ -71,7 +71,7 @@ module _ {D : Type 0} (same : D → D → Bool) (epoch : ℕ) (me : Option ℕ) 
   of_floor (Finalized c) = (λ _ is. absurd (cc), (λ _ is. absurd (cc), (λ _ is. absurd (cc), tt)))
 
 module _ {K L D : Type 0} (same : D → D → Bool) (term_length : ℕ) (trace : List (TraceEvent D)) (lawful : IsLawful term_length trace) where
-  -- a vote to notarize names an earlier view, and behind one to finalize stands a notarization
+  -- a vote to notarize names an earlier view, and before one to finalize there is a notarization
   pub parent_accepted : (x : StateFacts K L D) (floor : FloorFacts D) (now : ℕ) (entries : List (ArtifactFacts D))
       → ((p : Proposal D) (m : ℕ) → Contains entries (NotarizeVote p m) → HasSigned trace (subject.Notarize p))
       → ((p : Proposal D) (m : ℕ) → Contains entries (FinalizeVote p m) → HasSigned trace (subject.Finalize p))

@@ -248,7 +248,7 @@ module _ {K L D : Type 0} (same : D → D → Bool) (decides : (d e : D) → sam
   all_taken_held x (e ∷ rest) small all =
       all_taken_held (after_kept_entry same elect x now e) rest small.1 (elim (nat_lt (entry_view e) (min_active x)) as (λ b. AllHeld Q (if b then x else after_entry same elect x now e)) [ true ↦ all | false ↦ retaken_held x e small.0 all ])
 
-  -- a new life holds no such proposal
+  -- a new lifetime holds no such proposal
   pub recovered_held : (setup : Setup K L) (floor : FloorFacts D) (entries : List (ArtifactFacts D)) → is_floor_too_large floor ≡ false → AllSmall entries → AllHeld Q (recovered_state same elect (new_state setup) floor now entries)
   unfolding recovered_state
   recovered_held setup floor entries fine small = all_taken_held (after_set_floor same elect (new_state setup) floor now) entries small (floor_held (new_state setup) floor fine (λ v p is. absurd (cc)))

@@ -1,4 +1,4 @@
--- Over all its lives a member records at most one entry of each kind for each view.
+-- Over all its lifetimes a member records at most one entry of each kind for each view.
 use Rattle.std.proofs.Common.{◌≡◌, refl, ap, sym, ◌∙◌, subst, ℕ, ◌-◌, ◌<◌, ◌⊎◌, inl, inr, Bool, true, false, if◌then◌else◌, ◌&&◌, ◌||◌, nat_le, List, [], ◌∷◌, ◌++◌, Contains, Option, Some, None, Result, Ok, Err, arith}
 use Rattle.std.specs.Prelude.{◌==◌, MatchOption}
 use Rattle.std.specs.List.{IsDistinct}
@@ -36,7 +36,7 @@ use Rattle.laws_safety.proofs.own_records.EntriesByCalls.{ShowsEntries, grows_on
 use Rattle.laws_safety.proofs.own_records.RecoveredEntries.{is_shown, floor_stands, entries_recover}
 use Rattle.laws_safety.proofs.own_records.Runs.{left_first}
 
--- while the member lives its state shows the record's entries
+-- while the member has not failed its state shows the record's entries
 abbrev pub ShowsOn : {K L D : Type 0} → List (ArtifactFacts D) → Option (StateFacts K L D) → Type 0
 ShowsOn entries None = Unit {0}
 ShowsOn entries (Some x) = (low : ℕ) × ShowsEntries low entries x
@@ -47,7 +47,7 @@ pub record KeepsOnce {K L D : Type 0} (m : MemberFacts K L D) : Type 0 where
   pub shows : ShowsOn m.entries m.life
 
 module _ {D : Type 0} where
-  -- a finalization that is recorded where none of its view stands
+  -- a finalization that is recorded if there is none of its view
 
   finalizes_alike : (a : ArtifactFacts D) (c : ProposalFacts D) → are_of_one_kind a (Accepted (Finalized c)) ≡ true → is_finalization_entry a ≡ true
   finalizes_alike (Accepted (Finalized _)) c is = refl
@@ -87,7 +87,7 @@ module _ {D : Type 0} where
       by_record true is k = inl k
       by_record false is k = elim (Contains-push_cases entries (Accepted (Finalized c)) a k) [ inl old ↦ inl old | inr new ↦ inr (c, refl, new) ]
 
-  -- what a cut leaves
+  -- the entries after a cut
   pruned_once : (retention : ℕ) (entries : List (ArtifactFacts D)) → RecordsOnce entries → RecordsOnce (pruned_entries retention entries)
   unfolding pruned_entries
   pruned_once retention entries once = distinct_filtered are_alike (λ e. nat_le (finalized_in entries - retention) (entry_view e)) entries once
@@ -102,7 +102,7 @@ module _ {K L D : Type 0} where
   cut_once m n false once = dropped_once m.closed n m.entries once
   cut_once m n true once = pruned_once m.retention (without_last m.closed n m.entries) (dropped_once m.closed n m.entries once)
 
-  -- a pruning within the life
+  -- a pruning within the lifetime
   prune_keeps : (m : MemberFacts K L D) → KeepsOnce m → KeepsOnce (pruned_member m)
   prune_keeps m keeps = record { once = distinct_filtered are_alike (λ e. stays_within m (entry_view e)) m.entries keeps.once; shows = by_life m.life keeps.shows }
     where
@@ -110,12 +110,12 @@ module _ {K L D : Type 0} where
       by_life None shows = tt
       by_life (Some x) (low, shows) = (low, record { under = shows.under; clear = shows.clear; shown = λ a h over. shows.shown a (Contains-filtered (λ e. stays_within m (entry_view e)) m.entries a h) over })
 
-  -- where the life ends the record is left
+  -- the record remains when the lifetime ends
   ended_keeps : (m : MemberFacts K L D) → RecordsOnce m.entries → KeepsOnce (without_lifetime m)
   ended_keeps m once = record { once = once; shows = tt }
 
 module _ {K L D : Type 0} (same : D → D → Bool) (elect : Elect L) (term_length : ℕ) where
-  -- a new life from a copy by view
+  -- a new lifetime from a copy by view
   new_life_keeps : (n : MemberFacts K L D) (start : StartFacts K L D) (copy : List (ArtifactFacts D)) → HasTerms term_length start.setup → IsByView n.entries copy → RecordsOnce n.entries → KeepsOnce (new_lifetime same elect n start copy)
   new_life_keeps n start copy has by_view once =
       let x = new_state start.setup in

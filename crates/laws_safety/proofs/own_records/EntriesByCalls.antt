@@ -1,4 +1,4 @@
--- What a call records its state did not show, and shows then: so the record has no two entries of one kind and one view.
+-- A call records only what its state did not show, and then shows it: so the record has no two entries of one kind and one view.
 use Rattle.std.proofs.Common.{◌≡◌, refl, ap, sym, ◌∙◌, subst, ℕ, ◌<◌, ◌≤◌, inl, inr, Bool, true, false, not, ◌&&◌, if◌then◌else◌, List, [], ◌∷◌, ◌++◌, Contains, Option, Some, None, is_some, unwrap_or, arith}
 use Rattle.std.specs.Prelude.{◌==◌, option_map, option_and_then}
 use Rattle.std.specs.Option.{option_map_or}
@@ -43,7 +43,7 @@ pub record ShowsEntries {K L D : Type 0} (low : ℕ) (entries : List (ArtifactFa
   pub clear : IsClear low x
   pub shown : (a : ArtifactFacts D) → Contains entries a → low ≤ entry_view a → is_shown x a ≡ true
 
--- what is recorded: nothing, or one entry from the bound on that was not shown, and is then
+-- the new entries: none, or one from the bound on that was not shown, and is then
 abbrev pub IsNewlyShown : {K L D : Type 0} → ℕ → StateFacts K L D → StateFacts K L D → List (ArtifactFacts D) → Type 0
 IsNewlyShown low x y [] = Unit {0}
 IsNewlyShown low x y (e ∷ rest) = (low ≤ entry_view e) × (is_shown x e ≡ false) × (is_shown y e ≡ true) × (rest ≡ [])
@@ -73,7 +73,7 @@ module _ {K L D : Type 0} (low high : ℕ) (entries : List (ArtifactFacts D)) (x
         false≢true (sym none ∙ (sym (alike_shown (round_of x (entry_view e)) a e parts.1) ∙ there)))
   ]
 
-  -- a record that grows by what is newly shown
+  -- a record that grows by newly shown entries
   pub grows_once : (new : List (ArtifactFacts D)) → ShowsEntries low entries x → ShowsEntries high entries y → IsNewlyShown low x y new → RecordsOnce entries → RecordsOnce (entries ++ new) × ShowsEntries high (entries ++ new) y
   grows_once [] shows later newly once = rw (append-nil entries) (once, later)
   grows_once (e ∷ rest) shows later (over, none, stands, last) once =
@@ -90,7 +90,7 @@ module _ {K L D : Type 0} (low high : ℕ) (entries : List (ArtifactFacts D)) (x
       )
 
 module _ {K L D : Type 0} (same : D → D → Bool) (elect : Elect L) (low : ℕ) (entries : List (ArtifactFacts D)) (x : StateFacts K L D) (some : 0 < x.terms.term_length) (ahead : IsAhead x) (shows : ShowsEntries low entries x) where
-  -- an event leaves what is shown, or drops all below what is kept
+  -- an event keeps what is shown, or drops all below the retained views
   event_shows : (e : Event K D) → IsEvent x e → (high : ℕ) × ShowsEntries high entries (after_event same elect x e)
   event_shows e takes = by_prune (is_prune e) refl
     where
@@ -124,7 +124,7 @@ module _ {K L D : Type 0} (same : D → D → Bool) (elect : Elect L) (low : ℕ
   pub call_shows : (o : OutstandingWork K D) (call : CallFacts D) → is_allowed x o call ≡ true → (high : ℕ) × ShowsEntries high entries (after_call same elect x o call)
   call_shows o call allowed = call_by_event same elect x o (λ es y. (high : ℕ) × ShowsEntries high entries y) (low, shows) (λ e takes none. event_shows e takes) call allowed
 
--- what is recorded
+-- the recorded entries
 
 module _ {K L D : Type 0} (low : ℕ) (x y : StateFacts K L D) where
   newly_if : (b : Bool) (e : ArtifactFacts D) → (b ≡ true → (low ≤ entry_view e) × (is_shown x e ≡ false) × (is_shown y e ≡ true)) → IsNewlyShown low x y (if_new b e)
@@ -231,7 +231,7 @@ module _ {K L D : Type 0} (same : D → D → Bool) (elect : Elect L) (low : ℕ
             nullify_shown same elect x v may,
           )
 
-  -- what each call records that is allowed
+  -- the entries that each allowed call records
   pub newly_recorded : (o : OutstandingWork K D) (call : CallFacts D) → is_allowed x o call ≡ true → IsNewlyShown low x (after_call same elect x o call) (recorded_by same elect x call)
   newly_recorded o (AddNotarization c) allowed =
       let standing = (round_of x c.proposal.round.view).notarization in

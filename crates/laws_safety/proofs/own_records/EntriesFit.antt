@@ -1,4 +1,4 @@
--- Entries that hold together fit behind one another, in whatever order their views come that does not fall.
+-- Entries that hold together fit one after another, in any order of their views that does not fall.
 use Rattle.std.proofs.Common.{◌≡◌, refl, ap, sym, ◌∙◌, subst, ℕ, suc, ◌≤◌, inl, inr, Bool, true, false, not, ◌&&◌, ◌||◌, ◌==◌, List, [], ◌∷◌, ◌++◌, append_assoc, Contains, arith}
 use Rattle.std.specs.List.Sorted.{IsNonDecreasingBy}
 use Rattle.std.proofs.lemmas.Bool.{cases_Bool, eq-eqb, eqb-true}
@@ -15,16 +15,16 @@ use Rattle.laws_safety.proofs.own_records.Outside.{EntryFits, Fit}
 use Rattle.laws_safety.proofs.lists.Splits.{Contains-cases, Contains-cons_rest}
 use Rattle.laws_safety.proofs.agreement.VoteOrder.{Contains-middle}
 
--- what the entries of a record say of one another, each by its view
+-- the relations between the entries of a record, each by its view
 pub record HoldTogether {D : Type 0} (entries : List (ArtifactFacts D)) : Type 0 where
-  -- behind each verdict stands a notarization of its view, and a view's verdicts agree
+  -- before each verdict there is a notarization of its view, and a view's verdicts agree
   pub notarized : (before after : List (ArtifactFacts D)) (round : Round) (success : Bool) → entries ≡ before ++ Verdict round success ∷ after → (c : ProposalFacts D) × Contains before (Accepted (Notarized c)) × (c.proposal.round.view ≡ round.view)
   pub one_verdict : (round other : Round) (success given : Bool) → Contains entries (Verdict round success) → Contains entries (Verdict other given) → round.view ≡ other.view → success ≡ given
-  -- the votes of one kind and view are for one proposal, and none to nullify stands beside one to finalize
+  -- the votes of one kind and view are for one proposal, and none to nullify is beside one to finalize
   pub one_notarize : (p q : Proposal D) (m n : ℕ) → Contains entries (NotarizeVote p m) → Contains entries (NotarizeVote q n) → p.round.view ≡ q.round.view → p ≡ q
   pub one_finalize : (p q : Proposal D) (m n : ℕ) → Contains entries (FinalizeVote p m) → Contains entries (FinalizeVote q n) → p.round.view ≡ q.round.view → p ≡ q
   pub not_both : (round : Round) (p : Proposal D) (m n : ℕ) → Contains entries (NullifyVote round m) → Contains entries (FinalizeVote p n) → round.view ≡ p.round.view → ⊥
-  -- behind each vote to finalize stands a true verdict of its view
+  -- before each vote to finalize there is a true verdict of its view
   pub judged : (before after : List (ArtifactFacts D)) (p : Proposal D) (m : ℕ) → entries ≡ before ++ FinalizeVote p m ∷ after → (round : Round) × Contains before (Verdict round true) × (round.view ≡ p.round.view)
 
 and_is : (a b : Bool) → a ≡ true → b ≡ true → (a && b) ≡ true
@@ -32,7 +32,7 @@ and_is true b p q = q
 and_is false b p q = p
 
 module _ {D : Type 0} (v : ℕ) (is_kind : ArtifactFacts D → Bool) where
-  -- an entry of the view stands among those that hold it, and none does where none is held
+  -- there is an entry of the view among those that hold it, and none if none is held
 
   pub stands_of : (entries : List (ArtifactFacts D)) (e : ArtifactFacts D) → Contains entries e → entry_view e ≡ v → is_kind e ≡ true → stands v is_kind entries ≡ true
   stands_of [] e h at kind = absurd (omega (arith, h.1))
@@ -121,7 +121,7 @@ module _ {D : Type 0} where
   )
 
 module _ {D : Type 0} (same : D → D → Bool) (itself : (d : D) → same d d ≡ true) (entries : List (ArtifactFacts D)) (together : HoldTogether entries) where
-  -- an entry fits behind those before it
+  -- an entry fits after those before it
 
   fits : (front before rest : List (ArtifactFacts D)) (e : ArtifactFacts D) → entries ≡ front ++ e ∷ rest → IsTurned front before → last_view before ≤ entry_view e → EntryFits same before e
   fits front before rest e split turned rises = record {
@@ -180,7 +180,7 @@ module _ {D : Type 0} (same : D → D → Bool) (itself : (d : D) → same d d �
       judged (Verdict _ _) is = refl
       judged (Accepted _) is = refl
 
-  -- so do all, one behind the other
+  -- so do all, one after another
   all_fit : (front before rest : List (ArtifactFacts D)) → entries ≡ front ++ rest → IsTurned front before → RisesFrom (last_view before) rest → Fit same before rest
   all_fit front before [] split turned rises = tt
   all_fit front before (e ∷ rest) split turned rises = (

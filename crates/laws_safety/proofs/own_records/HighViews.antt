@@ -81,8 +81,8 @@ module _ {D : Type 0} (term_length : ℕ) (trace : List (TraceEvent D)) (lawful 
   certificate_small : (c : CertificateFacts D) → Contains entries (Accepted c) → subject_too_large (certificate_subject c) ≡ false
   certificate_small c h = small (certificate_subject c) (remembers.accepted c h)
 
-  -- what is too large is a vote to nullify or to notarize: a certificate was accepted, behind a verdict and a vote to finalize
-  -- stands the notarization
+  -- an entry that is too large is a vote to nullify or to notarize: a certificate was accepted, and before a verdict and a vote to finalize
+  -- there is the notarization
   too_large_voted : (e : ArtifactFacts D) → Contains entries e → entry_too_large e ≡ true → HasHighVote trace
   too_large_voted (NotarizeVote p m) h large =
       let signs = own.notarize_cast p m h in

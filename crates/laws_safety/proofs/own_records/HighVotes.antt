@@ -37,7 +37,7 @@ use Rattle.laws_safety.proofs.lists.Signed.{signed_cases}
 use Rattle.laws_safety.proofs.own_records.SmallViews.{small_both, floor_small, steps_small}
 use Rattle.laws_safety.proofs.lists.Splits.{only_one}
 
--- while the member lives, what its state holds of such a view was built in these steps
+-- while the member has not failed, what its state holds of such a view was built in these steps
 abbrev HoldsBuilt : {K L D : Type 0} → List (StepFacts K L D) → Option (StateFacts K L D) → Type 0
 HoldsBuilt past None = Unit {0}
 HoldsBuilt past (Some x) = AllHeld (WasBuilt past) x
@@ -47,7 +47,7 @@ pub record VotesBuilt {K L D : Type 0} (past : List (StepFacts K L D)) (trace : 
   pub holds : HoldsBuilt past m.life
   pub voted : (p : Proposal D) → HasSigned trace (subject.Notarize p) → WasBuilt past p
 
--- what is accepted is no vote
+-- an accepted certificate is no vote
 
 module _ {D : Type 0} where
   handed_signs_none : (call : CallFacts D) (i : ℕ) (vote : Subject D) → Contains (passed_certificates call) (Signs i vote) → ⊥
@@ -76,7 +76,7 @@ none_finalized None vote i j p about is = absurd (cc)
 none_finalized (Some h) vote i j p about is = absurd (cc)
 
 module _ {K L D : Type 0} (same : D → D → Bool) (elect : Elect L) where
-  -- a vote to notarize is for what is held
+  -- a vote to notarize is for the held proposal
   noted_held : (x : StateFacts K L D) (call : CallFacts D) (told : ReplyFacts K D) (i : ℕ) (p : Proposal D) → ExactAt same elect (Some x) (Calls call) told → Contains (signed_in told) (Signs i (subject.Notarize p)) → (v : ℕ) × ((round_of x v).slot.held ≡ Some p)
   noted_held x (calls.ConstructNotarize v) told i p exact h = (let so = (exact.only (Signs i (subject.Notarize p)) h).1 in (v, held_voted (proposal_at x v) so.1 i so.0 p so.3 so.4))
   noted_held x (calls.ConstructFinalize v) told i p exact h = (let so = (exact.only (Signs i (subject.Notarize p)) h).1 in absurd (none_finalized (proposal_at x v) so.1 i so.0 p so.3 so.4))
@@ -166,7 +166,7 @@ module _ {K L D : Type 0} (same : D → D → Bool) (decides : (d e : D) → sam
     ]);
   }
 
-  -- a pruning within the life
+  -- a pruning within the lifetime
   pub prune_builds : VotesBuilt (past ++ Prunes ∷ []) (trace ++ []) (pruned_member m)
   prune_builds = subst (λ all. VotesBuilt (past ++ Prunes ∷ []) all (pruned_member m)) (sym (append-nil trace)) (record {
     holds = holds_still past (Prunes ∷ []) m.life votes.holds;

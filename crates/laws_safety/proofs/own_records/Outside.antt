@@ -1,4 +1,4 @@
--- A record whose entries fit behind one another breaks only rules on what comes from outside.
+-- A record whose entries fit one after another breaks only rules on what comes from outside.
 use Rattle.std.proofs.Common.{◌≡◌, sym, ◌∙◌, subst, ℕ, inl, inr, Bool, true, false, nat_lt, if◌then◌else◌, List, [], ◌∷◌, Option, Some, None}
 use Rattle.std.proofs.lemmas.Bool.{false≢true}
 use Rattle.simplex_types.specs.Certificates.{ArtifactFacts, NotarizeVote, NullifyVote, FinalizeVote, Verdict, Accepted}
@@ -13,7 +13,7 @@ use Rattle.laws_safety.specs.RecordRefusals.{IsFromOutside}
 use Rattle.laws_safety.proofs.own_records.BrokenRules.{OfBroken, first_broken, broken_joined, from_either}
 use Rattle.simplex_record.specs.Recovery.{recover_error}
 
--- each of the rules that is broken is on what comes from outside
+-- each broken rule is on what comes from outside
 abbrev pub AreOutside : List (Bool × RecoverError) → Type 0
 AreOutside rules = OfBroken IsFromOutside rules
 
@@ -30,7 +30,7 @@ module _ {D : Type 0} (same : D → D → Bool) where
     pub one_vote : contradicts_vote same before e ≡ false
     pub judged : lacks_true_verdict before e ≡ false
 
-  -- each entry fits behind those before it
+  -- each entry fits after those before it
   abbrev pub Fit : List (ArtifactFacts D) → List (ArtifactFacts D) → Type 0
   Fit before [] = Unit {0}
   Fit before (e ∷ rest) = EntryFits before e × Fit (e ∷ before) rest
@@ -77,7 +77,7 @@ late_outside true found is = let same : error.TimeOverflow ≡ found = cc in sub
 late_outside false found is = absurd (cc)
 
 module _ {K L D : Type 0} (same : D → D → Bool) (x : StateFacts K L D) (floor : FloorFacts D) (now : ℕ) where
-  -- no state is made only for what comes from outside
+  -- only what comes from outside prevents a state
   pub error_outside : (entries : List (ArtifactFacts D)) (found : RecoverError) → Fit same [] entries → recover_error same x floor now entries ≡ Some found → IsFromOutside found
   unfolding first_recover_error
   error_outside entries found fit is = elim (from_either (first_recover_error same x.settings.epoch x.me floor entries) (if has_late_deadline x now then Some error.TimeOverflow else None) found is) [

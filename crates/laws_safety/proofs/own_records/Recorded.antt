@@ -1,4 +1,4 @@
--- What holds of the verdicts and votes that a member records: drops, prunes, copies by view and growth keep it.
+-- The invariant of the verdicts and votes that a member records: drops, prunes, copies by view and growth keep it.
 use Rattle.std.proofs.Common.{◌≡◌, refl, ap, sym, ◌∙◌, subst, ℕ, inl, inr, Bool, true, false, List, [], ◌∷◌, ◌++◌, append_assoc, Contains, filter, arith}
 use Rattle.std.specs.Prelude.{◌==◌}
 use Rattle.std.proofs.lemmas.Bool.{false≢true, eq-eqb}
@@ -23,7 +23,7 @@ use Rattle.laws_safety.proofs.own_records.EntriesFit.{HoldTogether}
 use Rattle.laws_safety.proofs.agreement.VoteOrder.{Order, Same, First, Second, in_order, Contains-middle}
 use Rattle.laws_safety.proofs.lists.Splits.{only_one}
 
--- each verdict stands behind a notarization of its view, a view's verdicts agree, and each vote to notarize was cast
+-- before each verdict there is a notarization of its view, a view's verdicts agree, and each vote to notarize was cast
 pub record OwnRecord {D : Type 0} (trace : List (TraceEvent D)) (entries : List (ArtifactFacts D)) : Type 0 where
   pub notarized : (before after : List (ArtifactFacts D)) (round : Round) (success : Bool) → entries ≡ before ++ Verdict round success ∷ after → (c : ProposalFacts D) × Contains before (Accepted (Notarized c)) × (c.proposal.round.view ≡ round.view)
   pub one_verdict : (round other : Round) (success given : Bool) → Contains entries (Verdict round success) → Contains entries (Verdict other given) → round.view ≡ other.view → success ≡ given

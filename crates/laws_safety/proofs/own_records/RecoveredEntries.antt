@@ -1,5 +1,5 @@
--- A state that is made from a record shows each entry of the record from the lowest view on that it kept once its floor was set,
--- and tracks no view below that one.
+-- A state that is made from a record shows each entry of the record from the lowest view on that it retained once its floor was set, and
+-- tracks no view below that one.
 use Rattle.std.proofs.Common.{◌≡◌, refl, ap, sym, ◌∙◌, subst, ℕ, zero, suc, ◌<◌, ◌≤◌, inl, inr, Bool, true, false, if◌then◌else◌, nat_lt, max, List, [], ◌∷◌, Contains, Option, Some, arith}
 use Rattle.std.specs.List.Sorted.{IsNonDecreasingBy}
 use Rattle.std.proofs.lemmas.Bool.{cases_Bool, true≢false, ltb-true}
@@ -35,12 +35,12 @@ module _ {K L D : Type 0} where
   abbrev pub is_shown : StateFacts K L D → ArtifactFacts D → Bool
   is_shown x a = has_entry (round_of x (entry_view a)) a
 
-  -- what one state shows another does too
+  -- the second state shows what the first does
   abbrev pub ShowsStill : StateFacts K L D → StateFacts K L D → Type 0
   ShowsStill x y = (a : ArtifactFacts D) → is_shown x a ≡ true → is_shown y a ≡ true
 
--- in the midst of a recovery: what is kept begins at the base, or else no higher than at the views that were taken, and nothing
--- below the base is tracked
+-- in the middle of a recovery: the retained views begin at the base, or else no higher than at the views that were taken, and nothing below
+-- the base is tracked
 record InRecovery {K L D : Type 0} (term_length base top : ℕ) (x : StateFacts K L D) : Type 0 where
   sound : IsSound term_length x
   reached : base ≤ min_active x
@@ -54,7 +54,7 @@ record Retaken {K L D : Type 0} (term_length base : ℕ) (x y : StateFacts K L D
   shown : is_shown y e ≡ true
 
 module _ {K L D : Type 0} (same : D → D → Bool) (elect : Elect L) (x : StateFacts K L D) (e : Event K D) where
-  -- an event but a prune leaves what is shown
+  -- an event other than a prune keeps what is shown
   pub event_still : ((v token : ℕ) → e ≡ event.SetCertifyHandle v token → IsEvent x e) → is_prune e ≡ false → ShowsStill x (after_event same elect x e)
   event_still handles no_prune a is = elim (event_retains same elect x e handles (entry_view a)) [
     | inl retains ↦ entry_retained (round_of x (entry_view a)) (round_of (after_event same elect x e) (entry_view a)) a retains is
@@ -79,7 +79,7 @@ next_over T zero base some under = omega arith
 next_over T (suc v) base some under = (let above = next_above T (suc v) some (omega arith) in omega (arith, above, under))
 
 module _ {K L D : Type 0} (same : D → D → Bool) (elect : Elect L) (now term_length base top : ℕ) (some : 0 < term_length) (x : StateFacts K L D) (recovers : InRecovery term_length base top x) where
-  -- what is replayed alone
+  -- an entry that is only replayed
   replayed : (e : ArtifactFacts D) → top ≤ entry_view e → base ≤ entry_view e → InRecovery term_length base (entry_view e) (after_replaying same elect x e)
   replayed e over kept = event_recovers same elect x (event.Replay e) term_length base top (entry_view e) over (omega arith) kept recovers
 

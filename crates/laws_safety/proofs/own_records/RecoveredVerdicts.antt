@@ -26,8 +26,8 @@ use Rattle.laws_safety.proofs.frames.Rising.{event_goes, event_finalizes}
 use Rattle.simplex_record.proofs.Steps.{notarization_by, verdict_by}
 use Rattle.laws_safety.proofs.own_records.Verdicts.{ShowsVerdicts, judged_so, event_shows}
 
--- in the midst of a recovery: the state shows the entries that were taken, and what is kept begins at the base, or else no
--- higher than the last entry
+-- in the middle of a recovery: the state shows the entries that were taken, and the retained views begin at the base, or else no higher
+-- than the last entry
 pub record Recovers {K L D : Type 0} (base top : ℕ) (done : List (ArtifactFacts D)) (x : StateFacts K L D) : Type 0 where
   pub shows : ShowsVerdicts done x
   pub reached : base ≤ min_active x
@@ -122,7 +122,7 @@ module _ {K L D : Type 0} (same : D → D → Bool) (elect : Elect L) (now base 
 abbrev pub entries_not_below : {D : Type 0} → ℕ → List (ArtifactFacts D) → List (ArtifactFacts D)
 entries_not_below base entries = filter (λ e. nat_le base (entry_view e)) entries
 
--- where a recovery ends: the state shows the entries, and what it keeps begins no lower than the base
+-- at the end of a recovery: the state shows the entries, and the retained views begin no lower than the base
 pub record Recovered {K L D : Type 0} (base : ℕ) (entries : List (ArtifactFacts D)) (x : StateFacts K L D) : Type 0 where
   pub shows : ShowsVerdicts entries x
   pub reached : base ≤ min_active x
@@ -156,7 +156,7 @@ module _ {K L D : Type 0} (same : D → D → Bool) (elect : Elect L) (now base 
   ]
 
 module _ {K L D : Type 0} (base : ℕ) (copy : List (ArtifactFacts D)) (x : StateFacts K L D) where
-  -- what stands below the base is neither kept nor held notarized
+  -- an entry below the base is neither retained nor held notarized
   whole_shown : Recovered base (entries_not_below base copy) x → ShowsVerdicts copy x
   whole_shown ends = record {
     notarized = λ v is. (let c = ends.shows.notarized v is in (c.0, Contains-filtered (λ e. nat_le base (entry_view e)) copy (Accepted (Notarized c.0)) c.1, c.2));

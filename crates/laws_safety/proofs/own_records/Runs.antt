@@ -1,4 +1,4 @@
--- What a member records in a run, over all its lives, is taken again but for what comes from outside.
+-- The record of a member in a run, over all its lifetimes, is accepted again except for what comes from outside.
 use Rattle.std.proofs.Common.{◌≡◌, refl, ap, sym, ◌∙◌, subst, ℕ, zero, suc, ◌-◌, ◌<◌, ◌⊎◌, inl, inr, Bool, true, false, ◌||◌, nat_le, is_some, List, [], ◌∷◌, ◌++◌, append_assoc, length, take, drop, filter, Option, Some, None, Result, Ok, Err, arith}
 use Rattle.std.specs.Prelude.{◌==◌, MatchOption}
 use Rattle.std.proofs.lemmas.Bool.{cases_Bool}
@@ -41,7 +41,7 @@ use Rattle.laws_safety.proofs.own_records.Verdicts.{ShowsVerdicts}
 use Rattle.laws_safety.proofs.own_records.EntriesFit.{record_fits}
 use Rattle.laws_safety.proofs.lists.Splits.{only_one}
 
--- a member's record keeps its verdicts in order, and while it lives its state shows them
+-- a member's record keeps its verdicts in order, and while it has not failed its state shows them
 abbrev pub TellsOn : {K L D : Type 0} → List (TraceEvent D) → List (ArtifactFacts D) → Option (StateFacts K L D) → Type 0
 TellsOn trace entries None = OwnRecord trace entries
 TellsOn trace entries (Some x) = TellsVerdicts trace entries x
@@ -50,7 +50,7 @@ abbrev pub MemberTells : {K L D : Type 0} → List (TraceEvent D) → MemberFact
 MemberTells trace m = TellsOn trace m.entries m.life
 
 module _ {D : Type 0} where
-  -- a drop leaves the first entries
+  -- a drop keeps the first entries
   pub left_first : (closed n : ℕ) (entries : List (ArtifactFacts D)) → (tail : List (ArtifactFacts D)) × (entries ≡ without_last closed n entries ++ tail)
   left_first closed zero entries = ([], sym (append-nil entries))
   left_first closed (suc n) entries = elim (cases_Bool (may_drop closed entries)) [
@@ -104,7 +104,7 @@ module _ {K L D : Type 0} where
       let left = left_first m.closed n m.entries in
       pruned_own trace (without_last m.closed n m.entries) m.retention (own_left trace m.entries own (without_last m.closed n m.entries) left.0 left.1)
 
-  -- a pruning within the life: what the state tracks, and so shows, stays in the record
+  -- a pruning within the lifetime: what the state tracks, and so shows, stays in the record
   prune_tells_on : (trace : List (TraceEvent D)) (m : MemberFacts K L D) → MemberTells trace m → MemberTells (trace ++ []) (pruned_member m)
   prune_tells_on trace m tells = untold trace (pruned_member m) (by_life m.life refl tells)
     where
@@ -183,7 +183,7 @@ abbrev error_in : Result (Unit {0}) RecoverError → RecoverError
 error_in (Ok _) = error.OutOfMemory
 error_in (Err found) = found
 
--- what holds of a member at each moment of a run
+-- the invariant of a member at each moment of a run
 pub record LivesAndTells {K L D : Type 0} (term_length : ℕ) (trace : List (TraceEvent D)) (m : MemberFacts K L D) : Type 0 where
   pub lives : MemberLives term_length trace m
   pub tells : MemberTells trace m
@@ -219,7 +219,7 @@ module _ {K L D : Type 0} (same : D → D → Bool) (decides : (d e : D) → sam
       subst (λ all. LivesAndTells term_length all end) (append_assoc trace (trace_at (Restarts r) told) (trace_of_steps steps replies))
       (run_own steps replies (trace ++ trace_at (Restarts r) told) next end fresh.1 (restarted trace m next r told fresh.0 own is_step) rest)
 
-  -- a copy of what any cut leaves breaks no rule on how entries stand beside one another
+  -- a copy of the record after any cut breaks no rule on the order of entries
   copy_fits : (trace : List (TraceEvent D)) (m : MemberFacts K L D) (n : ℕ) (prune : Bool) (copy : List (ArtifactFacts D)) → LivesAndTells term_length trace m → IsByView (cut_member m n prune).entries copy → Fit same [] copy
   copy_fits trace m n prune copy own by_view =
       let left = (cut_member m n prune).entries in
@@ -297,13 +297,13 @@ module _ {K L D : Type 0} (same : D → D → Bool) (decides : (d e : D) → sam
         let own = run_own same decides itself elect term_length begins.some steps replies (of_floor start.floor) (new_member same elect start) end fresh start_own run in
         copy_parent same decides itself elect term_length begins.some (of_floor start.floor ++ trace_of_steps steps replies) end next copy own by_view is
 
-    -- behind its verdicts stand notarizations, in its own order
+    -- before its verdicts there are notarizations, in its own order
     pub own_verdicts_follow : (replies : List (ReplyFacts K D)) (end : MemberFacts K L D) → IsRun same elect (new_member same elect start) steps replies end → VerdictsFollowNotarizations end
     own_verdicts_follow replies end run =
         let own = run_own same decides itself elect term_length begins.some steps replies (of_floor start.floor) (new_member same elect start) end fresh start_own run in
         (own_of (of_floor start.floor ++ trace_of_steps steps replies) end.entries end.life own.tells).notarized
 
-    -- so is a restart, but for its retention and want of memory
+    -- the same for a restart, except for its retention and out of memory
     pub own_restart_excused : (replies : List (ReplyFacts K D)) (end left : MemberFacts K L D) (next : RestartFacts K L D) (found : RecoverError) → IsRun same elect (new_member same elect start) steps replies end → IsRestart same elect end next (Err found) left → IsExcused found
     own_restart_excused replies end left next found run restarts =
         let own = run_own same decides itself elect term_length begins.some steps replies (of_floor start.floor) (new_member same elect start) end fresh start_own run in

@@ -1,5 +1,5 @@
--- What a round shows of the entries of its view: each certificate that stands, the verdict, and the votes that are decided. Each
--- event leaves what is shown, but where a prune drops the view, and what a call records is shown then.
+-- The entries of its view that a round shows: each certificate that is there, the verdict, and the votes that are decided. Each event keeps
+-- what is shown, unless a prune drops the view, and a call's new entries are shown after it.
 use Rattle.std.proofs.Common.{◌≡◌, refl, ap, sym, ◌∙◌, ℕ, ◌⊎◌, Bool, true, false, not, ◌||◌, Some, None, is_some, arith}
 use Rattle.std.proofs.lemmas.Bool.{false≢true}
 use Rattle.simplex_types.specs.Certificates.{Notarized, Nullified, Finalized, ArtifactFacts, NotarizeVote, NullifyVote, FinalizeVote, Verdict, Accepted}
@@ -17,7 +17,7 @@ use Rattle.simplex_record.proofs.Steps as step
 use Rattle.simplex_record.proofs.Steps.{RoundStep, Path}
 use Rattle.laws_safety.proofs.frames.EachRound.{IsGone, rounds_along, rounds_or_gone}
 
--- some verdict stands
+-- there is some verdict
 abbrev pub has_verdict : Certification → Bool
 has_verdict c = is_judged true c || is_judged false c
 
@@ -31,7 +31,7 @@ has_entry r (Accepted (Notarized _)) = is_some r.notarization
 has_entry r (Accepted (Nullified _)) = is_some r.nullification
 has_entry r (Accepted (Finalized _)) = is_some r.finalization
 
--- what one round shows another does too
+-- the second round shows what the first does
 pub record Retains {K D : Type 0} (r s : RoundFacts K D) : Type 0 where
   pub voted : r.notarize_decided ≡ true → s.notarize_decided ≡ true
   pub decided : not (is_pending r.decision) ≡ true → not (is_pending s.decision) ≡ true
@@ -113,7 +113,7 @@ module _ {K L D : Type 0} (same : D → D → Bool) (elect : Elect L) (x : State
   change_retains y v r s (step.Retried now interval says awaits) = record { voted = λ h. h; decided = λ h. refl; judged = λ h. h; notarization = λ h. h; nullification = λ h. h; finalization = λ h. h }
   change_retains y v r s _ = record { voted = λ h. h; decided = λ h. h; judged = λ h. h; notarization = λ h. h; nullification = λ h. h; finalization = λ h. h }
 
-  -- each event leaves what a round shows, or a prune drops the view
+  -- each event keeps what a round shows, or a prune drops the view
   pub event_retains : (v : ℕ) → Retains (round_of x v) (round_of (after_event same elect x e) v) ⊎ ((is_prune e ≡ true) × IsGone x (after_event same elect x e) v)
   event_retains = rounds_or_gone same elect x e 0 (λ v r s. Retains r s) retained_on change_retains (event_path same elect 0 x e (omega arith) (asked_of_all x e))
 

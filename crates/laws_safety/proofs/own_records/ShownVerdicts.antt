@@ -1,4 +1,4 @@
--- What a state's facts show of the notarizations and verdicts in its record, call by call.
+-- The notarizations and verdicts of its record that a state's facts show, call by call.
 use Rattle.std.proofs.Common.{◌≡◌, refl, ap, sym, ◌∙◌, subst, ℕ, inl, inr, Bool, true, false, not, ◌&&◌, List, [], ◌∷◌, ◌++◌, Contains, Option, Some, None, is_some, unwrap_or, arith}
 use Rattle.std.specs.Prelude.{option_map, option_and_then}
 use Rattle.std.specs.Option.{option_map_or}
@@ -39,7 +39,7 @@ module _ {K L D : Type 0} (entries : List (ArtifactFacts D)) where
     ];
   }
 
--- what a verdict that is taken in has to be beside
+-- the requirements of a verdict that is recorded
 
 module _ {K L D : Type 0} (x : StateFacts K L D) (v : ℕ) (success : Bool) where
   taken_beside : is_tracked x v ≡ true → takes_verdict x v success ≡ true → (is_some (round_of x v).notarization ≡ true) × (is_judged (not success) (round_of x v).certification ≡ false)

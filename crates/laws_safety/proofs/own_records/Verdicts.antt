@@ -1,4 +1,4 @@
--- The notarizations and verdicts of a record, and what each event leaves of them in the state.
+-- The notarizations and verdicts of a record, and those in the state after each event.
 use Rattle.std.proofs.Common.{◌≡◌, refl, ap, sym, ◌∙◌, subst, ℕ, ◌≤◌, ◌⊎◌, inl, inr, Bool, true, false, not, if◌then◌else◌, List, Contains, Some, None, is_some, unwrap_or, arith}
 use Rattle.std.proofs.lemmas.Bool.{cases_Bool, false≢true}
 use Rattle.simplex_types.specs.Certificates.{ProposalFacts, Notarized, ArtifactFacts, Verdict, Accepted}
@@ -19,8 +19,7 @@ use Rattle.laws_safety.proofs.frames.Rising.{event_goes, floor_goes}
 use Rattle.simplex_record.proofs.Steps as step
 use Rattle.simplex_record.proofs.Steps.{RoundStep, notarization_by, verdict_by}
 
--- a notarization that is held stands in the record, and a verdict in the record stands in each view that is kept or holds its
--- notarization
+-- a notarization that is held is in the record, and a verdict in the record is in each view that is retained or holds its notarization
 pub record ShowsVerdicts {K L D : Type 0} (entries : List (ArtifactFacts D)) (x : StateFacts K L D) : Type 0 where
   pub notarized : (v : ℕ) → is_some (round_of x v).notarization ≡ true → (c : ProposalFacts D) × Contains entries (Accepted (Notarized c)) × (c.proposal.round.view ≡ v)
   pub judged : (round : Round) (success : Bool) → Contains entries (Verdict round success) → (min_active x ≤ round.view) ⊎ (is_some (round_of x round.view).notarization ≡ true) → is_judged success (round_of x round.view).certification ≡ true
@@ -29,7 +28,7 @@ pub judged_so : (success : Bool) → is_judged success (certification.Judged suc
 judged_so true = refl
 judged_so false = refl
 
--- no other verdict stands
+-- there is no other verdict
 pub given_so : (success given : Bool) (c : Certification) → is_judged (not success) c ≡ false → is_judged given c ≡ true → given ≡ success
 given_so true true c other is = refl
 given_so true false c other is = absurd (false≢true (sym other ∙ is))
@@ -67,7 +66,7 @@ module _ {K L D : Type 0} (same : D → D → Bool) (elect : Elect L) (x : State
   event_weighs : (v : ℕ) → Weighs e v (round_of x v) (round_of (after_event same elect x e) v) ⊎ ((is_prune e ≡ true) × IsGone x (after_event same elect x e) v)
   event_weighs = rounds_or_gone same elect x e 0 (Weighs e) weighs_on weighs (event_path same elect 0 x e (omega arith) (asked_of_all x e))
 
-  -- a record that has the event's notarization, and whose new verdicts stand
+  -- a record that has the event's notarization, and whose new verdicts are in the state
   pub event_shows : (entries more : List (ArtifactFacts D)) → ((c : ProposalFacts D) → notarization_by e ≡ Some c → min_active x ≤ c.proposal.round.view) → ((round : Round) (given success : Bool) → Contains entries (Verdict round given) → verdict_by e ≡ Some (round.view, success) → given ≡ success) → ((a : ArtifactFacts D) → Contains entries a → Contains more a) → ((c : ProposalFacts D) → notarization_by e ≡ Some c → is_some (round_of x c.proposal.round.view).notarization ≡ false → Contains more (Accepted (Notarized c))) → ((round : Round) (success : Bool) → Contains more (Verdict round success) → Contains entries (Verdict round success) ⊎ (is_judged success (round_of (after_event same elect x e) round.view).certification ≡ true)) → ShowsVerdicts entries x → ShowsVerdicts more (after_event same elect x e)
   event_shows entries more kept agree keeps noted given shows = record { notarized = notarized; judged = judged }
     where
@@ -113,7 +112,7 @@ module _ {K L D : Type 0} (same : D → D → Bool) (elect : Elect L) (x : State
       judged round success h known = elim (given round success h) [ inl before ↦ stays round success before known | inr stands ↦ stands ]
 
 module _ {K L D : Type 0} (same : D → D → Bool) (elect : Elect L) (x : StateFacts K L D) where
-  -- a verdict that is given for a tracked view stands then
+  -- a verdict that is given for a tracked view is there afterwards
   pub verdict_stands : (v : ℕ) (success : Bool) (now : ℕ) → is_tracked x v ≡ true → is_judged success (round_of (after_certified elect x v success now) v).certification ≡ true
   verdict_stands v success now tracked =
       let m = at_moment x now in

@@ -1,5 +1,5 @@
--- What a state's facts show of the notarizations and verdicts in its record, also by calls on the work of a view, which leave
--- the verdicts and record none.
+-- The notarizations and verdicts of its record that a state's facts show, also after calls on the work of a view, which keep the verdicts
+-- and record none.
 use Rattle.std.proofs.Common.{unwrap_or, ◌++◌, ◌≡◌, refl, ap, sym, subst, ℕ, List, [], ◌∷◌, Bool, true, false, Option, Some, None, is_some}
 use Rattle.std.proofs.lemmas.Bool.{false≢true}
 use Rattle.simplex_types.specs.declared.types.messages.Proposal.{Proposal}
@@ -24,7 +24,7 @@ use Rattle.laws_safety.proofs.own_records.Verdicts.{ShowsVerdicts}
 use Rattle.laws_safety.proofs.lists.Splits.{only_one}
 
 module _ {K L D : Type 0} (same : D → D → Bool) (elect : Elect L) (trace : List (TraceEvent D)) (entries : List (ArtifactFacts D)) (x : StateFacts K L D) (o : OutstandingWork K D) (tells : TellsVerdicts trace entries x) where
-  -- what is shown after a call, whatever it records but a verdict
+  -- what is shown after a call, whatever it records except a verdict
   abbrev pub Left : StateFacts K L D → Type 0
   Left y = (new : List (ArtifactFacts D)) → HasNoVerdict new → ShowsVerdicts (entries ++ new) y
 
@@ -33,7 +33,7 @@ module _ {K L D : Type 0} (same : D → D → Bool) (elect : Elect L) (trace : L
       call_by_event same elect x o (λ es y. AreSilent es → Left y) (λ silent new none. shows_more entries new x none tells.shows)
       (λ e takes none silent new nothing. quiet_shows same elect trace entries x tells new e takes silent.0.notarization silent.0.verdict nothing) call allowed (work_silent o call work)
 
-  -- what a vote to notarize records is cast
+  -- a vote to notarize that is recorded is cast
   notarize_told : (call : CallFacts D) (vote : Option (ArtifactFacts D)) → Left (after_call same elect x o call) → ((e : ArtifactFacts D) → vote ≡ Some e → (p : Proposal D) × (m : ℕ) × (e ≡ NotarizeVote p m)) → TellsVerdicts (trace ++ signed_in {K = K} (Notarize vote)) (entries ++ vote_entry vote) (after_call same elect x o call)
   notarize_told call None left is = record {
     own = own_quiet trace entries tells.own [] [] quiet_none;

@@ -1,5 +1,5 @@
 -- For `votes_are_lawful`.
--- Each call keeps the voting rules, and leaves a record that remembers it.
+-- Each call keeps the voting rules, and the record after it remembers it.
 use Rattle.std.proofs.Common.{◌≡◌, refl, ap, sym, ◌∙◌, subst, ℕ, ◌<◌, Bool, true, false, not, List, [], ◌∷◌, ◌++◌, Option, Some, None, is_some, arith}
 use Rattle.std.proofs.lemmas.Bool.{false≢true}
 use Rattle.std.proofs.lemmas.List.{append-nil}
@@ -83,7 +83,7 @@ module _ {K L D : Type 0} (same : D → D → Bool) (decides : (d e : D) → sam
   nothing_done : (next : OutstandingWork K D) (y : StateFacts K L D) → Living term_length trace closed kept entries next y → Living term_length (trace ++ []) closed kept (entries ++ []) next y
   nothing_done next y lives = subst (λ a. Living term_length a closed kept (entries ++ []) next y) (sym (append-nil trace)) (subst (λ es. Living term_length trace closed kept es next y) (sym (append-nil entries)) lives)
 
-  -- what stands of the votes and what the record shows, after a call on the work of a view
+  -- the votes and what the record shows, after a call on the work of a view
 
   stays_worked : (call : CallFacts D) → is_work call ≡ true → is_allowed x o call ≡ true → ShowsVotesInLife term_length trace (after_call same elect x o call)
   stays_worked call work allowed =

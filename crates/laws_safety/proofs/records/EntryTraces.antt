@@ -1,5 +1,5 @@
 -- For `votes_are_lawful`.
--- The event that an entry of a record tells of, and what stands once that vote is signed.
+-- The event of a record's entry, and what holds once that vote is signed.
 use Rattle.std.proofs.Common.{◌≡◌, ◌≢◌, sym, subst, ℕ, ◌<◌, ◌≤◌, ◌⊎◌, inl, inr, true, List, [], ◌∷◌, ◌++◌, Contains, arith}
 use Rattle.std.specs.Prelude.{⊤}
 use Rattle.std.proofs.lemmas.List.{append-nil}
@@ -72,7 +72,7 @@ module _ {K L D : Type 0} (term_length : ℕ) (trace : List (TraceEvent D)) (x :
   pub nothing_stays : ShowsVotesInLife term_length (trace ++ []) x
   nothing_stays = subst (λ a. ShowsVotesInLife term_length a x) (sym (append-nil trace)) stays
 
-  -- an entry that is passed over lies below the views that are kept
+  -- an entry that is skipped lies below the retained views
   pub passed_over : (e : ArtifactFacts D) → entry_view e ≤ x.finalized → MayRetake trace x.current e → ShowsVotesInLife term_length (trace ++ entry_trace e) x
   passed_over (NotarizeVote p m) below may = notarize_cast_stays p m
   passed_over (NullifyVote round m) below may = nullify_cast_stays round m may.0 (inr below) (inr below)

@@ -1,5 +1,5 @@
 -- For `votes_are_lawful`.
--- What holds of a member between its lives, and that drops, prunes, new lives and calls keep it.
+-- The invariant of a member between its lifetimes, which drops, prunes, new lifetimes and calls keep.
 use Rattle.std.proofs.Common.{◌≡◌, refl, ap, sym, ◌∙◌, subst, ℕ, zero, suc, ◌+◌, ◌-◌, ◌<◌, ◌≤◌, ◌⊎◌, inl, inr, Bool, true, false, nat_lt, nat_le, max, List, [], ◌∷◌, ◌++◌, append_assoc, length, Contains, take, filter, Option, Some, None, slice_get, arith}
 use Rattle.std.specs.Option.{option_map_or}
 use Rattle.std.proofs.lemmas.Bool.{cases_Bool, cases_lt, false≢true, le-leb, ltb-true}
@@ -21,13 +21,13 @@ use Rattle.laws_safety.proofs.records.CutsRemembered.{left_remembers, bounded_re
 use Rattle.laws_safety.proofs.votes.NotarizeVotesShown.{RemembersNotes}
 use Rattle.laws_safety.proofs.records.NotarizeVotesRemembered.{notes_left, notes_bounded}
 
--- a closed entry, which no drop takes, is a finalization that is no lower than what is kept
+-- a closed entry, which no drop takes, is a finalization no lower than the retained views
 abbrev pub IsHigh : {D : Type 0} → ℕ → ℕ → List (ArtifactFacts D) → Type 0
 IsHigh {D} closed kept entries =
     (kept ≡ 0)
     ⊎ ((c : ProposalFacts D) × (front back : List (ArtifactFacts D)) × (entries ≡ front ++ Accepted (Finalized c) ∷ back) × (length front < closed) × (kept ≤ c.proposal.round.view))
 
--- between lives: the trace is lawful, and the record remembers it but for views below `kept`
+-- between lifetimes: the trace is lawful, and the record remembers it except for views below `kept`
 pub record Between {D : Type 0} (term_length : ℕ) (trace : List (TraceEvent D)) (closed kept : ℕ) (entries : List (ArtifactFacts D)) : Type 0 where
   pub lawful : IsLawful term_length trace
   pub remembers : Remembers trace kept entries
@@ -151,7 +151,7 @@ module _ {D : Type 0} (term_length : ℕ) (trace : List (TraceEvent D)) (closed 
         within = omega arith;
       }
 
-  -- a prune, which closes what it leaves
+  -- a prune, which closes the remaining entries
   pub pruned_between : (retention : ℕ) → Between term_length trace (length (pruned_entries retention entries)) (max kept (finalized_in entries - retention)) (pruned_entries retention entries)
   unfolding pruned_entries
   pruned_between retention =

@@ -1,5 +1,5 @@
 -- For `votes_are_lawful`.
--- A new life from a record, and each call in it, keep the voting rules and leave a record that remembers them.
+-- A new lifetime from a record, and each call in it, keep the voting rules, and the record after them remembers them.
 use Rattle.std.proofs.Common.{◌≡◌, refl, ap, sym, ◌∙◌, subst, ℕ, ◌+◌, ◌<◌, ◌≤◌, ◌⊎◌, inl, inr, Bool, true, false, not, List, [], ◌∷◌, ◌++◌, append_assoc, length, Contains, filter, Option, Some, None, arith}
 use Rattle.std.specs.Prelude.{◌==◌}
 use Rattle.std.specs.Option.{option_or}
@@ -38,7 +38,7 @@ use Rattle.laws_safety.proofs.votes.NotarizeVotesByCalls.{call_notes}
 use Rattle.laws_safety.proofs.records.Lifetimes.{IsHigh, Between, high_known}
 use Rattle.laws_safety.proofs.lists.Filters.{same_entries}
 
--- a living member: its state keeps the rules, and its record follows them
+-- a member that has not failed: its state keeps the rules, and its record follows them
 pub record Living {K L D : Type 0} (term_length : ℕ) (trace : List (TraceEvent D)) (closed kept : ℕ) (entries : List (ArtifactFacts D)) (o : OutstandingWork K D) (x : StateFacts K L D) : Type 0 where
   pub keeps : IsLawfulAndShown term_length trace x
   pub follows : RemembersAndShows trace kept entries x
@@ -48,7 +48,7 @@ pub record Living {K L D : Type 0} (term_length : ℕ) (trace : List (TraceEvent
   pub high : IsHigh closed kept entries
   pub within : closed ≤ length entries
 
--- where a life ends the record is left
+-- the record remains when a lifetime ends
 pub living_between : {K L D : Type 0} (term_length : ℕ) (trace : List (TraceEvent D)) (closed kept : ℕ) (entries : List (ArtifactFacts D)) (o : OutstandingWork K D) (x : StateFacts K L D) → Living term_length trace closed kept entries o x → Between term_length trace closed kept entries
 living_between term_length trace closed kept entries o x living = record { lawful = living.keeps.lawful; remembers = living.follows.remembers; notes = living.notes; high = living.high; within = living.within }
 
@@ -121,7 +121,7 @@ floor_lawful term_length trace (Genesis payload) lawful = subst (IsLawful term_l
 floor_lawful term_length trace (FinalizedFloor c) lawful = lawful_push term_length trace (Accepts (subject.Finalize c.proposal)) lawful tt
 
 module _ {K L D : Type 0} (same : D → D → Bool) (decides : (d e : D) → same d e ≡ true → d ≡ e) (elect : Elect L) (settings : Settings) (me : Option ℕ) (members : List K) (elector : L) (terms : Terms) (early : Bool) where
-  -- a new life from a copy of the record by view
+  -- a new lifetime from a copy of the record by view
   pub new_life_lives : (trace : List (TraceEvent D)) (closed kept : ℕ) (entries copy : List (ArtifactFacts D)) (floor : FloorFacts D) (now : ℕ) → Between terms.term_length trace closed kept entries → ((v : ℕ) → filter (λ e. entry_view e == v) copy ≡ filter (λ e. entry_view e == v) entries) → ((e : ArtifactFacts D) → Contains copy e → (entry_round e).epoch ≡ settings.epoch) → Living terms.term_length (trace ++ of_floor floor) closed kept (with_floor entries floor) no_outstanding_work (recovered_state same elect (new_facts settings me members elector terms early) floor now copy)
   new_life_lives trace closed kept entries copy floor now between by_view epochs =
       let t = terms.term_length in

@@ -1,5 +1,5 @@
 -- For `votes_are_lawful`.
--- What a record remembers of the votes to notarize is kept: by each event, by a copy of the record, and where it is cut.
+-- A record keeps remembering the votes to notarize: after each event, after a copy of the record, and after a cut.
 use Rattle.std.proofs.Common.{◌≡◌, refl, sym, subst, ℕ, ◌≤◌, inl, inr, Bool, true, false, max, if◌then◌else◌, List, [], ◌∷◌, ◌++◌, Contains, filter, Option, Some, None, arith}
 use Rattle.std.specs.Prelude.{◌==◌, option_map, option_and_then}
 use Rattle.std.proofs.lemmas.Bool.{cases_Bool, false≢true, true≢false}
@@ -154,7 +154,7 @@ module _ {D : Type 0} where
       by_record false is = rw is (notes_grow trace (Accepts (subject.Finalize c.proposal) ∷ []) kept entries (Accepted (Finalized c) ∷ []) casts (notes_accepted (Accepted (Finalized c)) (λ p m e. absurd (cc))) remembers)
 
 module _ {D : Type 0} (round : Round) where
-  -- a vote to nullify, where one is told
+  -- a vote to nullify, if the reply has one
 
   nullify_casts_none : (K : Type 0) (v : ℕ) (me : Option ℕ) (a : Option Bool) → CastsNone (trace_of_call {K = K} {D = D} (ConstructNullify v) (Nullify (option_and_then (λ m. option_map (λ retry. (retry, NullifyVote round m)) a) me)))
   nullify_casts_none K v None a = casts_nothing

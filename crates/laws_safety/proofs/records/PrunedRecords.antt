@@ -1,5 +1,5 @@
 -- For `votes_are_lawful`.
--- A pruning of the record within a life leaves all that the state's facts show: what it tracks stays in the record.
+-- A pruning of the record within a lifetime keeps all that the state's facts show: what it tracks stays in the record.
 use Rattle.std.proofs.Common.{◌≡◌, refl, sym, ◌∙◌, subst, ℕ, ◌-◌, ◌≤◌, Bool, true, false, ◌||◌, nat_le, max, List, Contains, filter, Option, Some, None, is_some, unwrap_or, arith}
 use Rattle.std.proofs.lemmas.Bool.{false≢true, le-leb}
 use Rattle.simplex_types.specs.Certificates.{ArtifactFacts, NullifyVote, Verdict}
@@ -15,7 +15,7 @@ use Rattle.laws_safety.proofs.records.Lifetimes.{Between, bounded_between}
 use Rattle.laws_safety.proofs.records.NewLives.{Living, living_between}
 use Rattle.laws_safety.proofs.records.RecordedVotes.{Marked}
 
--- what a pruning may take is below the bound
+-- the entries that a pruning may take are below the bound
 pub high_stay : (tracked : ℕ → Bool) (bound v : ℕ) → bound ≤ v → (tracked v || nat_le bound v) ≡ true
 high_stay tracked bound v above = by_test (tracked v)
   where
@@ -55,7 +55,7 @@ module _ {K L D : Type 0} (term_length : ℕ) (trace : List (TraceEvent D)) (m :
   abbrev pub bound : ℕ
   bound = finalized_in m.entries - m.retention
 
-  -- between lives, and in a life
+  -- between lifetimes, and in a lifetime
   pub pruned_ended : Between term_length trace m.closed kept m.entries → Between term_length trace (pruned_member m).closed (max kept bound) (pruned_member m).entries
   pruned_ended between = bounded_between term_length trace m.closed kept m.entries between (stays_within m) bound (λ v above. high_stay (tracks m.life) bound v above) (omega arith)
 

@@ -1,5 +1,5 @@
 -- For `resumes_are_restarts`.
--- A restart that prunes leaves of a record that was pruned within the life what it leaves of the whole one.
+-- A restart that prunes makes of a record that was pruned within the lifetime what it makes of the whole one.
 use Rattle.std.proofs.Common.{◌≡◌, refl, ap, sym, ◌∙◌, subst, ℕ, ◌-◌, ◌≤◌, inl, inr, Bool, true, false, nat_le, cond, List, [], ◌∷◌, filter, arith}
 use Rattle.std.proofs.lemmas.Bool.{false≢true, leb-true}
 use Rattle.simplex_types.specs.Certificates.{Finalized, ArtifactFacts, Accepted}

@@ -1,5 +1,5 @@
 -- For `votes_are_lawful`.
--- What a state's facts show of its record: a true verdict, and a vote to nullify, stand in it.
+-- What a state's facts show of its record is in it: a true verdict, and a vote to nullify.
 use Rattle.std.proofs.Common.{◌≡◌, ap, sym, ◌∙◌, subst, ℕ, ◌⊎◌, inl, inr, Bool, true, false, List, ◌++◌, Contains, Some, None, is_some, unwrap_or, arith}
 use Rattle.std.proofs.lemmas.Bool.{cases_Bool, false≢true}
 use Rattle.std.proofs.lemmas.List.Elements.{Contains-append_left}
@@ -15,7 +15,7 @@ use Rattle.simplex_record.proofs.Rounds.{armed_nullify, latched_nullify, aborted
 use Rattle.simplex_record.proofs.Steps as step
 use Rattle.simplex_record.proofs.Steps.{RoundStep, verdict_by, nullify_by}
 
--- what is shown is recorded; a vote to nullify, where there is a key
+-- what is shown is recorded; a vote to nullify, if there is a key
 pub record Marked {K L D : Type 0} (entries : List (ArtifactFacts D)) (x : StateFacts K L D) : Type 0 where
   pub certified : (v : ℕ) → is_certified (round_of x v).certification ≡ true → (round : Round) × Contains entries (Verdict round true) × (round.view ≡ v)
   pub nullified : (v : ℕ) → is_nullify (round_of x v).decision ≡ true → is_some x.me ≡ true → (m : ℕ) × Contains entries (NullifyVote (round_number x v) m)

@@ -32,7 +32,7 @@ use Rattle.simplex_record.proofs.Paths.{asked_of_all, to_prepared}
 use Rattle.laws_safety.proofs.votes.Proposals.{Tidy, tidy_calm, opposite}
 use Rattle.laws_safety.proofs.votes.NotarizeVotesShown.{NotesStand, RemembersNotes}
 
--- what is held at a view is of it, and what is verified was voted for
+-- the proposal held at a view is of it, and a verified one was voted for
 pub record RoundRemade {K D : Type 0} (v : ℕ) (r : RoundFacts K D) : Type 0 where
   pub tidy : Tidy false false r
   pub placed : (p : Proposal D) → r.slot.held ≡ Some p → p.round.view ≡ v
@@ -43,7 +43,7 @@ pub record Remade {K L D : Type 0} (copy : List (ArtifactFacts D)) (x : StateFac
   pub rounds : (v : ℕ) → RoundRemade v (round_of x v)
   pub covered : (u : ℕ) → Contains x.nullified u → (c : NullificationFacts) × Contains copy (Accepted (Nullified c)) × (c.round.view ≡ u)
 
--- what each entry that is taken again keeps
+-- the invariant of each entry that is taken again
 pub record Remakes {K L D : Type 0} (copy : List (ArtifactFacts D)) (x y : StateFacts K L D) : Type 0 where
   pub finalized : x.finalized ≤ y.finalized
   pub decided : (v : ℕ) → (round_of x v).notarize_decided ≡ true → (round_of y v).notarize_decided ≡ true
@@ -68,7 +68,7 @@ module _ {D : Type 0} (same : D → D → Bool) (s : SlotFacts D) (p : Proposal 
   own_placed q = elim (holds_or_empty (same_proposal same) s p) as (λ b. (slot_taken_over b).held ≡ Some q → (s.held ≡ Some q) ⊎ (p ≡ q)) [ true ↦ λ is. inr (cc) | false ↦ λ is. inl is ]
 
 module _ {K D : Type 0} where
-  -- what is voted for rests on nothing but its slot
+  -- the basis of a vote is only its slot
   voted_remade : (v : ℕ) (r : RoundFacts K D) → (r.slot.verified ≡ true → r.slot.verify_requested ≡ true) → (r.slot.held ≡ None → r.slot.verified ≡ false) → ((p : Proposal D) → r.slot.held ≡ Some p → p.round.view ≡ v) → r.notarize_decided ≡ true → RoundRemade v r
   voted_remade v r requested held placed voted = record {
     tidy = record {
@@ -185,7 +185,7 @@ module _ {K L D : Type 0} (same : D → D → Bool) (elect : Elect L) (now : ℕ
         let y = after_add_finalization same elect x c now in
         remakes_joined copy x y _ (remakes_event x (event.AddFinalization c now) (leaves refl) (λ u is. absurd (false≢true is))) (remakes_event y (event.Replay (Accepted (Finalized c))) (leaves refl) (λ u is. absurd (false≢true is)))
 
-  -- an entry is taken again, or passed over
+  -- an entry is taken again, or skipped
 
   taken_remakes : (x : StateFacts K L D) (e : ArtifactFacts D) → Contains copy e → Remakes copy x (after_kept_entry same elect x now e)
   unfolding after_kept_entry

@@ -1,5 +1,5 @@
 -- For `votes_are_lawful`.
--- What a state that is made from a record shows of it stands in it.
+-- What a state that is made from a record shows of it is in it.
 use Rattle.std.proofs.Common.{◌≡◌, refl, ap, sym, ◌∙◌, subst, ℕ, Bool, true, List, [], ◌∷◌, Contains, Option, Some, None, arith}
 use Rattle.std.proofs.lemmas.Bool.{false≢true}
 use Rattle.simplex_types.specs.Certificates.{Notarized, Nullified, Finalized, ArtifactFacts, NotarizeVote, NullifyVote, FinalizeVote, Verdict, Accepted}
@@ -21,7 +21,7 @@ module _ {K L D : Type 0} (same : D → D → Bool) (elect : Elect L) (entries :
   quiet_on : (x : StateFacts K L D) (e : Event K D) → verdict_by e ≡ None → nullify_by e ≡ None → Marked entries x → Marked entries (after_event same elect x e)
   quiet_on x e verdict nullify marked = quiet_marked same elect x e entries verdict nullify marked
 
-  -- a verdict that stands in the record
+  -- a verdict that is in the record
   verdict_on : (x : StateFacts K L D) (e : Event K D) (round : Round) (success : Bool) → verdict_by e ≡ Some (round.view, success) → nullify_by e ≡ None → Contains entries (Verdict round success) → Marked entries x → Marked entries (after_event same elect x e)
   verdict_on x e round success gives nullify here marked =
       event_marked same elect x e entries entries (λ a h. h)

@@ -1,5 +1,5 @@
 -- For `votes_are_lawful`.
--- A new life from a member's record starts with what all lives before did.
+-- A new lifetime from a member's record starts with what all earlier lifetimes did.
 use Rattle.std.proofs.Common.{◌≡◌, refl, subst, ℕ, ◌≤◌, ◌⊎◌, inl, inr, Bool, true, false, if◌then◌else◌, nat_lt, List, [], ◌∷◌, ◌++◌, Contains, Option, arith}
 use Rattle.std.proofs.lemmas.Bool.{ltb-true}
 use Rattle.std.proofs.lemmas.List.Elements.{Contains-append_left, Contains-append_right, Contains-append_cases}
@@ -45,8 +45,8 @@ module _ {K L D : Type 0} (same : D → D → Bool) (elect : Elect L) (now : ℕ
   ]
 
 module _ {K L D : Type 0} (same : D → D → Bool) (decides : (d e : D) → same d e ≡ true → d ≡ e) (elect : Elect L) (settings : Settings) (me : Option ℕ) (members : List K) (elector : L) (terms : Terms) (early : Bool) where
-  -- a state made from a record of the whole trace before shows it, and the floor's finalization besides; of the views that the
-  -- record may lack votes of, one that is no lower is finalized in it
+  -- a state made from a record of the whole earlier trace shows it, and also the floor's finalization; for views whose votes the record may
+  -- lack, a view no lower is finalized in it
   pub recovered_stays : (trace : List (TraceEvent D)) (kept : ℕ) (copy : List (ArtifactFacts D)) (floor : FloorFacts D) (now : ℕ) → IsLawful terms.term_length trace → Remembers trace kept copy → (kept ≡ 0) ⊎ ((c : ProposalFacts D) × Contains copy (Accepted (Finalized c)) × (kept ≤ c.proposal.round.view)) → ShowsVotesInLife terms.term_length (trace ++ of_floor floor) (recovered_state same elect (new_facts settings me members elector terms early) floor now copy)
   unfolding recovered_state
   recovered_stays trace kept copy floor now lawful remembers final =

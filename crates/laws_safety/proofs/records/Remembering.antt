@@ -14,7 +14,7 @@ use Rattle.laws_safety.proofs.lists.Signed.{signed_none, signed_left, signed_cas
 use Rattle.laws_safety.proofs.records.TracesShown.{Remembers}
 use Rattle.laws_safety.proofs.lists.Splits.{only_one}
 
--- an element of two lists joined stands in the first one or behind it
+-- an element of two lists joined is in the first one or after it
 pub append_split : {X : Type 0} (xs ys before after : List X) (x : X) → xs ++ ys ≡ before ++ x ∷ after → ((rest : List X) × (xs ≡ before ++ x ∷ rest)) ⊎ ((front : List X) × (before ≡ xs ++ front) × (ys ≡ front ++ x ∷ after))
 append_split [] ys before after x e = inr (before, refl, e)
 append_split {X} (a ∷ xs) ys [] after x e =
@@ -37,7 +37,7 @@ single_split [] after y x e = cc
 single_split (b ∷ []) after y x e = absurd (cc)
 single_split (b ∷ (c ∷ before)) after y x e = absurd (cc)
 
--- what has to be known of new entries and events
+-- what must be known of new entries and events
 pub record RecordGrows {D : Type 0} (trace more : List (TraceEvent D)) (entries new : List (ArtifactFacts D)) : Type 0 where
   pub accepted : (c : CertificateFacts D) → Contains new (Accepted c) → Contains (trace ++ more) (Accepts (certificate_subject c))
   pub nullify_cast : (round : Round) (m : ℕ) → Contains new (NullifyVote round m) → HasSigned (trace ++ more) (subject.Nullify round)

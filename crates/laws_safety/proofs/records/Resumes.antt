@@ -1,5 +1,5 @@
 -- For `resumes_are_restarts`.
--- A resume from what a journal holds of a member is its restart with nothing dropped and nothing pruned.
+-- A resume from a member's journal is its restart with nothing dropped and nothing pruned.
 use Rattle.std.proofs.Common.{◌≡◌, refl, sym, subst, ℕ, zero, suc, ◌-◌, ◌<◌, ◌≤◌, inl, inr, Bool, true, false, ◌&&◌, nat_lt, if◌then◌else◌, List, [], ◌∷◌, ◌++◌, length, take, Option, Some, None, MatchOption, Result, Ok, Err, arith}
 use Rattle.std.proofs.lemmas.Bool.{cases_Bool}
 use Rattle.std.proofs.lemmas.Bool.Decides.{nat_tests}
@@ -26,7 +26,7 @@ use Rattle.simplex_record.specs.Start.{StartFacts, new_state}
 use Rattle.laws_safety.specs.Executions.{new_member}
 use Rattle.laws_safety.specs.Resumes.{LosesNothing}
 
--- all that was closed stands in its record
+-- its record has all that was closed
 
 abbrev Within : {K L D : Type 0} → MemberFacts K L D → Type 0
 Within m = m.closed ≤ length m.entries
@@ -38,7 +38,7 @@ not_below : (closed count : ℕ) → closed ≤ count → nat_lt count closed �
 not_below closed count most = grind (arith, nat_tests)
 
 module _ {D : Type 0} where
-  -- a drop leaves what is closed
+  -- a drop keeps the closed entries
   drop_within : (closed n : ℕ) (entries : List (ArtifactFacts D)) → closed ≤ length entries → closed ≤ length (without_last closed n entries)
   unfolding may_drop
   drop_within closed zero entries within = within
@@ -119,7 +119,7 @@ module _ {K L D : Type 0} (same : D → D → Bool) (elect : Elect L) where
 -- the member that a journal holds restarts as the one that it was stored of
 
 module _ {K L D : Type 0} (same : D → D → Bool) (elect : Elect L) (start : StartFacts K L D) where
-  -- whether it lives, and what it has open, doesn't matter to a new life
+  -- whether it has failed, and its open requests, don't matter to a new lifetime
   other_life : (m next : MemberFacts K L D) (life : Option (StateFacts K L D)) (outstanding_work : OutstandingWork K D) → IsRestart same elect m (whole_restart start) (Ok tt) next → IsRestart same elect (record m { life = life; outstanding_work = outstanding_work }) (whole_restart start) (Ok tt) next
   unfolding IsRestart
   other_life m next life outstanding_work restarts = by_test (retention_grows m false start.setup.settings.view_retention) restarts
@@ -135,7 +135,7 @@ module _ {K L D : Type 0} (same : D → D → Bool) (elect : Elect L) (start : S
       by_test false (inl (is, leaves)) = absurd cc
       by_test false (inr (copy, by_view, goes)) = inr (copy, by_view, by_error copy (recover_error same (new_state start.setup) start.floor start.now copy) goes)
 
-  -- nor does it to a refusal, which leaves them
+  -- nor do they to a refusal, which keeps them
   other_refusal : (m left : MemberFacts K L D) (life : Option (StateFacts K L D)) (outstanding_work : OutstandingWork K D) (found : RecoverError) → IsRestart same elect m (whole_restart start) (Err found) left
       → IsRestartWhere same elect (retention_grows m false start.setup.settings.view_retention) (record m { life = life; outstanding_work = outstanding_work }) (whole_restart start) (Err found) (record m { life = if retention_grows m false start.setup.settings.view_retention then life else None; outstanding_work = if retention_grows m false start.setup.settings.view_retention then outstanding_work else no_outstanding_work })
   unfolding IsRestart

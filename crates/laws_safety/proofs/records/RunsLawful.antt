@@ -1,5 +1,5 @@
 -- For `votes_are_lawful`.
--- The trace of a run is lawful, over all its lives.
+-- The trace of a run is lawful, over all its lifetimes.
 use Rattle.std.proofs.Common.{◌≡◌, refl, sym, subst, ℕ, ◌<◌, inl, inr, Bool, true, false, List, [], ◌∷◌, ◌++◌, append_assoc, Contains, Option, Some, None, Result, Ok, Err, ◌-◌, max, arith}
 use Rattle.std.specs.Prelude.{MatchOption}
 use Rattle.std.proofs.lemmas.List.{append-nil}
@@ -34,7 +34,7 @@ use Rattle.laws_safety.proofs.records.CallsKeepRules.{call_lives}
 use Rattle.laws_safety.proofs.records.PrunedRecords.{pruned_ended, pruned_living}
 use Rattle.simplex_member.specs.Pruning.{pruned_member}
 
--- a member's record remembers its trace, and while it lives its state shows it
+-- a member's record remembers its trace, and while it has not failed its state shows it
 abbrev pub LivesOn : {K L D : Type 0} → ℕ → List (TraceEvent D) → ℕ → ℕ → List (ArtifactFacts D) → OutstandingWork K D → Option (StateFacts K L D) → Type 0
 LivesOn term_length trace closed kept entries o None = Between term_length trace closed kept entries
 LivesOn term_length trace closed kept entries o (Some x) = Living term_length trace closed kept entries o x
@@ -55,14 +55,14 @@ module _ {K L D : Type 0} where
   quiet : (term_length : ℕ) (trace : List (TraceEvent D)) (m : MemberFacts K L D) → MemberLives term_length trace m → MemberLives term_length (trace ++ []) m
   quiet term_length trace m lives = subst (λ a. MemberLives term_length a m) (sym (append-nil trace)) lives
 
-  -- what a restart leaves of the record
+  -- the record after a restart's cut
   pub cut_between : (term_length : ℕ) (trace : List (TraceEvent D)) (m : MemberFacts K L D) (drop kept : ℕ) (prune : Bool) → Between term_length trace m.closed kept m.entries → (k : ℕ) × Between term_length trace (cut_member m drop prune).closed k (cut_member m drop prune).entries
   cut_between term_length trace m drop kept false between = (kept, dropped_between term_length trace m.closed kept m.entries between drop)
   cut_between term_length trace m drop kept true between =
       let left = dropped_between term_length trace m.closed kept m.entries between drop in
       (_, pruned_between term_length trace m.closed kept (without_last m.closed drop m.entries) left m.retention)
 
-  -- a pruning within the life
+  -- a pruning within the lifetime
   pub prune_lives_on : (term_length : ℕ) (trace : List (TraceEvent D)) (m : MemberFacts K L D) → MemberLives term_length trace m → MemberLives term_length (trace ++ []) (pruned_member m)
   prune_lives_on term_length trace m lives = quiet term_length trace (pruned_member m) (_, by_life m.life refl lives.1)
     where
@@ -104,7 +104,7 @@ module _ {K L D : Type 0} (same : D → D → Bool) (decides : (d e : D) → sam
       let lives = new_life_lives same decides elect x.settings x.me x.members x.elector x.terms x.elects_early trace n.closed kept n.entries copy start.floor start.now here by_view.of_each_view epochs in
       (kept, subst (λ t. Living t (trace ++ of_floor start.floor) n.closed kept (new_lifetime same elect n start copy).entries no_outstanding_work (recovered_state same elect x start.floor start.now copy)) fresh.terms lives)
 
-  -- where a life is refused, what is left of the record is kept
+  -- if a lifetime is refused, the rest of the record stays
   refused_life : (n : MemberFacts K L D) (kept : ℕ) → Between term_length trace n.closed kept n.entries → MemberLives term_length (trace ++ []) (without_lifetime n)
   refused_life n kept between = quiet term_length trace (without_lifetime n) (kept, between)
 
@@ -135,7 +135,7 @@ module _ {K L D : Type 0} (same : D → D → Bool) (decides : (d e : D) → sam
   keep_parts Prunes steps keep = (tt, keep)
   keep_parts (Restarts r) steps keep = ((keep.0, tt), keep.1)
 
-  -- a step, and what is left of the terms that later steps keep
+  -- a step, and the terms that later steps keep
   pub step_lives : (step : StepFacts K L D) (steps : List (StepFacts K L D)) (told : ReplyFacts K D) (trace : List (TraceEvent D)) (m next : MemberFacts K L D) → KeepTerms term_length (step ∷ steps) → MemberLives term_length trace m → IsStep same elect m step told next → KeepTerms term_length steps × MemberLives term_length (trace ++ trace_at step told) next
   step_lives step steps told trace m next keep lives is_step = let parts = keep_parts step steps keep in (parts.1, by_kind step parts.0 is_step)
     where
@@ -190,7 +190,7 @@ module _ {K L D : Type 0} (same : D → D → Bool) (decides : (d e : D) → sam
   run_from_lawful steps replies fresh (accepted, end, run) =
       run_lawful same decides elect term_length begins.some steps replies (of_floor start.floor) (new_member same elect start) end fresh start_lives run
 
--- the lives of a member of a network share a length of terms
+-- the lifetimes of a member of a network share a length of terms
 pub keep_terms : {K L D : Type 0} (term_length i : ℕ) (steps : List (StepFacts K L D)) → ((r : RestartFacts K L D) → Contains steps (Restarts r) → BeginsAs term_length i r.start.setup) → KeepTerms term_length steps
 keep_terms term_length i [] later = tt
 keep_terms term_length i (Calls call ∷ steps) later = keep_terms term_length i steps (λ r h. later r (Contains-cons_rest (Calls call) steps (Restarts r) h))
@@ -198,6 +198,6 @@ keep_terms term_length i (Prunes ∷ steps) later = keep_terms term_length i ste
 keep_terms term_length i (Restarts q ∷ steps) later = ((later q (0, omega arith, refl)).terms, keep_terms term_length i steps (λ r h. later r (Contains-cons_rest (Restarts q) steps (Restarts r) h)))
 
 module _ {K L D : Type 0} (same : D → D → Bool) (decides : (d e : D) → same d e ≡ true → d ≡ e) (elect : Elect L) (term_length : ℕ) where
-  -- what a member of a network does is lawful
+  -- the trace of a network's member is lawful
   pub execution_lawful : (i : ℕ) (s : Execution K L D) → IsExecution same elect term_length i s → IsLawful term_length (trace_of s)
   execution_lawful i s ran = run_from_lawful same decides elect term_length s.start ran.lives.first.terms s.steps s.replies (keep_terms term_length i s.steps ran.lives.later) ran.run

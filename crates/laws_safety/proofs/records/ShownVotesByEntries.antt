@@ -1,5 +1,5 @@
 -- For `votes_are_lawful`.
--- What stands of the votes is kept by each entry that is taken again, and the current view does not fall.
+-- Each entry that is taken again keeps the state's votes, and the current view does not fall.
 use Rattle.std.proofs.Common.{◌≡◌, refl, ap, sym, ◌∙◌, subst, ℕ, ◌<◌, ◌≤◌, inl, inr, Bool, true, false, if◌then◌else◌, nat_lt, List, [], ◌∷◌, ◌++◌, None, arith}
 use Rattle.std.specs.Ordering.{nat_cmp}
 use Rattle.std.specs.BTreeSet.{insert_key}
@@ -113,7 +113,7 @@ module _ {K L D : Type 0} (same : D → D → Bool) (decides : (d e : D) → sam
         let e : Event K D = event.AddFinalization c now in
         replayed_stays (trace ++ Accepts (subject.Finalize c.proposal) ∷ []) (Finalized c) (after_event same elect x e) (finalization_stays same decides elect term_length trace x stays c now)
 
-    -- an entry is taken again, or passed over
+    -- an entry is taken again, or skipped
     pub taken_stays : (e : ArtifactFacts D) → MayRetake trace x.current e → ShowsVotesInLife term_length (trace ++ entry_trace e) (after_kept_entry same elect x now e)
     unfolding after_kept_entry
     taken_stays e may = by_view (nat_lt (entry_view e) (min_active x)) refl

@@ -1,5 +1,5 @@
 -- For `votes_are_lawful`.
--- A state that is made again from a member's record shows the trace of all lives before.
+-- A state that is made again from a member's record shows the trace of all earlier lifetimes.
 use Rattle.std.proofs.Common.{◌≡◌, refl, ap, sym, ◌∙◌, subst, ℕ, ◌<◌, ◌≤◌, ◌⊎◌, inl, inr, Bool, true, List, [], ◌∷◌, ◌++◌, append_assoc, Contains, arith}
 use Rattle.std.proofs.lemmas.List.{append-nil}
 use Rattle.std.proofs.lemmas.List.Elements.{Contains-append_left, Contains-append_right, Contains-append_cases, Contains-push_cases}
@@ -19,21 +19,21 @@ use Rattle.laws_safety.proofs.votes.ShownVotes.{ShowsVotesInLife}
 use Rattle.laws_safety.proofs.records.EntryTraces.{entry_trace, MayRetake}
 use Rattle.laws_safety.proofs.records.ShownVotesByEntries.{taken_stays, taken_rises, taken_passes}
 
--- what a record holds of a member's trace; it may lack votes of views below `kept`
+-- what a record has of a member's trace; it may lack votes of views below `kept`
 pub record Remembers {D : Type 0} (trace : List (TraceEvent D)) (kept : ℕ) (entries : List (ArtifactFacts D)) : Type 0 where
   -- each certificate was accepted, and each vote was cast
   pub accepted : (c : CertificateFacts D) → Contains entries (Accepted c) → Contains trace (Accepts (certificate_subject c))
   pub nullify_cast : (round : Round) (m : ℕ) → Contains entries (NullifyVote round m) → HasSigned trace (subject.Nullify round)
   pub finalize_cast : (p : Proposal D) (m : ℕ) → Contains entries (FinalizeVote p m) → HasSigned trace (subject.Finalize p)
-  -- each vote that was cast is recorded, or stands below what is kept
+  -- each vote that was cast is recorded, or lies below the retained views
   pub nullify_kept : (round : Round) → HasSigned trace (subject.Nullify round) → ((m : ℕ) × Contains entries (NullifyVote round m)) ⊎ (round.view < kept)
   pub finalize_kept : (p : Proposal D) → HasSigned trace (subject.Finalize p) → ((m : ℕ) × Contains entries (FinalizeVote p m)) ⊎ (p.round.view < kept)
   -- no vote to nullify is of genesis
   pub above_genesis : (round : Round) → HasSigned trace (subject.Nullify round) → 1 ≤ round.view
-  -- behind each vote to finalize stands a true verdict of its view
+  -- before each vote to finalize there is a true verdict of its view
   pub judged : (before after : List (ArtifactFacts D)) (p : Proposal D) (m : ℕ) → entries ≡ before ++ FinalizeVote p m ∷ after → (round : Round) × Contains before (Verdict round true) × (round.view ≡ p.round.view)
 
--- the trace that entries record, in turn
+-- the trace that entries record, in order
 abbrev pub entries_trace : {D : Type 0} → List (ArtifactFacts D) → List (TraceEvent D)
 entries_trace [] = []
 entries_trace (e ∷ rest) = entry_trace e ++ entries_trace rest

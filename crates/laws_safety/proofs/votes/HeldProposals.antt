@@ -1,4 +1,4 @@
--- Which proposal a slot holds once a certificate settles it, or one's own or another is heard of.
+-- The proposal that a slot holds once a certificate settles it, or its own or another is received.
 use Rattle.std.proofs.Common.{◌≡◌, refl, ap, sym, ◌∙◌, Bool, true, false, ◌&&◌, ◌||◌, not, if◌then◌else◌, Option, Some, None}
 use Rattle.std.specs.Option.{option_or, option_map_or}
 use Rattle.simplex_types.specs.Proposal.{same_proposal}
@@ -34,7 +34,7 @@ module _ {D : Type 0} (same : D → D → Bool) (s : SlotFacts D) (p : Proposal 
       by_held None is = ap (λ q. (if option_map_or (λ h. same_proposal same h p) q true then own else s).held) is ∙ sym (ap (λ q. option_or q (Some p)) is)
       by_held (Some h) is = ap (λ q. (if option_map_or (λ g. same_proposal same g p) q true then own else s).held) is ∙ by_same h (same_proposal same h p) refl is ∙ sym (ap (λ q. option_or q (Some p)) is)
 
-  -- and so is one that is heard of
+  -- and so is one that is received
   pub heard_held : (after_vote (same_proposal same) s p).held ≡ option_or s.held (Some p)
   heard_held = by_held s.held refl
     where

@@ -1,4 +1,4 @@
--- Each call of a life keeps the voting rules, with the trace that it shows.
+-- Each call of a lifetime keeps the voting rules, with the trace that it shows.
 use Rattle.std.proofs.Common.{◌≡◌, refl, ap, sym, ◌∙◌, subst, ℕ, Bool, true, false, ◌&&◌, List, [], ◌∷◌, ◌++◌, Option, Some, None, is_some}
 use Rattle.std.specs.Prelude.{option_map, option_and_then}
 use Rattle.std.proofs.lemmas.Bool.{false≢true, true≢false}
@@ -28,7 +28,7 @@ use Rattle.simplex_record.specs.Events as event
 use Rattle.simplex_record.specs.Events.{Event, after_event, finalized_by_event}
 use Rattle.laws_safety.proofs.votes.ShownVotesByVotes.{nullify_allowed, nullify_decided, nullify_voted, finalize_allowed, finalize_decided, finalize_voted}
 
--- what each call of a life keeps: its trace is lawful, and its facts show it
+-- the invariant of each call of a lifetime: its trace is lawful, and its facts show it
 pub record IsLawfulAndShown {K L D : Type 0} (term_length : ℕ) (trace : List (TraceEvent D)) (x : StateFacts K L D) : Type 0 where
   pub lawful : IsLawful term_length trace
   pub stays : ShowsVotesInLife term_length trace x
@@ -38,7 +38,7 @@ none_follows f None no_value = refl
 none_follows f (Some a) no_value = no_value a
 
 module _ {K L D : Type 0} (elect : Elect L) (x : StateFacts K L D) (v : ℕ) where
-  -- what is told of a vote
+  -- the vote in a reply
 
   pub nullify_silent : (is_some x.me && may_nullify x v) ≡ false → nullify_vote x v ≡ None
   nullify_silent no_vote = none_follows _ x.me (λ m. rw no_vote refl)

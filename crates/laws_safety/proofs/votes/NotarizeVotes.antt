@@ -34,7 +34,7 @@ use Rattle.laws_safety.proofs.votes.VotedParents.{any_of, bound_reaches}
 use Rattle.simplex_record.proofs.Rounds.{round_put}
 use Rattle.laws_safety.proofs.votes.NotarizeVotesByWork.{decided_notes}
 
--- what is told of a vote
+-- the vote in a reply
 module _ {K L D : Type 0} (same : D → D → Bool) (elect : Elect L) (x : StateFacts K L D) (v : ℕ) where
   pub notarize_silent : (is_some x.me && may_notarize same elect x v) ≡ false → notarize_vote same elect x v ≡ None
   notarize_silent no_vote = none_follows _ x.me (λ m. rw no_vote refl)

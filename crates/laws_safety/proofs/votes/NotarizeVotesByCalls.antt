@@ -1,4 +1,4 @@
--- Each call of a life keeps what its facts show of the votes to notarize.
+-- Each call of a lifetime keeps what its facts show of the votes to notarize.
 use Rattle.std.proofs.Common.{◌≡◌, refl, ap, sym, ◌∙◌, subst, ℕ, ◌≤◌, ◌<◌, Bool, true, false, ◌&&◌, ◌==◌, cond, nat_le, List, [], ◌∷◌, ◌++◌, Contains, Some, None, is_some, unwrap_or, arith}
 use Rattle.std.specs.Ordering.{nat_cmp}
 use Rattle.std.specs.FinMap.Entries.{find, find-where_key}
@@ -33,7 +33,7 @@ use Rattle.laws_safety.proofs.votes.NotarizeVotesShown.{NotesStand, notes_acted,
 use Rattle.laws_safety.proofs.records.NotarizeVotesRemembered.{calls_cast_none}
 
 -- a view among those and one more
--- what is offered says nothing of votes to notarize
+-- an offer has no effect on votes to notarize
 other_offers : {K L D : Type 0} (base low : ℕ) (trace : List (TraceEvent D)) (o : OutstandingWork K D) (v : ℕ) (y : StateFacts K L D) → NotesStand base low trace o y → NotesStand base low trace (without_offer o v) y
 other_offers base low trace o v y notes = record {
   above = notes.above;
@@ -50,7 +50,7 @@ other_offers base low trace o v y notes = record {
 }
 
 module _ {K L D : Type 0} (same : D → D → Bool) (elect : Elect L) (base low : ℕ) (trace : List (TraceEvent D)) (o : OutstandingWork K D) (x : StateFacts K L D) (notes : NotesStand base low trace o x) where
-  -- the trace of the call, and an event that leaves the work on each view
+  -- the trace of the call, and an event that keeps the work on each view
   acted : (call : CallFacts D) (e : Event K D) → is_work call ≡ false → UnchangedProposalsFrom base e x (after_call same elect x o call) → ((u : ℕ) → covers_from u e ≡ true → (round : Round) × Contains (trace ++ trace_of_call {K = K} call (answer same elect x o call)) (Accepts (subject.Nullify round)) × (round.view ≡ u)) → NotesStand base low (trace ++ trace_of_call {K = K} call (answer same elect x o call)) o (after_call same elect x o call)
   acted call e plain left accepted =
       let more = trace_of_call {K = K} call (answer same elect x o call) in
@@ -62,7 +62,7 @@ module _ {K L D : Type 0} (same : D → D → Bool) (elect : Elect L) (base low 
       let parts = and_parts (nat_le 1 round.view) (nat_le (min_active x) round.view) admitted in
       (grind (arith, nat_tests, parts.0), (let over : min_active x ≤ round.view = grind (arith, nat_tests, parts.1) in omega (arith, over, notes.active)))
 
-  -- a prune: what is left begins with the lowest view that is kept
+  -- a prune: the rest begins with the lowest retained view
   pruned_notes : NotesStand (min_active x) low trace o (after_prune x)
   pruned_notes = record {
     above = λ v tracked. kept_above v (nat_le (min_active x) v) refl tracked;

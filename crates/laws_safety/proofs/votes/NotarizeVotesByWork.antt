@@ -163,7 +163,7 @@ module _ {K L D : Type 0} (same : D → D → Bool) (decides : (d e : D) → sam
   answered_notes : (v : ℕ) (e : Event K D) (y : StateFacts K L D) → ((u : ℕ) → covers_from u e ≡ false) → UnchangedProposalsFrom base e x y → NotesStand base low trace (without_verification o v) y
   answered_notes v e y none left = notes_calm base low trace e o (without_verification o v) x y left (λ u is. absurd (false≢true (sym (none u) ∙ is))) (λ w is. (among_others v w o.verifying is).0) (λ w c is. is) notes
 
-  -- a path of an event that leaves the work on each view
+  -- a path of an event that keeps the work on each view
   calm_by : (e : Event K D) → IsNoProposalWork e → (y : StateFacts K L D) → Path same elect x e base x y → UnchangedProposalsFrom base e x y
   calm_by e leaves y path = calm_along same elect x e base leaves x y path
 
@@ -346,13 +346,13 @@ module _ {K L D : Type 0} (same : D → D → Bool) (decides : (d e : D) → sam
 
 -- the scan for a proposal to verify
 
--- the proposal that an answer gives out
+-- the proposal that a result returns for verification
 abbrev given_in : {K D : Type 0} → Option (Verify D K) → Option (Proposal D)
 given_in (Some (verify.Ready context p)) = Some p
 given_in _ = None
 
 module _ {K D : Type 0} (v : ℕ) where
-  -- an answer that gives a proposal out is to a view that is ready, and gives out what is pending
+  -- a result that returns a proposal is for a view that is ready, and returns the pending one
   given_ready : (s : Standing D) (o : Option (Leader K × Proposal D)) (p : Proposal D) → given_in (option_and_then (answer_at v s) o) ≡ Some p → (is_given_out s ≡ true) × ((found : Leader K × Proposal D) × (o ≡ Some found) × (found.1 ≡ p))
   given_ready (Ready d) (Some found) p is = (refl, (found, refl, ap (λ o. unwrap_or o p) is))
   given_ready NothingToDo (Some found) p is = absurd (false≢true (ap is_some is))
@@ -360,7 +360,7 @@ module _ {K D : Type 0} (v : ℕ) where
   given_ready (Lacks w kind) (Some found) p is = absurd (false≢true (ap is_some is))
   given_ready s None p is = absurd (false≢true (ap is_some is))
 
-  -- a round that is given out keeps what is held, and any other what its proposal's work rests on
+  -- a round whose proposal is returned keeps it, and any other what its proposal's work depends on
   left_calm : (r : RoundFacts K D) (now : ℕ) (s : Standing D) → is_given_out s ≡ false → UnchangedProposal v r (round_left r now s)
   left_calm r now NothingToDo none = calm v r
   left_calm r now Invalid none = calm_alike v r _ refl refl refl refl refl
@@ -378,7 +378,7 @@ module _ {K L D : Type 0} (same : D → D → Bool) (elect : Elect L) (x : State
       by_admitted true None is = inl refl
       by_admitted true (Some found) is = inr (found, is)
 
-  -- a view is answered where its standing is one that is
+  -- a view has a result exactly if its standing has one
   answered_there : (e : ℕ × RoundFacts K D) → is_answered (standing same elect x e) ≡ is_some (answer_in same elect x e)
   answered_there e = by_standing (standing same elect x e) (pending_proposal e.1) (standing_pending e)
     where
@@ -392,14 +392,14 @@ module _ {K L D : Type 0} (same : D → D → Bool) (elect : Elect L) (x : State
       by_standing s None (inl passed) = ap is_answered passed
       by_standing s None (inr found) = absurd (false≢true (ap is_some found.1))
 
--- a view whose proposal is given out by a scan
+-- a view whose proposal a scan returns for verification
 record ScanGivesOut {K L D : Type 0} (same : D → D → Bool) (elect : Elect L) (x : StateFacts K L D) (v : ℕ) : Type 0 where
   pub ahead : x.current ≤ v
   pub scanned : was_scanned same elect x v ≡ true
   pub ready : is_given_out (standing same elect x (v, round_of x v)) ≡ true
 
 module _ {K L D : Type 0} (same : D → D → Bool) (elect : Elect L) (base low : ℕ) (trace : List (TraceEvent D)) (o : OutstandingWork K D) (x : StateFacts K L D) (ordered : InOrder x) (notes : NotesStand base low trace o x) where
-  -- what is now being verified was so before, or is given out
+  -- what is now being verified was so before, or is returned for verification
   now_given : (answer : Option (Verify D K)) → slice_get (filter_map (answer_in same elect x) (views_ahead x)) 0 ≡ answer → (w : ℕ) → is_verifying (with_verification o (option_map_or (λ found. found) answer verify.Wait)) w ≡ true → ScanGivesOut same elect x w ⊎ (is_verifying o w ≡ true)
   now_given (Some (verify.Ready context p)) first w is = elim (now_among p.round.view w o.verifying is) [ inr before ↦ inr before | inl at ↦ inl (subst (ScanGivesOut same elect x) (here ∙ sym at) given) ]
     where

@@ -16,15 +16,15 @@ use Rattle.laws_safety.proofs.votes.OutstandingWork.{ArePlaced, NoMoreContexts, 
 use Rattle.laws_safety.proofs.votes.UnchangedProposals.{Above, UnchangedProposalsFrom}
 use Rattle.laws_safety.proofs.votes.Proposals.{Tidy, contrary, tidy_calm}
 
--- views below `base` were pruned; work on views below `low` ended with the lives before
+-- views below `base` were pruned; work on views below `low` ended with the earlier lifetimes
 pub record NotesStand {K L D : Type 0} (base low : ℕ) (trace : List (TraceEvent D)) (o : OutstandingWork K D) (x : StateFacts K L D) : Type 0 where
   pub above : Above base x
   pub active : base ≤ min_active x
   pub reached : low ≤ x.current
   pub tidy : (v : ℕ) → base ≤ v → Tidy (is_verifying o v) (is_some (context_at o v)) (round_of x v)
-  -- what is held at a view is of it
+  -- the proposal held at a view is of it
   pub placed : (v : ℕ) (p : Proposal D) → (round_of x v).slot.held ≡ Some p → p.round.view ≡ v
-  -- a view whose proposal is verified and not voted for is of this life's work, and so is what is open
+  -- a view whose proposal is verified and not voted for is of this lifetime's work, and so are the open requests
   pub worked : (v : ℕ) → (round_of x v).slot.verified ≡ true → (round_of x v).notarize_decided ≡ false → low ≤ v
   pub verifying_low : (v : ℕ) → is_verifying o v ≡ true → low ≤ v
   pub context_low : (v : ℕ) → is_some (context_at o v) ≡ true → low ≤ v
@@ -34,7 +34,7 @@ pub record NotesStand {K L D : Type 0} (base low : ℕ) (trace : List (TraceEven
   -- each nullified view's nullification was accepted
   pub covered : (u : ℕ) → Contains x.nullified u → (round : Round) × Contains trace (Accepts (subject.Nullify round)) × (round.view ≡ u)
 
--- what a record holds of the votes to notarize; it may lack those of views below `kept`
+-- what a record has of the votes to notarize; it may lack those of views below `kept`
 pub record RemembersNotes {D : Type 0} (trace : List (TraceEvent D)) (kept : ℕ) (entries : List (ArtifactFacts D)) : Type 0 where
   pub cast : (p : Proposal D) (m : ℕ) → Contains entries (NotarizeVote p m) → HasSigned trace (subject.Notarize p)
   pub noted : (p : Proposal D) → HasSigned trace (subject.Notarize p) → ((m : ℕ) × Contains entries (NotarizeVote p m)) ⊎ (p.round.view < kept)
@@ -60,7 +60,7 @@ module _ {K L D : Type 0} (base low : ℕ) (trace : List (TraceEvent D)) where
     covered = λ u h. (let c = notes.covered u h in (c.0, Contains-append_left trace more (Accepts (subject.Nullify c.0)) c.1, c.2));
   }
 
-  -- a change that leaves the work on each view, with nothing more open
+  -- a change that keeps the work on each view, with no more open requests
   pub notes_calm : (e : Event K D) (o o' : OutstandingWork K D) (x y : StateFacts K L D) → UnchangedProposalsFrom base e x y → ((u : ℕ) → covers_from u e ≡ true → (round : Round) × Contains trace (Accepts (subject.Nullify round)) × (round.view ≡ u)) → ((v : ℕ) → is_verifying o' v ≡ true → is_verifying o v ≡ true) → NoMoreContexts o o' → NotesStand base low trace o x → NotesStand base low trace o' y
   notes_calm e o o' x y left accepted verifying opened notes = record {
     above = left.above notes.above;

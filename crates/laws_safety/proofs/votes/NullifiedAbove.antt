@@ -37,7 +37,7 @@ module _ {K L D : Type 0} (x : StateFacts K L D) where
       let above = (and_parts (nat_le 1 round.view) (nat_le (min_active x) round.view) view).0 in
       grind (arith, nat_tests)
 
-  -- so does what an event nullifies
+  -- so does each view that an event nullifies
   covered_above : (e : Event K D) → IsEvent x e → (u : ℕ) → covers_from u e ≡ true → 1 ≤ u
   covered_above (event.AddNullification c now) allowed u is = subst (λ v. 1 ≤ v) (sym (eqb-true u c.round.view is)) (taken_above c.round allowed)
   covered_above (event.Replay (Accepted (Nullified c))) allowed u is = subst (λ v. 1 ≤ v) (sym (eqb-true u c.round.view is)) (taken_above c.round allowed.kept)

@@ -1,4 +1,4 @@
--- The views that were voted to nullify: what is noted stays noted, and bars a vote to finalize.
+-- The views that were voted to nullify: a noted view stays noted, and bars a vote to finalize.
 use Rattle.std.proofs.Common.{◌≡◌, refl, ap, sym, ◌∙◌, ℕ, ◌<◌, ◌≤◌, inl, inr, Bool, true, false, ◌&&◌, ◌||◌, cond, ltb, List, [], ◌∷◌, Contains, filter, arith}
 use Rattle.std.specs.List.{list_any}
 use Rattle.std.specs.Ordering.{nat_cmp, is_eq, match_ordering}

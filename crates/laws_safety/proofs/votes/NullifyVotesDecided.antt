@@ -1,5 +1,5 @@
 -- For `nullify_votes_are_decided`.
--- A state of a member with a key tells its vote to nullify a view exactly where the view's round has decided it.
+-- A state of a member with a key reports its vote to nullify a view exactly if the view's round has decided it.
 use Rattle.std.proofs.Common.{◌≡◌, refl, ap, sym, ◌∙◌, subst, ℕ, ◌⊎◌, inl, inr, Bool, true, false, ◌&&◌, ◌||◌, cond, eqb, nat_le, if◌then◌else◌, List, [], ◌∷◌, None, is_some, unwrap_or, arith}
 use Rattle.std.specs.List.{list_any}
 use Rattle.std.specs.Ordering.{nat_cmp}
@@ -47,12 +47,12 @@ and_false : (b : Bool) → false ≡ (b && false)
 and_false true = refl
 and_false false = refl
 
--- each vote is told where it is decided
+-- each vote is reported if it is decided
 pub record IsTold {K L D : Type 0} (x : StateFacts K L D) : Type 0 where
   pub me : (v : ℕ) → (round_of x v).me ≡ x.me
   pub told : (v : ℕ) → is_among v x.nullify_votes ≡ (is_some x.me && is_nullify (round_of x v).decision)
 
--- what an event leaves of a round: its member, and its vote to nullify unless the event decides it
+-- a round after an event: its member stays, and its vote to nullify unless the event decides it
 record LeavesVote {K D : Type 0} (e : Event K D) (v : ℕ) (r s : RoundFacts K D) : Type 0 where
   me : s.me ≡ r.me
   decided : (is_nullify s.decision ≡ is_nullify r.decision) ⊎ (is_some (nullify_by e) ≡ true)

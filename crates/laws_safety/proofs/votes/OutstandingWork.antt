@@ -1,4 +1,4 @@
--- What stays open of a member's requests and verifications.
+-- The requests and verifications of a member that stay open.
 use Rattle.std.proofs.Common.{◌≡◌, ◌≢◌, refl, ap, sym, ◌∙◌, ℕ, ◌⊎◌, inl, inr, Bool, true, false, ◌||◌, not, cond, eqb, List, [], ◌∷◌, Option, Some, None, is_some}
 use Rattle.std.specs.Prelude.{filter}
 use Rattle.std.specs.BTreeSet.{insert_key}
@@ -60,7 +60,7 @@ now_among v w views is = by_here (eqb w v) refl (sym (among_noted v w views) ∙
     by_here false other is = inr is
 
 module _ {A : Type 0} (test : A → Bool) where
-  -- what is kept is among all
+  -- an item that passes is among all
   pub any_of_kept : (keep : A → Bool) (items : List A) → list_any test (filter keep items) ≡ true → list_any test items ≡ true
   any_of_kept keep [] is = is
   any_of_kept keep (a ∷ items) is = by_keep (keep a) (any_of_kept keep items) is
@@ -85,7 +85,7 @@ some_still (Some a) q says is = ap is_some (says a refl)
 abbrev pub ArePlaced : {K D : Type 0} → OutstandingWork K D → Type 0
 ArePlaced {K} {D} o = (v : ℕ) (c : Context D K) → context_at o v ≡ Some c → c.round.view ≡ v
 
--- what is open of contexts was open
+-- an open context was open before
 abbrev pub NoMoreContexts : {K D : Type 0} → OutstandingWork K D → OutstandingWork K D → Type 0
 NoMoreContexts {K} {D} o o' = (v : ℕ) (c : Context D K) → context_at o' v ≡ Some c → context_at o v ≡ Some c
 
@@ -100,7 +100,7 @@ module _ {V : Type 0} (es : List (ℕ × V)) where
       ap (find nat_cmp w) (as_where (λ k. not (eqb k v)) es)
       ∙ find-where_key nat_cmp (λ k. not (eqb k v)) w (λ k tied. ap (λ u. not (eqb u v)) (sym (nat_cmp-IsAntisymmetric w k tied))) es
 
-  -- what is there behind a removal was there
+  -- an item found after a removal was there before
   pub got_others : (v w : ℕ) (a : V) → find nat_cmp w (filter (λ e. not (eqb e.0 v)) es) ≡ Some a → find nat_cmp w es ≡ Some a
   got_others v w a is = by_test (not (eqb w v)) (sym (left v w) ∙ is)
     where
@@ -108,7 +108,7 @@ module _ {V : Type 0} (es : List (ℕ × V)) where
       by_test true still = still
       by_test false still = absurd (false≢true (ap is_some still))
 
-  -- and behind an insertion, unless it is that
+  -- and after an insertion, unless it is that one
   pub got_now : (v : ℕ) (a : V) (w : ℕ) (b : V) → find nat_cmp w (put nat_cmp v a es) ≡ Some b → ((w ≡ v) × (a ≡ b)) ⊎ (find nat_cmp w es ≡ Some b)
   got_now v a w b is = by_test (eqb w v) refl (ap (λ t. cond t (Some a) (find nat_cmp w es)) (sym (is_eq-nat_cmp w v)) ∙ sym (find-put nat_cmp nat_cmp_total w v a es) ∙ is)
     where
@@ -117,11 +117,11 @@ module _ {V : Type 0} (es : List (ℕ × V)) where
       by_test false other still = inr still
 
 module _ {K D : Type 0} (o : OutstandingWork K D) where
-  -- one that is open behind a close was open
+  -- one that is open after a close was open before
   pub still_open : (v w : ℕ) → is_some (context_at (without_context o v) w) ≡ true → is_some (context_at o w) ≡ true
   still_open v w is = some_still (context_at (without_context o v) w) (context_at o w) (got_others o.contexts v w) is
 
-  -- and behind an opening, unless it is that one
+  -- and after an opening, unless it is that one
   pub now_open : (context : Context D K) (w : ℕ) → is_some (context_at (with_context o context) w) ≡ true → (w ≡ context.round.view) ⊎ (is_some (context_at o w) ≡ true)
   now_open context w is = by_found (context_at (with_context o context) w) refl is
     where

@@ -1,4 +1,4 @@
--- What a life keeps of one view's proposal, its verification and its binding.
+-- What a lifetime keeps of one view's proposal, its verification and its binding.
 use Rattle.std.proofs.Common.{◌≡◌, refl, ap, sym, ◌∙◌, ℕ, Bool, true, false, Option, Some, None, is_some}
 use Rattle.std.specs.Option.{option_map_or}
 use Rattle.std.proofs.lemmas.Bool.{false≢true}
@@ -63,7 +63,7 @@ module _ {K D : Type 0} (v : ℕ) (verifying opened verifying' opened' : Bool) (
     opened_led = led_still;
   }
 
-  -- what is being verified is answered, and only then verified, as it is bound
+  -- an open verification is answered, and only then verified, as it is bound
   pub answered : (s.slot.verified ≡ true → s.notarize_decided ≡ false → s.binding ≡ r.binding) → verifying ≡ true → verifying' ≡ false → Tidy verifying' opened' s
   answered b was now = record {
     bound = λ is clear un. (let f = tidy.verifying_bound was (g.clear clear) (undecided un) in (f.0, f.1, g.holding f.0 f.2 clear, b is un ∙ f.3));
@@ -75,7 +75,7 @@ module _ {K D : Type 0} (v : ℕ) (verifying opened verifying' opened' : Bool) (
     opened_led = led_still;
   }
 
-  -- the held proposal is given out to be verified
+  -- the held proposal is returned for verification
   pub returned_outputs : (p : Proposal D) (d : D) → (s.slot.verified ≡ true → r.slot.verified ≡ true) → s.binding ≡ Some (p, d) → r.slot.held ≡ Some p → r.slot.verify_requested ≡ false → s.slot.verify_requested ≡ true → leads_round r ≡ false → is_some r.leader ≡ true → Tidy verifying' opened' s
   returned_outputs p d m b holds unrequested requested other led = record {
     bound = λ is. absurd (opposite r.slot.verify_requested (tidy.verified_requested (m is)) unrequested);

@@ -25,7 +25,7 @@ module _ {K L D : Type 0} (x : StateFacts K L D) where
       let parts = and_parts (nat_le x.current e.0) (nat_le e.0 last) passes in
       (leb-true x.current e.0 parts.0, leb-true e.0 last parts.1)
 
-  -- what is requested on a parent is for the view
+  -- a request on a parent is for the view
   request_view : (same : D → D → Bool) (v : ℕ) (r : RoundFacts K D) (parent : ℕ × D) (request : ProposalRequest D K) → request_on same x v r parent ≡ Some request → (request_context request).round.view ≡ v
   request_view same v r parent request is = by_start (is_term_start x v && not (parent_certified same x parent)) is
     where
@@ -53,7 +53,7 @@ module _ {K L D : Type 0} (x : StateFacts K L D) where
       by_test true so is = ((and_parts (is_admitted x e.0) (should_propose e.1) so).1, on_parent (find_parent same elect x e.0) is)
       by_test false other is = absurd (false≢true (ap is_some is))
 
-  -- what is requested is ahead
+  -- a request is for a view ahead
   pub requested_ahead : (same : D → D → Bool) (elect : Elect L) (request : ProposalRequest D K) → propose_answer same elect x ≡ Some request
       → (request_context request).round.view ≤ next_term_start x.terms.term_length x.current
   unfolding propose_answer

@@ -1,4 +1,4 @@
--- Which views a scan for proposals to verify comes to, and what it leaves of each view's round.
+-- The views that a scan for proposals to verify visits, and each view's round after it.
 use Rattle.std.proofs.Common.{◌≡◌, refl, ap, sym, ◌∙◌, subst, ℕ, Bool, true, false, ◌||◌, ◌&&◌, eqb, if◌then◌else◌, nat_le, List, [], ◌∷◌, Contains, Option, Some, None, is_some, slice_get, unwrap_or, arith, inl, inr}
 use Rattle.std.specs.Prelude.{option_map}
 use Rattle.std.specs.List.{list_any, filter_map, cons_option}
@@ -50,7 +50,7 @@ any_there is (b ∷ items) a h so = elim (Contains-cases b items a h) [
     by_here true any = refl
     by_here false any = any
 
--- of what is made of a list's items, the first stands where the first that passes does
+-- of the values made from a list's items, the first is at the first item that passes
 pub first_through : {A B : Type 0} (make : A → Option B) (test : A → Bool) → ((a : A) → test a ≡ is_some (make a)) → (items : List A) (b : B) → slice_get (filter_map make items) 0 ≡ Some b → (a : A) × Contains (through test items) a × (make a ≡ Some b)
 first_through make test says [] b is = absurd (false≢true (ap is_some is))
 first_through {A} {B} make test says (a ∷ items) b is = by_made (make a) (test a) refl (says a) (first_through make test says items b) is

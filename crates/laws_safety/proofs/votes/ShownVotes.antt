@@ -1,4 +1,4 @@
--- What a state's facts show of the trace that led to it, and that it stays so while the trace grows.
+-- What a state's facts show of the trace that led to it, also while the trace grows.
 use Rattle.std.proofs.Common.{◌≡◌, refl, sym, subst, ℕ, ◌≤◌, ◌<◌, ◌⊎◌, inl, inr, true, List, [], ◌∷◌, ◌++◌, Contains, Some, arith}
 use Rattle.std.proofs.lemmas.Bool.{cases_eq}
 use Rattle.std.proofs.lemmas.List.Elements.{Contains-append_left, Contains-append_right}
@@ -21,7 +21,7 @@ pub record RoundShowsVotes {K D : Type 0} (trace : List (TraceEvent D)) (reached
   pub notarized : (c : ProposalFacts D) → r.notarization ≡ Some c → (c.proposal.round.view ≡ v) × Contains trace (Accepts (subject.Notarize c.proposal))
   -- it is of the held proposal, unless another was seen
   pub held : (c : ProposalFacts D) → r.notarization ≡ Some c → (r.slot.conflict ≡ true) ⊎ (r.slot.held ≡ Some c.proposal)
-  -- a true verdict enters a later view, and only a view behind the current one is decided to be finalized
+  -- a true verdict enters a later view, and only a view below the current one is decided to be finalized
   pub entered : is_certified r.certification ≡ true → v < reached
   pub left : is_finalize r.decision ≡ true → v < reached
   -- each vote of the view that was cast is decided, or a finalization is no lower
@@ -41,7 +41,7 @@ pub record ShowsVotes {K L D : Type 0} (term_length : ℕ) (trace : List (TraceE
 abbrev pub HasFinal : {D : Type 0} → List (TraceEvent D) → ℕ → Type 0
 HasFinal {D} trace v = (v ≡ 0) ⊎ ((final : Proposal D) × Contains trace (Accepts (subject.Finalize final)) × (final.round.view ≡ v))
 
--- what a state's facts keep in a life, with each call
+-- the invariant of a state's facts in a lifetime, with each call
 pub record ShowsVotesInLife {K L D : Type 0} (term_length : ℕ) (trace : List (TraceEvent D)) (x : StateFacts K L D) : Type 0 where
   pub stands : ShowsVotes term_length trace x.current x
   pub ahead : x.finalized < x.current

@@ -1,4 +1,4 @@
--- A state at its floor stands with no event but the floor's.
+-- A state at its floor shows its trace, with no event but the floor's.
 use Rattle.std.proofs.Common.{◌≡◌, refl, ℕ, inl, inr, Bool, true, List, Option, arith}
 use Rattle.std.proofs.lemmas.Bool.{false≢true}
 use Rattle.simplex_types.specs.Config.{FloorFacts, Genesis, Finalized}

@@ -1,4 +1,4 @@
--- Certificates and verdicts keep what stands of the votes.
+-- Certificates and verdicts keep what the facts show of the votes.
 use Rattle.std.proofs.Common.{◌≡◌, refl, ap, subst, ℕ, ◌+◌, ◌<◌, inl, inr, Bool, true, false, List, [], ◌∷◌, ◌++◌, Contains, Some, arith}
 use Rattle.simplex_types.specs.Certificates.{ProposalFacts, NullificationFacts}
 use Rattle.simplex_types.specs.declared.types.messages.Subject.TheVariants as subject

@@ -1,4 +1,4 @@
--- What stands of the votes stands after each event: by the changes of one round.
+-- What the facts show of the votes holds after each event: by the changes of one round.
 use Rattle.std.proofs.Common.{◌≡◌, ◌≢◌, refl, ap, sym, ◌∙◌, subst, ℕ, ◌+◌, ◌<◌, ◌≤◌, ◌⊎◌, inl, inr, Bool, true, false, nat_le, List, Contains, Some, None, unwrap_or, arith}
 use Rattle.std.proofs.lemmas.Bool.{cases_Bool, false≢true, leb-false}
 use Rattle.simplex_types.specs.Proposal.{same_proposal}
@@ -27,8 +27,8 @@ use Rattle.laws_safety.proofs.frames.Sound.{IsAhead, event_ahead}
 use Rattle.simplex_record.proofs.Steps as step
 use Rattle.simplex_record.proofs.Steps.{RoundStep, Step, Puts, Notes, Raises, Scans, Prunes, along, IsSilent, notarization_by, verdict_by, nullify_by, finalize_by}
 
--- what has to be known of an event: what it brings was accepted, a view that it judges to be true or decides to finalize is
--- passed, and a vote that it decides is allowed, or stands against no vote of the other kind
+-- what must be known of an event: what it brings was accepted, a view that it judges to be true or decides to finalize is passed, and a
+-- vote that it decides is allowed, or meets no vote of the other kind
 pub record Suits {K L D : Type 0} (trace : List (TraceEvent D)) (reached : ℕ) (x : StateFacts K L D) (e : Event K D) : Type 0 where
   pub notarized : (c : ProposalFacts D) → notarization_by e ≡ Some c → Contains trace (Accepts (subject.Notarize c.proposal))
   pub finalized : HasFinal trace (finalized_by_event e)
@@ -56,7 +56,7 @@ prune_finalizes_none : {K D : Type 0} (e : Event K D) → is_prune e ≡ true �
 prune_finalizes_none event.Prune is = refl
 prune_finalizes_none _ is = absurd (false≢true is)
 
--- a decision of another kind leaves a finalization
+-- a decision of another kind keeps a finalization
 passed_by : (a : Bool) (P : Type 0) → a ≡ false → (a ≡ true) ⊎ P → (b : Bool) → (b ≡ true) ⊎ P
 passed_by a P isnt (inl is) b = absurd (false≢true (sym isnt ∙ is))
 passed_by a P isnt (inr p) b = inr p
@@ -151,6 +151,6 @@ module _ {K L D : Type 0} (same : D → D → Bool) (decides : (d e : D) → sam
     final = event_final same decides elect term_length trace (after_event same elect x e).current x e suits final;
   }
 
-  -- an event of a life
+  -- an event of a lifetime
   pub stays_on : ShowsVotesInLife term_length trace x → ShowsVotesInLife term_length trace (after_event same elect x e)
   stays_on stays = event_stays (inl stays.ahead) (stands_later term_length trace x.current (after_event same elect x e).current x (event_goes same elect x e).current stays.stands) stays.final

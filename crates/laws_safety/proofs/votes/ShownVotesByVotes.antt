@@ -1,4 +1,4 @@
--- The votes that a member answers are allowed, and what stands of the votes is kept.
+-- The votes that a member returns are allowed, and keep what the facts show of the votes.
 use Rattle.std.proofs.Common.{◌≡◌, refl, ap, sym, ◌∙◌, subst, ℕ, ◌<◌, ◌≤◌, ◌⊎◌, inl, inr, true, false, not, List, [], ◌∷◌, ◌++◌, Contains, Option, Some, None, is_some, arith}
 use Rattle.std.specs.Ordering.{nat_cmp}
 use Rattle.std.specs.BTreeSet.{insert_key}

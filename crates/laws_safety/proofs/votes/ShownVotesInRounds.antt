@@ -1,4 +1,4 @@
--- A slot goes on to hold what it holds, unless another proposal is seen; and a round that knows nothing stands.
+-- A slot continues to hold its proposal, unless another one is seen; and an empty round shows nothing.
 use Rattle.std.proofs.Common.{◌≡◌, refl, ap, sym, ◌∙◌, subst, ℕ, ◌≤◌, ◌⊎◌, inl, inr, Bool, true, false, List, Option, Some, None}
 use Rattle.std.specs.Option.{option_map_or}
 use Rattle.std.proofs.lemmas.Bool.{false≢true, cases_Bool}
@@ -27,7 +27,7 @@ module _ {D : Type 0} (same : D → D → Bool) (decides : (d e : D) → same d 
         | inr other ↦ rw (is, other) (inl refl)
       ]
 
-  -- what is held stays held, unless another is seen
+  -- the held proposal stays held, unless another is seen
   pub holds_old : (s : SlotFacts D) (p q : Proposal D) → HoldsUncontested s q → HoldsUncontested (after_certificate (same_proposal same) s p) q
   holds_old s p q holds = by_held s.held refl
     where
@@ -56,7 +56,7 @@ module _ {D : Type 0} (same : D → D → Bool) (decides : (d e : D) → same d 
       ]
 
 module _ {D : Type 0} (same : D → D → Bool) where
-  -- nor does one that is heard of
+  -- nor does one that is received
   pub holds_voted : (s : SlotFacts D) (p q : Proposal D) → HoldsUncontested s q → HoldsUncontested (after_vote (same_proposal same) s p) q
   holds_voted s p q holds = by_held s.held refl
     where

@@ -28,7 +28,7 @@ use Rattle.laws_safety.proofs.votes.UnchangedRounds.{UnchangedProposal, calm, ca
 abbrev pub Above : {K L D : Type 0} → ℕ → StateFacts K L D → Type 0
 Above base x = (v : ℕ) → is_tracked x v ≡ true → base ≤ v
 
--- each round is unchanged so, no view below `base` comes to be tracked, and what is newly nullified the event covers
+-- each round is unchanged in this sense, no view below `base` becomes tracked, and the event covers what is newly nullified
 pub record UnchangedProposalsFrom {K L D : Type 0} (base : ℕ) (e : Event K D) (x y : StateFacts K L D) : Type 0 where
   pub goes : UnchangedOrHigher x y
   pub above : Above base x → Above base y
@@ -40,7 +40,7 @@ is_other (Proposed _ _ _) = true
 is_other TryVerify = true
 is_other _ = false
 
--- the event is no work on a proposal, and drops nothing; a proposal that it tells of is of its view
+-- the event is no work on a proposal, and drops nothing; a proposal that it names is of its view
 pub record IsNoProposalWork {K D : Type 0} (e : Event K D) : Type 0 where
   pub note : note_by e ≡ None
   pub answer : is_answer e ≡ false
@@ -77,7 +77,7 @@ above_put base x v r over above w tracked = elim (cases_eq w v) [
   | inr apart ↦ above w (sym (ap is_some (found_apart x w v r apart)) ∙ tracked)
 ]
 
--- what is newly in a set of views
+-- the views newly in a set
 pub among_more : (k u : ℕ) (ks : List ℕ) → Contains (insert_key nat_cmp ks k) u → (k ≡ u) ⊎ Contains ks u
 among_more k u [] h = elim (Contains-cases k [] u h) [ inl at ↦ inl at | inr none ↦ absurd (omega (arith, none.1)) ]
 among_more k u (x ∷ xs) h = by_order (nat_cmp k x) (among_more k u xs) h

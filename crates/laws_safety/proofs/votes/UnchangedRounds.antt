@@ -12,8 +12,8 @@ use Rattle.simplex_round.specs.Round.{RoundFacts, signs_as}
 abbrev pub leads_round : {K D : Type 0} → RoundFacts K D → Bool
 leads_round r = option_map_or (λ l. signs_as r.me l.idx) r.leader false
 
--- what each change of a round leaves: what is held, unless another proposal is seen, the vote to notarize, that
--- verification was asked for, and the leader; what is newly held is of the round's view
+-- what each change of a round keeps: the held proposal, unless another one is seen, the vote to notarize, the request for verification, and
+-- the leader; a newly held one is of the round's view
 pub record Grown {K D : Type 0} (v : ℕ) (r s : RoundFacts K D) : Type 0 where
   pub me : s.me ≡ r.me
   pub holding : (p : Proposal D) → r.slot.held ≡ Some p → s.slot.conflict ≡ false → s.slot.held ≡ Some p

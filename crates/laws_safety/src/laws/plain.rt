@@ -14,18 +14,20 @@ use simplex_types::types::Elector;
 use simplex_types::types::plain::{PlainDigest as Payload, PlainElector as InTurn, PlainScheme};
 
 /// A network of four members of plain parts, the digest, the keys and the elector that the program runs, of which one is faulty.
-/// The first view is finalized. It does nothing: its contract is the law.
+/// The first view is finalized. The function does nothing: its contract is the law.
 ///
-/// - `network`: with an elector of four members it keeps the premises of `agreement`, and the finalization has votes enough.
+/// - `network`: with an elector of four members it keeps the premises of `agreement`, and the finalization has enough votes.
 /// - `leads`, `follows`: what each honest member accepts and signs, whatever the payload.
 pub fn plain_members_agree()
     ensures network { (elector : PlainElector) × (payload : PlainDigest) × (members_of elector ≡ 4)
-        × IsNetworkOf ⟦<Payload as PartialEq>⟧.eq ⟦<InTurn as Elector<PlainScheme>>⟧.elect 5 (plain_four elector payload)
+        × IsNetworkOf ⟦<Payload as PartialEq>⟧.eq ⟦<InTurn as Elector<PlainScheme>>⟧.elect 5
+        (plain_four elector payload)
         × Backed (plain_four elector payload) (Finalize (plain_first payload)) }
     ensures leads { (elector : PlainElector) (payload : PlainDigest) → trace_of (plain_proposer elector payload) ≡
         Signs 0 (Notarize (plain_first payload)) ∷ Accepts (Notarize (plain_first payload))
         ∷ Signs 0 (Finalize (plain_first payload)) ∷ Accepts (Finalize (plain_first payload)) ∷ [] }
-    ensures follows { (elector : PlainElector) (payload : PlainDigest) (me : ℕ) → trace_of (plain_follower elector payload me) ≡
+    ensures follows { (elector : PlainElector) (payload : PlainDigest) (me : ℕ)
+        → trace_of (plain_follower elector payload me) ≡
         Signs me (Notarize (plain_first payload)) ∷ Accepts (Notarize (plain_first payload))
         ∷ Signs me (Finalize (plain_first payload)) ∷ Accepts (Finalize (plain_first payload)) ∷ [] }
 {}

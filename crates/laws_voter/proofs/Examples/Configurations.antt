@@ -1,4 +1,4 @@
--- Settings of an engine of four participants, and the first rule that each breaks. A certificate is whether it is good.
+-- Settings of a member of four participants, and the first rule that each breaks. A certificate is whether it is valid.
 use Rattle.std.specs.Prelude.{◌≡◌, ℕ, Bool, true, false, Option, Some, None}
 use Rattle.std.proofs.Common.{refl}
 use Rattle.simplex_types.specs.Config.{first_broken_rule, skip_budget}
@@ -44,7 +44,7 @@ nobody = refl
 no_leader_timeout : broken (record usual { leader_timeout = 0 }) ≡ Some error.LeaderTimeoutZero
 no_leader_timeout = refl
 
--- the certification timeout stands above the leader's
+-- the certification timeout is above the leader's
 as_long_as_the_leader : broken (record usual { leader_timeout = 2000 }) ≡ Some error.CertificationNotAboveLeader
 as_long_as_the_leader = refl
 

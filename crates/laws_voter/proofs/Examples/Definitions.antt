@@ -1,4 +1,4 @@
--- What single definitions say of facts that calls alone don't show.
+-- Single definitions, applied to facts that calls alone don't show.
 use Rattle.std.specs.Prelude.{◌≡◌, ℕ, true, false, [], ◌∷◌, Some, None, map, fold}
 use Rattle.std.proofs.Common.{refl}
 use Rattle.simplex_round.specs.declared.round.Certification.TheVariants.{Outstanding, Aborted}
@@ -69,7 +69,7 @@ floor_above_genesis = refl
 abbrev handed_off : State
 handed_off = fold after_call (voter 1 1 0) (SetProposal 1 0 7 ∷ TryVerify ∷ Verified 1 ∷ Notarize 1 ∷ TryPropose ∷ Proposed (context 2 1 1 7) 8 3 ∷ [])
 
--- what it was bound to holds for the leader
+-- its binding holds for the leader
 leaders_binding : verification_matches same in_turn handed_off 2 ≡ true
 unfolding replies_of
 leaders_binding = refl
@@ -79,7 +79,7 @@ others_binding : verification_matches same in_turn (with_round handed_off 2 (rec
 unfolding replies_of
 others_binding = refl
 
--- a view's first entry is kept
+-- a view's first entry stays
 first_entry : (round_of (with_view_entered (with_round (voter 0 1 0) 2 (record (round_of (voter 0 1 0) 2) { entered_at = Some 3 })) 2 9) 2).entered_at ≡ Some 3
 first_entry = refl
 
@@ -98,7 +98,7 @@ decided_without_key : (round_of (fold after_call (keyless 1 0) (AddNotarization 
 unfolding replies_of
 decided_without_key = refl
 
--- a finalization ends the certification that is under way, and leaves one above it alone
+-- a finalization ends the certification that is under way, and keeps one above it
 aborted : map (λ v. (round_of (after_call (after_call (after_call (after_call (after_call (voter 0 1 0) (AddNotarization 1 0 7)) (AddNotarization 3 2 4)) (SetCertifyHandle 1 5)) (SetCertifyHandle 3 6)) (AddFinalization 2 1 9 7)) v).certification) (1 ∷ 3 ∷ []) ≡ Aborted ∷ Outstanding 6 ∷ []
 unfolding replies_of
 aborted = refl

@@ -9,7 +9,7 @@ use Rattle.laws_voter.proofs.Examples.Scripts.{replies_of, voter, proposal, cont
 use Rattle.laws_voter.proofs.Examples.Scripts.Call.{AddNotarization, AddNullification, AddFinalization, SetProposal, TryPropose, Proposed, Supersede, Abandonment, Release, TryVerify, Verified, Rejected, Certified, Notarize, Nullify, NextTimeout, Prune, Replayed, Elapsed}
 use Rattle.laws_voter.proofs.Examples.Scripts.Reply.{Done, Flag, Added, Asked, Abandoned, Work, Judged, Vote, NullifyVote, Timeout, Views, Since}
 
--- a proposal is verified once, voted for once, and given up for the term after a nullification
+-- a proposal is verified once, voted for once, and abandoned for the term after a nullification
 verified_and_voted :
     replies_of
     (voter 1 1 0)
@@ -140,7 +140,7 @@ rejected :
 unfolding replies_of
 rejected = refl
 
--- a proposal is not marked once the view is given up
+-- a proposal is not marked once this member voted to nullify the view
 verified_after_nullify :
     replies_of
     (voter 1 1 0)
@@ -222,7 +222,7 @@ next_gap :
 unfolding replies_of
 next_gap = refl
 
--- the scan goes on past a proposal that is invalid
+-- the scan continues past a proposal that is invalid
 past_invalid :
     replies_of
     (voter 3 1 0)
@@ -284,7 +284,7 @@ rejected_replaced :
 unfolding replies_of
 rejected_replaced = refl
 
--- a proposal of a view that is given up is not held
+-- a proposal of a view that this member voted to nullify is not held
 given_up_slot :
     replies_of
     (voter 1 1 0)
@@ -296,7 +296,7 @@ given_up_slot :
 unfolding replies_of
 given_up_slot = refl
 
--- a captured parent stands while it is allowed, though another is preferred
+-- a captured parent may be built on while it is allowed, though another is preferred
 lower_parent_stands :
     replies_of
     (voter 1 1 0)

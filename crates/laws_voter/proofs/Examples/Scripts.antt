@@ -1,4 +1,4 @@
--- Scripts of calls: what each is answered, by the definitions, in a network of four members.
+-- Scripts of calls: the reply to each, by the definitions, in a network of four members.
 use Rattle.std.specs.Prelude.{ℕ, Bool, true, false, ◌%◌, List, [], ◌∷◌, Option, Some, None, nat_eq, option_map, if◌then◌else◌, fold}
 use Rattle.std.specs.Option.{option_map_or}
 use Rattle.simplex_types.specs.Terms.{term_index}
@@ -38,7 +38,7 @@ State = StateFacts ℕ ℕ ℕ
 abbrev pub Entry : Type 0
 Entry = Artifact ℕ ℕ ℕ ℕ ℕ
 
--- the members lead the terms in turn
+-- the members lead the terms round-robin
 abbrev pub in_turn : Elect ℕ
 in_turn length round seed = term_index length round.view % 4
 
@@ -116,14 +116,14 @@ nullification v = record { round = record { epoch = 1; view = v }; bytes = [] }
 abbrev pub added : Bool × Option ℕ → Reply
 added answer = Added answer.0 answer.1
 
--- what is answered where the call is allowed and not refused
+-- the reply if the call is allowed and not refused
 abbrev pub guarded : Bool → Option Fault → Reply → Reply
 guarded allowed refusal reply = if allowed then option_map_or Refused refusal reply else NotAllowed
 
 abbrev pub same : ℕ → ℕ → Bool
 same = nat_eq
 
--- what a call is answered
+-- the reply to a call
 abbrev pub reply_to : State → Call → Reply
 reply_to x (AddNotarization v p d) =
     let c = certificate v p d in
@@ -189,7 +189,7 @@ fresh x = new_facts x.settings x.me x.members x.elector x.terms x.elects_early
 abbrev pub recovered : State → ℕ → List Entry → State
 recovered x now entries = fold (entry_taken now) (accept.after_set_genesis in_turn (fresh x) 0 now) entries
 
--- what a call leaves where it is allowed and not refused
+-- the state after a call that is allowed and not refused
 abbrev pub after_call : State → Call → State
 after_call x (AddNotarization v p d) = accept.after_add_notarization same in_turn x (certificate v p d)
 after_call x (AddNullification v now) = accept.after_add_nullification in_turn x (nullification v) now
@@ -231,7 +231,7 @@ was_taken (Refused _) = false
 was_taken NotAllowed = false
 was_taken _ = true
 
--- what a list of calls is answered
+-- the replies to a list of calls
 unfoldable pub replies_of : State → List Call → List Reply
 unfolding first_unnullified_view is_admitted in_issuance_window explicit_ancestry_payload is_handoff_parent is_voted_ancestor can_chain_on optimistic_ancestry_payload has_valid_parent_span ancestry_payload_for_child parent_payload_for find_parent captured_parent_valid verification_matches may_nullify has_conflicting_nullify required_certification_parent may_finalize may_notarize propose_answer proposed_answer standing
 replies_of x [] = []

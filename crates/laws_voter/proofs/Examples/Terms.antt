@@ -81,7 +81,7 @@ too_large :
 unfolding replies_of
 too_large = refl
 
--- a finalization far ahead leaves the views below the floor to be pruned, and no certificate below is taken
+-- after a finalization far ahead the views below the floor may be pruned, and no certificate below is accepted
 far_ahead :
     replies_of
     (voter 0 1 0)
@@ -119,7 +119,7 @@ votes_outlive_pruning :
 unfolding replies_of
 votes_outlive_pruning = refl
 
--- a restart on a pruned record knows only what stayed in it
+-- a restart on a pruned record knows only what remained in it
 pruned_record :
     replies_of
     (voter 0 1 0)
@@ -162,7 +162,7 @@ gate_above_the_vote :
 unfolding replies_of
 gate_above_the_vote = refl
 
--- a certificate handed in again adds nothing, and the first stays
+-- a certificate passed in again adds nothing, and the first stays
 handed_in_again :
     replies_of
     (voter 1 1 0)
@@ -213,7 +213,7 @@ highest_of_the_term :
 unfolding replies_of
 highest_of_the_term = refl
 
--- above a finalized floor its certificate counts as handed out
+-- above a finalized floor its certificate counts as already broadcast
 floor :
     replies_of
     (above 0 20 19 9)
@@ -367,7 +367,7 @@ opened_by_finalization :
 unfolding replies_of
 opened_by_finalization = refl
 
--- each certificate is handed out once
+-- each certificate is returned for broadcast once
 handed_out_once :
     replies_of
     (voter 0 1 0)

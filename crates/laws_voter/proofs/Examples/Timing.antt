@@ -43,7 +43,7 @@ candidates :
 unfolding replies_of
 candidates = refl
 
--- each true verdict names the next view again, and a token keeps it from a second offer
+-- each true verdict makes the next view a candidate again, and a token prevents a second offer
 named_again :
     replies_of
     (voter 0 5 0)
@@ -113,7 +113,7 @@ latch_wins :
 unfolding replies_of
 latch_wins = refl
 
--- without a key no vote is answered, and nullify is decided all the same
+-- without a key no vote is returned, and nullify is decided all the same
 decided_without_key :
     replies_of
     (keyless 1 0)
@@ -125,7 +125,7 @@ decided_without_key :
 unfolding replies_of
 decided_without_key = refl
 
--- a refused call leaves no moment
+-- a refused call records no moment
 no_moment_of_a_fault :
     replies_of
     (voter 1 1 0)
@@ -137,7 +137,7 @@ no_moment_of_a_fault :
 unfolding replies_of
 no_moment_of_a_fault = refl
 
--- a verdict that says nothing leaves its moment
+-- a verdict without effect records its moment
 moment_of_an_untracked_verdict :
     replies_of
     (voter 1 1 0)
@@ -149,7 +149,7 @@ moment_of_an_untracked_verdict :
 unfolding replies_of
 moment_of_an_untracked_verdict = refl
 
--- a call that is not allowed leaves no moment
+-- a call that is not allowed records no moment
 no_moment_unless_allowed :
     replies_of
     (voter 1 1 0)

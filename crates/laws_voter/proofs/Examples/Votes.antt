@@ -84,7 +84,7 @@ nullify_of_a_past_view :
 unfolding replies_of
 nullify_of_a_past_view = refl
 
--- after a restart that lost the certificates the vote still stands, and is a repeat
+-- after a restart that lost the certificates the vote is still decided, and is a repeat
 lost_certificates :
     replies_of
     (voter 0 1 0)
@@ -149,7 +149,7 @@ verdict_far_ahead :
 unfolding replies_of
 verdict_far_ahead = refl
 
--- a finalize vote without a key is decided and not answered
+-- a finalize vote without a key is decided and not returned
 certified_without_key :
     replies_of
     (keyless 1 0)

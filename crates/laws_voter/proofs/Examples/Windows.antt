@@ -56,7 +56,7 @@ long_window :
 unfolding replies_of
 long_window = refl
 
--- a handoff is prepared on an uncertified parent, and given up where the term before is nullified
+-- a handoff is prepared on an uncertified parent, and abandoned if the term before is nullified
 handoff_given_up :
     replies_of
     (voter 1 1 0)
@@ -88,7 +88,7 @@ handoff_proposed :
 unfolding replies_of
 handoff_proposed = refl
 
--- a nullification in the term below leaves no handoff
+-- with a nullification in the term below there is no handoff
 no_handoff_when_nullified :
     replies_of
     (voter 1 2 1)
@@ -311,7 +311,7 @@ vote_under_finalized :
 unfolding replies_of
 vote_under_finalized = refl
 
--- a handoff is not prepared while this member gives up the current view
+-- a handoff is not prepared after this member's vote to nullify the current view
 handoff_waits :
     replies_of
     (voter 1 1 0)
@@ -326,7 +326,7 @@ handoff_waits :
 unfolding replies_of
 handoff_waits = refl
 
--- once its parent is certified a handoff goes on
+-- once its parent is certified a handoff continues
 handoff_certified :
     replies_of
     (voter 1 1 0)
@@ -425,7 +425,7 @@ replayed_handoff :
 unfolding replies_of
 replayed_handoff = refl
 
--- a replayed vote is bound to what its parent holds
+-- a replayed vote is bound to the payload that its parent holds
 replayed_binding :
     replies_of
     (voter 1 5 2)
@@ -490,7 +490,7 @@ replayed_chain :
 unfolding replies_of
 replayed_chain = refl
 
--- so a leader goes on building on them
+-- so a leader continues to build on them
 replayed_own_chain :
     replies_of
     (voter 0 5 2)
@@ -503,7 +503,7 @@ replayed_own_chain :
 unfolding replies_of
 replayed_own_chain = refl
 
--- a handoff is given up once this member votes to nullify the current view
+-- a handoff is abandoned once this member votes to nullify the current view
 given_up_by_a_vote :
     replies_of
     (voter 1 1 0)
@@ -547,7 +547,7 @@ handoff_asked_again :
 unfolding replies_of
 handoff_asked_again = refl
 
--- an answer leaves a binding that matches only since this member leads, and the vote is cast
+-- an answer keeps a binding that matches only since this member leads, and the vote is cast
 leaders_binding_goes_on :
     replies_of
     (voter 1 1 0)

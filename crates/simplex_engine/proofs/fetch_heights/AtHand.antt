@@ -27,7 +27,7 @@ use Rattle.simplex_engine.specs.Provenance.{pending_causes, HasNoMissingCertific
 use Rattle.simplex_engine.specs.FetchHeights.{resolves_above}
 use Rattle.simplex_engine.proofs.Tests.{not_or, or_none}
 
--- a certificate of a view above this one is said to be lacking
+-- a certificate of a view above this one is named as missing
 abbrev pub lacks_above : {S D K G C : Type 0} → ℕ → Cause S D K G C → Bool
 lacks_above top (MissingCertificate kind view) = nat_lt top view
 lacks_above top _ = false
@@ -106,7 +106,7 @@ module _ (S D K G C : Type 0) (top : ℕ) where
   works_low [] = refl
   works_low (it ∷ rest) = none_both above (of_work it) (of_works rest) (work_low it) (works_low rest)
 
-  -- a step comes of what is so lacking just where it is to ask for that
+  -- a step is caused by such a missing certificate exactly where it is to ask for that
   step_height : (it : Step S D K G C) → list_any above (of_step it) ≡ resolves_above top it
   step_height (step.Ask asked) = task_low asked
   step_height (step.Offer from proposal) = refl
@@ -138,7 +138,7 @@ module _ (S D K G C : Type 0) (top : ℕ) where
       let both = not_or (nat_lt top it.view) (list_any (λ (it : Fetch). nat_lt top it.view) rest) low in
       none_both above (of_fetch wanted it) (of_fetches wanted rest) (fetch_low (wants wanted it.kind it.view) it both.0) (fetches_low wanted rest both.1)
 
-  -- a fetch that comes of nothing that is so lacking is not above, where none is that the resolver wants
+  -- a fetch without such a missing certificate as its cause is not above, where none is that the resolver wants
   fetch_asked : (wanted : List ℕ) → list_any (nat_lt top) wanted ≡ false → (it : Fetch) (t : Bool) → wants wanted it.kind it.view ≡ t → list_any above (cond t [] (MissingCertificate it.kind it.view ∷ [])) ≡ false
       → nat_lt top it.view ≡ false
   fetch_asked wanted open_low it true is low = low_among top it.view wanted (and_parts (same_kind it.kind fetch.Nullification) (has wanted it.view) is).1 open_low
@@ -187,7 +187,7 @@ hand_asks {S = S} {D = D} {K = K} {G = G} {C = C} top out engine open_low low =
     plan_asks S D K G C top engine.plan open_low
     (none_each (lacks_above top) (of_works (work_in engine.core.outbox.queue.items)) (planned_causes engine.plan) (none_each (lacks_above top) (of_works out) (pending_causes engine) low).1).1
 
--- of what came in none is lacking
+-- of what came in none is missing
 pub none_lacks : {S D K G C : Type 0} (top : ℕ) (came : List (Cause S D K G C)) → HasNoMissingCertificate came → list_any (lacks_above top) came ≡ false
 none_lacks top [] none = refl
 none_lacks top (WorkItem it ∷ rest) none = none_lacks top rest none

@@ -1,4 +1,4 @@
--- A call of a living member tells of no view above all that the member has heard of by then, and that does not fall.
+-- A call of a living member reports no view above all that the member has heard of by then, and that does not fall.
 use Rattle.std.proofs.Common.{◌≡◌, refl, ap, sym, ◌∙◌, subst, ℕ, ◌-◌, ◌<◌, ◌≤◌, inl, inr, Bool, true, false, [], ◌∷◌, ◌++◌, Contains, map, nat_le, Option, Some, None, arith, unwrap_or, ◌⊎◌}
 use Rattle.std.proofs.lemmas.Bool.{leb-false}
 use Rattle.std.specs.List.{list_any}
@@ -32,7 +32,7 @@ use Rattle.simplex_engine.proofs.fetch_heights.Replies.{highest_passed}
 use Rattle.simplex_engine.proofs.fetch_heights.Lacks.{lacks_ahead, fetches_within}
 
 module _ {K L D : Type 0} where
-  -- what runs keep of a living member: each notarization stands in the record, at its own view, and each view that waits is notarized
+  -- what runs preserve of a living member: each notarization is in the record, at its own view, and each view that waits is notarized
   pub record IsKnown (m : MemberFacts K L D) (x : StateFacts K L D) : Type 0 where
     pub some : 0 < x.terms.term_length
     pub recorded : (v : ℕ) → is_some (round_of x v).notarization ≡ true → (c : ProposalFacts D) × Contains m.entries (Accepted (Notarized c)) × (c.proposal.round.view ≡ v)
@@ -112,7 +112,7 @@ module _ {K L D : Type 0} (same : D → D → Bool) (elect : Elect L) (m : Membe
           omega (arith, below, grows)
   told_below call = omega arith
 
-  -- the member has failed, or it lives, and what it was told is of no view above those that it has heard of
+  -- the member has failed, or it has not, and what it received is of no view above those that it has heard of
   pub record HasHeard (call : CallFacts D) (told : ReplyFacts K D) (left : MemberFacts K L D) : Type 0 where
     pub state : StateFacts K L D
     pub alive : left.life ≡ Some state

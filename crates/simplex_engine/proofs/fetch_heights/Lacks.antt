@@ -1,4 +1,4 @@
--- What a member says is lacking is of no view above those that it may work in, or that wait for certification.
+-- What a member names as missing is of no view above those that it may work in, or that wait for certification.
 use Rattle.std.proofs.Common.{◌≡◌, refl, ap, subst, ℕ, ◌-◌, ◌<◌, ◌≤◌, Bool, true, false, List, [], ◌∷◌, map, nat_le, nat_lt, Option, Some, None, arith, unwrap_or, ◌+◌}
 use Rattle.std.proofs.lemmas.Bool.Decides.{nat_tests}
 use Rattle.std.proofs.lemmas.Bool.{or_right, eq-eqb, eqb-true}

@@ -1,4 +1,4 @@
--- Of which views a resolver is told by a reply, and which the reply says are lacking.
+-- Which views a resolver receives by a reply, and which the reply names as missing.
 use Rattle.std.proofs.Common.{◌≡◌, refl, ◌∙◌, ℕ, ◌≤◌, Bool, true, false, List, [], ◌∷◌, map, nat_le, nat_lt, Some, None, arith}
 use Rattle.std.proofs.lemmas.Bool.Decides.{nat_tests}
 use Rattle.std.proofs.lemmas.List.Folds.{list_any-append}
@@ -20,19 +20,19 @@ use Rattle.engine_planner.specs.Causes.{WorkItem, MissingCertificate, reply_caus
 use Rattle.simplex_engine.proofs.fetch_heights.AtHand.{lacks_above}
 use Rattle.simplex_engine.proofs.fetch_heights.Resolvers.{view_told}
 
--- it is told of no view above this one, and no replay ends
+-- it receives no view above this one, and no replay ends
 pub record IsLow (top : ℕ) (call : Call) : Type 0 where
   pub lives : is_replayed call ≡ false
   pub view : view_told call ≤ top
 
--- the view of the certificate that a call hands in
+-- the view of the certificate that a call passes
 abbrev pub handed_view : {D : Type 0} → CallFacts D → ℕ
 handed_view (AddNotarization c) = c.proposal.round.view
 handed_view (AddNullification c _) = c.round.view
 handed_view (AddFinalization c _) = c.proposal.round.view
 handed_view _ = 0
 
--- the highest view of which what a call is told tells a resolver, or which it says is lacking
+-- the highest view that a reply passes to a resolver, or names as missing
 abbrev pub highest_passed : {K D : Type 0} → ReplyFacts K D → CallFacts D → ℕ
 highest_passed (Added is_new _) call = if is_new then handed_view call else 0
 highest_passed (AddedNullification is_new) call = if is_new then handed_view call else 0

@@ -1,4 +1,4 @@
--- That a resolver knows of no view, and asks for none, above those that it was told of.
+-- A resolver knows of no view, and asks for none, above those that it received.
 use Rattle.std.proofs.Common.{◌≡◌, ℕ, ◌+◌, ◌-◌, ◌<◌, ◌≤◌, inl, inr, Bool, true, false, ◌&&◌, ◌||◌, ◌==◌, not, nat_lt, nat_le, cond, List, [], ◌∷◌, ◌++◌, reverse, length, max, min, Some, None, Contains, refl, ap, sym, ◌∙◌, arith}
 use Rattle.std.specs.List.{list_any, range_with_len, AllByRecursion}
 use Rattle.std.specs.Option.{option_or}
@@ -23,7 +23,7 @@ use Rattle.simplex_resolver.proofs.RepairLaw.{held, fails, stands}
 use Rattle.simplex_resolver.proofs.CallHistory.{opens_the_wanted}
 use Rattle.simplex_resolver.proofs.Views.{has-filter, has-range, fetches-map, is_outstanding-append}
 
--- the view that a resolver is told of; 0 where the replay ends
+-- the view that a resolver receives; 0 where the replay ends
 abbrev pub view_told : Call → ℕ
 view_told (Nullification v encoding) = v
 view_told (Notarization v) = v
@@ -119,7 +119,7 @@ scan_opens : (b : Bool) (x : ResolverFacts) (cause v : ℕ) → is_outstanding (
 scan_opens true x cause v is = absurd (cc)
 scan_opens false x cause v is = missing_below x v (sym (fetches-map (λ _. cause) MissingNullification (missing x) v) ∙ is)
 
--- behind effects that open none, the others do
+-- after effects that open none, the others do
 opened_behind : (es fs : List Effect) (v : ℕ) → is_outstanding es v ≡ false → is_outstanding (es ++ fs) v ≡ true → is_outstanding fs v ≡ true
 opened_behind es fs v none is = let parts = is_outstanding-append es fs v in grind (arith, parts, none, is)
 
@@ -159,7 +159,7 @@ made_up_to top call r left lasts low is made = record {
     by_either v true stays false before now is = before refl
     by_either v false stays false before now is = absurd (cc)
 
--- ---- all that a resolver was told
+-- ---- all that a resolver received
 
 current_of_told : (top : ℕ) (calls : List Call) → AllByRecursion (λ call. view_told call ≤ top) calls → current_of calls ≤ top
 current_of_told top [] all = omega arith
@@ -196,7 +196,7 @@ wanted_told top t calls v all is =
     lower : (v current : ℕ) → nat_lt v current ≡ true → current ≤ top → v ≤ top
     lower v current below low = grind (arith, nat_tests, below, low)
 
--- whatever it was told of views up to this one, once its replay has ended
+-- whatever it received about views up to this one, once its replay has ended
 pub told_up_to : (top : ℕ) (t : ℕ) (calls : List Call) (r : LawfulResolverFacts) → HasReceivedCalls t calls r → list_any is_replayed calls ≡ true → AllByRecursion (λ call. view_told call ≤ top) calls → IsUpTo top r
 told_up_to top t calls r told replayed all = record {
   heard = let same = ap (λ x. x.current) told.state ∙ (stands t calls told.long told.named).current in omega (arith, same, current_of_told top calls all);

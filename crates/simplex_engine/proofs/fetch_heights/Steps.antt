@@ -1,4 +1,5 @@
--- From one living member to another, by the steps that an engine takes: the highest view that is heard of does not fall, and nothing above it is told of or said to be lacking.
+-- From one living member to another, by the steps that an engine takes: the highest view that is heard of does not fall, and nothing above
+-- it is received or named as missing.
 use Rattle.std.proofs.Common.{◌≡◌, refl, ap, sym, ◌∙◌, subst, ℕ, ◌<◌, ◌≤◌, inl, inr, Bool, true, false, List, [], ◌∷◌, ◌++◌, Some, None, option_map, arith}
 use Rattle.std.specs.List.{list_any, AllByRecursion}
 use Rattle.std.proofs.lemmas.Bool.{cases_Bool, false≢true}

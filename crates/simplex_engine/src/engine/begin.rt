@@ -1,4 +1,4 @@
-//! How an engine begins: a first life at a floor, or another from what was stored.
+//! How an engine begins: a first lifetime at a floor, or another one from what was stored.
 #![tactic(auto)]
 
 ghost use Rattle.std.specs.Prelude.{◌≡◌, ◌==◌, ℕ, List, Option, [], ◌∷◌, Err, IfOk, IfErr, IfSome, length, reverse};
@@ -29,10 +29,10 @@ use std::alloc::{AllocError, Global};
 use std::error::Error;
 use std::fmt;
 
-/// Why no engine begins.
+/// Why an engine could not begin.
 #[derive(Clone, Copy, PartialEq, Eq, Debug)]
 pub enum StartError {
-    /// `timeout_retry` is 0: pass a millisecond at least.
+    /// `timeout_retry` is 0: pass at least one millisecond.
     RetryZero,
     /// The floor or what was stored is refused.
     Resume(ResumeError),
@@ -65,7 +65,7 @@ impl From<AllocError> for StartError {
     }
 }
 
-/// What an engine has beside its member.
+/// The parts of an engine beside its member.
 #[derive(Drop)]
 struct Company<S: CertificateScheme, D> {
     batcher: Batcher<S, D>,
@@ -95,14 +95,14 @@ impl<S: Assembly<D>, L: Elector<S>, D: Digest> Engine<S, L, D> {
     /// - `started`, `votes`: its member is the one that `LawfulMember::start` makes, with no vote in its record.
     /// - `begins`: the member has accepted the floor's finalization, if there is one, and done nothing else.
     /// - `traced`: the empty list of outputs is traced by what the member did before (`IsTraced`).
-    /// - `signed`: the votes that are stored are signed under the member's key, where those of its record are (`IsSignedBy`).
-    /// - `kept`, `whole`, `queued`, `told`, `bounded`, `due_work`: no output was returned. The whole record is queued, in place of all that is
-    ///   stored, and nothing else is; nothing is to be reported as final, and the member waits for nothing.
-    /// - `begun`: no vote is held; certificates are made by the number of the scheme's participants; the resolver has received the record,
-    ///   and its outstanding fetches are due at once, from all participants but this member; no input was ignored.
+    /// - `signed`: the stored votes are signed under the member's key, if those of its record are (`IsSignedBy`).
+    /// - `kept`, `whole`, `queued`, `told`, `bounded`, `due_work`: no output was returned. Only the whole record is queued, in place of all
+    ///   that is stored. Nothing is to be reported as final, and the member waits for nothing.
+    /// - `begun`: no vote is stored; certificates are made by the number of the scheme's participants. The resolver has received the
+    ///   record, and its outstanding fetches are due at once, from all participants but this member. No input was ignored.
     /// - `nothing`: no work is queued or planned, no early proposal is stored, and each fetch is one that the resolver wants.
-    /// - `fetch_heights`: no fetch is of a view above both the next term's first and those of all entries.
-    /// - `no_retry`, `refused`: `RetryZero` exactly where `timeout_retry` is 0; the other errors as below.
+    /// - `fetch_heights`: no fetch is of a view above both the next term's first view and the views of all entries.
+    /// - `no_retry`, `refused`: `RetryZero` exactly if `timeout_retry` is 0; the other errors as below.
     ///
     /// # Errors
     ///
@@ -115,14 +115,17 @@ impl<S: Assembly<D>, L: Elector<S>, D: Digest> Engine<S, L, D> {
     ) -> Result<Engine<S, L, D>, StartError>
         requires { L.members start.settings.elector ≡ length (S.participants start.settings.scheme) }
         ensures kept { IfOk result (λ engine. IsJournaled S.certificate_bytes [] engine.core) }
-        ensures traced { IfOk result (λ engine. BeginsTraced D.eq L.elect S.certificate_bytes engine.core.member engine.core) }
+        ensures traced { IfOk result
+            (λ engine. BeginsTraced D.eq L.elect S.certificate_bytes engine.core.member engine.core) }
         ensures signed { IfOk result (λ engine. BeginsSigned S.IsSignature engine.core.member engine.core) }
         ensures whole { IfOk result (λ engine. IsWhole S.certificate_bytes engine.core) }
-        ensures queued { IfOk result (λ engine. BeginsWith S.certificate_bytes engine.core.member engine.core.outbox.queue.items) }
+        ensures queued { IfOk result
+            (λ engine. BeginsWith S.certificate_bytes engine.core.member engine.core.outbox.queue.items) }
         ensures told { IfOk result (λ engine. ReportsNothing engine.core) }
         ensures due_work { IfOk result (HasReportedAll []) }
         ensures bounded { IfOk result (λ engine. HoldsNoneAhead S.participants engine.core engine.batcher) }
-        ensures begun { IfOk result (HasStartedWith D.bytes S.participants (S.participants start.settings.scheme) (S.me start.settings.scheme)
+        ensures begun { IfOk result
+            (HasStartedWith D.bytes S.participants (S.participants start.settings.scheme) (S.me start.settings.scheme)
             (L.terms start.settings.elector).term_length (with_a_retry options)) }
         ensures started { IfOk result (λ engine. engine.core.member.facts ≡ started_member D.eq L.elect
             (set_up S.me S.participants L.terms L.elects_early start.settings)
@@ -153,9 +156,10 @@ impl<S: Assembly<D>, L: Elector<S>, D: Digest> Engine<S, L, D> {
     /// The elector's members are the scheme's participants.
     ///
     /// - `resumed`, `votes`: its member is the one that `LawfulMember::resume` makes, with the votes of the entries.
-    /// - `continues`: in terms of the same length, and with the key of the same member or none, the member has done what it had done before,
-    ///   and has accepted the floor's finalization.
-    /// - `kept`, `traced`, `signed`, `whole`, `queued`, `told`, `bounded`, `due_work`, `begun`, `nothing`, `fetch_heights`, `no_retry`, `refused`: as of `start`.
+    /// - `continues`: with terms of the same length, and with the key of the same member or none, the member has done what it had done
+    ///   before, and has accepted the floor's finalization.
+    /// - `kept`, `traced`, `signed`, `whole`, `queued`, `told`, `bounded`, `due_work`, `begun`, `nothing`, `fetch_heights`, `no_retry`, `refused`:
+    ///   as of `start`.
     ///
     /// # Errors
     ///
@@ -170,18 +174,22 @@ impl<S: Assembly<D>, L: Elector<S>, D: Digest> Engine<S, L, D> {
     ) -> Result<Engine<S, L, D>, StartError>
         requires { L.members start.settings.elector ≡ length (S.participants start.settings.scheme) }
         ensures kept { IfOk result (λ engine. IsJournaled S.certificate_bytes [] engine.core) }
-        ensures traced { IfOk result (λ engine. BeginsTraced D.eq L.elect S.certificate_bytes engine.core.member engine.core) }
+        ensures traced { IfOk result
+            (λ engine. BeginsTraced D.eq L.elect S.certificate_bytes engine.core.member engine.core) }
         ensures signed { IfOk result (λ engine. BeginsSigned S.IsSignature engine.core.member engine.core) }
         ensures whole { IfOk result (λ engine. IsWhole S.certificate_bytes engine.core) }
-        ensures queued { IfOk result (λ engine. BeginsWith S.certificate_bytes engine.core.member engine.core.outbox.queue.items) }
+        ensures queued { IfOk result
+            (λ engine. BeginsWith S.certificate_bytes engine.core.member engine.core.outbox.queue.items) }
         ensures told { IfOk result (λ engine. ReportsNothing engine.core) }
         ensures due_work { IfOk result (HasReportedAll []) }
         ensures bounded { IfOk result (λ engine. HoldsNoneAhead S.participants engine.core engine.batcher) }
-        ensures begun { IfOk result (HasStartedWith D.bytes S.participants (S.participants start.settings.scheme) (S.me start.settings.scheme)
+        ensures begun { IfOk result
+            (HasStartedWith D.bytes S.participants (S.participants start.settings.scheme) (S.me start.settings.scheme)
             (L.terms start.settings.elector).term_length (with_a_retry options)) }
         ensures resumed { IfOk result (λ engine. IsResumed D.eq L.elect stored
             (entries_of S.certificate_bytes entries.items)
-            (start_facts S.me S.participants L.terms L.elects_early S.certificate_bytes start) engine.core.member.facts) }
+            (start_facts S.me S.participants L.terms L.elects_early S.certificate_bytes start)
+            engine.core.member.facts) }
         ensures votes { IfOk result (λ engine. engine.core.member.votes ≡ votes_of entries.items) }
         ensures continues { IfOk result (λ engine. HasContinued D.eq L.elect S.me L.terms stored
             (entries_of S.certificate_bytes entries.items) start engine.core.member.facts) }
@@ -205,19 +213,20 @@ impl<S: Assembly<D>, L: Elector<S>, D: Digest> Engine<S, L, D> {
     }
 }
 
-/// Returns whether a vote to nullify would be repeated after no time: `poll` would ask the member for it without end.
+/// Returns whether a vote to nullify would be repeated after no time: `poll` would then ask the member for it without end.
 fn has_no_retry<S: Scheme<D>, L: Elector<S>, D: Digest>(start: &Start<S, L, D>) -> bool
     ensures { result ≡ (start.entry.now.settings.timeout_retry == 0) }
 {
     start.settings.timeout_retry == 0
 }
 
-/// What an engine has beside its member, by its settings.
+/// Makes the parts beside the member from its settings.
 fn company_of<S: Assembly<D>, L: Elector<S>, D: Digest>(
     alloc: Global,
     start: &Start<S, L, D>,
 ) -> Result<Company<S, D>, AllocError>
-    ensures { IfOk result (IsCompanyOf S.participants (S.participants start.entry.now.settings.scheme) (S.me start.entry.now.settings.scheme)
+    ensures { IfOk result (IsCompanyOf S.participants (S.participants start.entry.now.settings.scheme)
+        (S.me start.entry.now.settings.scheme)
         (L.terms start.entry.now.settings.elector).term_length) }
 {
     let scheme = start.settings.scheme.copy(alloc)?;
@@ -231,7 +240,7 @@ fn company_of<S: Assembly<D>, L: Elector<S>, D: Digest>(
     })
 }
 
-/// An engine round a member that has begun: its resolver is told of the record, and what is wanted is asked for at once.
+/// Makes an engine around a member that has begun. Its resolver receives the record, and the resolver's fetches are due at once.
 fn begin<S: Assembly<D>, L: Elector<S>, D: Digest>(
     alloc: Global,
     member: LawfulMember<S, L, D>,
@@ -239,13 +248,16 @@ fn begin<S: Assembly<D>, L: Elector<S>, D: Digest>(
     options: Options,
 ) -> Result<Engine<S, L, D>, StartError>
     ensures kept { IfOk result (λ engine. IsJournaled S.certificate_bytes [] engine.core) }
-    ensures traced { IfOk result (λ engine. BeginsTraced D.eq L.elect S.certificate_bytes engine.core.member engine.core) }
+    ensures traced { IfOk result
+        (λ engine. BeginsTraced D.eq L.elect S.certificate_bytes engine.core.member engine.core) }
     ensures signed { IfOk result (λ engine. BeginsSigned S.IsSignature engine.core.member engine.core) }
     ensures whole { IfOk result (λ engine. IsWhole S.certificate_bytes engine.core) }
     ensures told { IfOk result (λ engine. ReportsNothing engine.core) }
     ensures member { IfOk result (λ engine. engine.core.member ≡ member) }
-    ensures queued { IfOk result (λ engine. BeginsWith S.certificate_bytes engine.core.member engine.core.outbox.queue.items) }
-    ensures begun { (keys : List S.PublicKey) (me : Option ℕ) (term_length : ℕ) → IsCompanyOf S.participants keys me term_length company
+    ensures queued { IfOk result
+        (λ engine. BeginsWith S.certificate_bytes engine.core.member engine.core.outbox.queue.items) }
+    ensures begun { (keys : List S.PublicKey) (me : Option ℕ) (term_length : ℕ)
+        → IsCompanyOf S.participants keys me term_length company
         → IfOk result (HasStartedWith D.bytes S.participants keys me term_length (with_a_retry options)) }
     ensures refused { IfErr result (IsNotReplayed member.facts.entries) }
 {
@@ -260,14 +272,15 @@ fn begin<S: Assembly<D>, L: Elector<S>, D: Digest>(
     })
 }
 
-/// What is looked after beside a member that has begun.
+/// Makes the plan of a member that has begun.
 fn plan_of<S: Scheme<D>, L: Elector<S>, D: Digest>(
     alloc: Global,
     member: &LawfulMember<S, L, D>,
     company: &Company<S, D>,
     options: Options,
 ) -> Result<Plan<S, D>, StartError>
-    ensures plan { IfOk result (IsPlanOf D.bytes company.now.term_length company.now.peers company.now.is_alone options member.now.facts) }
+    ensures plan { IfOk result
+        (IsPlanOf D.bytes company.now.term_length company.now.peers company.now.is_alone options member.now.facts) }
     ensures refused { IfErr result (IsNotReplayed member.now.facts.entries) }
 {
     let resolver = resolver_of(alloc, company.term_length, member.record())?;
@@ -276,13 +289,15 @@ fn plan_of<S: Scheme<D>, L: Elector<S>, D: Digest>(
     Ok(Plan::new(alloc, options, company.is_alone, views_of(member), repair))
 }
 
-/// The resolver of a record.
+/// Makes the resolver of a record.
 fn resolver_of<S: CertificateScheme, D: Digest>(
     alloc: Global,
     term_length: TermLength,
     record: &[Artifact<S, D>],
 ) -> Result<LawfulResolver, StartError>
-    ensures told { IfOk result (HasReceivedCalls term_length (Replayed ∷ calls_of D.bytes (reverse (entries_of S.certificate_bytes record.now)))) }
+    ensures told { IfOk result
+        (HasReceivedCalls term_length
+        (Replayed ∷ calls_of D.bytes (reverse (entries_of S.certificate_bytes record.now)))) }
     ensures refused { IfErr result (IsNotReplayed (entries_of S.certificate_bytes record.now)) }
 {
     match LawfulResolver::start(alloc, term_length, record) {
@@ -291,7 +306,7 @@ fn resolver_of<S: CertificateScheme, D: Digest>(
     }
 }
 
-/// The views that a member begins at.
+/// Returns the views that a member begins at.
 fn views_of<S: Scheme<D>, L: Elector<S>, D: Digest>(member: &LawfulMember<S, L, D>) -> Views
     ensures { IfSome member.now.facts.life (λ x. (result.current ≡ x.current) × (result.last_finalized ≡ x.finalized)) }
 {

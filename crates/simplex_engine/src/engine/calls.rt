@@ -1,4 +1,4 @@
-//! Calls of the member, each with what follows from its answer.
+//! Calls of the member, and what the engine plans after each reply.
 #![tactic(auto)]
 
 ghost use Rattle.std.specs.Prelude.{◌≡◌, ℕ, [], ◌∷◌, ◌++◌, None, IfOk, OnOk, IsNone, IsTrue, not};
@@ -28,13 +28,14 @@ impl<S: Assembly<D>, L: Elector<S>, D: Digest> Engine<S, L, D> {
     ghost use Rattle.engine_planner.specs.PlannedWork.{AreAmong, KeepsPlanned, KeepsPlannedThen, PlansAnswerThen};
     ghost use Rattle.simplex_engine.specs.MemberViews.{TracksViews};
 
-    /// Asks the member for work of the application. Returns whether there is none.
+    /// Asks the member for work for the application. Returns whether there is none.
     pub(super) fn ask_for_work(&mut self, now: u64) -> Result<bool, Fault>
         ensures alone { ContinuesWithoutInput D.eq L.elect S.certificate_bytes S.IsSignature self.old self.new }
         ensures nothing { IfOk result (λ nothing. IsTrue nothing
             → ReturnNothing D.eq L.elect self.old.core.member.facts for_work self.new.core.member.facts) }
         ensures due_work { OnOk result (KeepsApplicationWork self.old self.new) }
-        ensures provenance { OnOk result (IsCausedWithoutInput D.eq L.elect D.bytes S.certificate_bytes now self.old self.new) }
+        ensures provenance { OnOk result
+            (IsCausedWithoutInput D.eq L.elect D.bytes S.certificate_bytes now self.old self.new) }
     {
         let mut has_none = self.ask_for(Task::Verify, now)?;
         has_none &= self.ask_for(Task::Propose, now)?;
@@ -42,9 +43,9 @@ impl<S: Assembly<D>, L: Elector<S>, D: Digest> Engine<S, L, D> {
         Ok(has_none)
     }
 
-    /// Plans to ask for the votes and the certificates of the lowest view where one is due. Returns whether none is.
+    /// Plans to ask for the votes and the certificates of the lowest view where one is due. Returns whether none is due.
     ///
-    /// It goes through the views from the last finalized one on, so it comes last, once all else is done.
+    /// It scans the views from the last finalized one on, so it runs last, once all else is done.
     pub(super) fn plan_due_votes(&mut self) -> Result<bool, Fault>
         ensures core { self.new.core ≡ self.old.core }
         ensures batcher { self.new.batcher ≡ self.old.batcher }
@@ -63,8 +64,8 @@ impl<S: Assembly<D>, L: Elector<S>, D: Digest> Engine<S, L, D> {
         }
     }
 
-    /// The lowest view, from the last finalized one on, where a vote is allowed or a certificate was not handed out. A member that
-    /// has failed since found no memory.
+    /// Returns the lowest view, from the last finalized one on, where a vote is allowed or a certificate was not returned. Returns
+    /// `OutOfMemory` if the member has failed.
     fn first_due(&self) -> Result<Option<View>, Fault>
         ensures { IfOk result (λ view. IsNone view → HasNothingDue D.eq L.elect self.now.core.member.facts) }
     {
@@ -74,7 +75,7 @@ impl<S: Assembly<D>, L: Elector<S>, D: Digest> Engine<S, L, D> {
         }
     }
 
-    /// Asks for work, and follows the reply. Returns whether that has nothing new.
+    /// Asks for work, and follows the reply. Returns whether the reply has nothing new.
     fn ask_for(&mut self, task: Task<D>, now: u64) -> Result<bool, Fault>
         ensures alone { ContinuesWithoutInput D.eq L.elect S.certificate_bytes S.IsSignature self.old self.new }
         ensures nothing { IfOk result (λ nothing. IsTrue nothing
@@ -90,11 +91,12 @@ impl<S: Assembly<D>, L: Elector<S>, D: Digest> Engine<S, L, D> {
         Ok(is_nothing)
     }
 
-    /// Makes a call of the member, and follows its answer. Whether it was of use.
+    /// Makes a call of the member, and follows the reply. Returns false if the call was ignored.
     pub(super) fn ask(&mut self, task: Task<D>, now: u64) -> Result<bool, Fault>
         ensures continues { Continues D.eq L.elect S.certificate_bytes S.IsSignature None self.old.core self.new.core }
         ensures batcher { self.new.batcher ≡ self.old.batcher }
-        ensures acted { IfOk result (HasDoneTask D.eq L.elect task now self.old.core.member.facts self.new.core.member.facts) }
+        ensures acted { IfOk result
+            (HasDoneTask D.eq L.elect task now self.old.core.member.facts self.new.core.member.facts) }
         ensures due_work { OnOk result (KeepsApplicationWork self.old self.new) }
         ensures provenance { OnOk result ((came : _) → HasNoMissingCertificate came
             → IsCallCaused now (came ++ pending_causes self.old) self.old.core.member.facts (call_of task now)
@@ -104,16 +106,19 @@ impl<S: Assembly<D>, L: Elector<S>, D: Digest> Engine<S, L, D> {
         self.follow(task, reply, now)
     }
 
-    /// Follows the answer to a call. Whether that says that anything was done.
+    /// Follows the reply to a call. Returns whether the reply says that anything was done.
     fn follow(&mut self, task: Task<D>, reply: Reply<S, D>, now: u64) -> Result<bool, Fault>
         ensures core { self.new.core ≡ self.old.core }
         ensures batcher { self.new.batcher ≡ self.old.batcher }
         ensures of_use { IfOk result (λ is_of_use. is_of_use ≡ not (says_nothing (told S.certificate_bytes reply))) }
-        ensures planned { OnOk result (PlansAnswerThen task (told S.certificate_bytes reply) self.old.plan self.new.plan) }
+        ensures planned { OnOk result
+            (PlansAnswerThen task (told S.certificate_bytes reply) self.old.plan self.new.plan) }
         ensures seen { OnOk result (TracksViews self.new.core.member.facts self.new.plan) }
         ensures causes { OnOk result (AreAmong (planned_causes self.new.plan)
             (planned_causes self.old.plan ++ reply_causes now reply (call_of task now))) }
-        ensures asks { OnOk result (KeepsFetching (reply_causes now reply (call_of task now)) (λ kind view. is_final self.new.core.member.facts view)
+        ensures asks { OnOk result
+            (KeepsFetching (reply_causes now reply (call_of task now))
+            (λ kind view. is_final self.new.core.member.facts view)
             (received_by D.bytes S.certificate_bytes reply (call_of task now)) self.old.plan self.new.plan) }
     {
         let is_of_use = !says_nothing(&reply);
@@ -122,14 +127,15 @@ impl<S: Assembly<D>, L: Elector<S>, D: Digest> Engine<S, L, D> {
         Ok(is_of_use)
     }
 
-    /// The member may have come to other views. One that has failed since found no memory.
+    /// Passes the member's current and last finalized view to the plan. Returns `OutOfMemory` if the member has failed.
     pub(super) fn update_views(&mut self) -> Result<(), Fault>
         ensures core { self.new.core ≡ self.old.core }
         ensures batcher { self.new.batcher ≡ self.old.batcher }
         ensures planned { OnOk result (KeepsPlannedThen self.old.plan self.new.plan) }
         ensures seen { OnOk result (TracksViews self.new.core.member.facts self.new.plan) }
         ensures causes { OnOk result (AreAmong (planned_causes self.new.plan) (planned_causes self.old.plan)) }
-        ensures asks { OnOk result (KeepsFetching [] (λ kind view. is_final self.new.core.member.facts view) [] self.old.plan self.new.plan) }
+        ensures asks { OnOk result
+            (KeepsFetching [] (λ kind view. is_final self.new.core.member.facts view) [] self.old.plan self.new.plan) }
     {
         let Some(state) = self.core.state() else {
             return Err(Fault::OutOfMemory);
@@ -142,7 +148,7 @@ impl<S: Assembly<D>, L: Elector<S>, D: Digest> Engine<S, L, D> {
         Ok(())
     }
 
-    /// A certificate is lacking for a proposal, whose leader is asked first.
+    /// Plans the fetch of a missing certificate of a proposal; the proposal's leader is asked first.
     pub(super) fn resolve(
         &mut self,
         kind: FetchKind,
@@ -153,15 +159,17 @@ impl<S: Assembly<D>, L: Elector<S>, D: Digest> Engine<S, L, D> {
         ensures core { self.new.core ≡ self.old.core }
         ensures batcher { self.new.batcher ≡ self.old.batcher }
         ensures planned { KeepsPlanned self.old.plan self.new.plan }
-        ensures causes { AreAmong (planned_causes self.new.plan) (planned_causes self.old.plan ++ MissingCertificate kind view ∷ []) }
-        ensures asks { OnOk result (KeepsFetching (MissingCertificate kind view ∷ []) never [] self.old.plan self.new.plan) }
+        ensures causes { AreAmong (planned_causes self.new.plan)
+            (planned_causes self.old.plan ++ MissingCertificate kind view ∷ []) }
+        ensures asks { OnOk result
+            (KeepsFetching (MissingCertificate kind view ∷ []) never [] self.old.plan self.new.plan) }
     {
         let leader = self.leader_of(proposal);
         self.plan.resolve(kind, view, leader, now)?;
         Ok(())
     }
 
-    /// Who leads the view, where that is known.
+    /// Returns the leader of the view, if it is known.
     fn leader_of(&self, view: View) -> Option<Participant> {
         match self.core.state() {
             Some(state) => state.leader_index(view),
@@ -170,7 +178,7 @@ impl<S: Assembly<D>, L: Elector<S>, D: Digest> Engine<S, L, D> {
     }
 }
 
-/// Whether an answer has nothing, or nothing that is new: a certificate that is lacking is asked for already, or is from now on.
+/// Returns whether a reply has nothing new. A missing certificate is not new: it is being fetched already, or is from now on.
 fn is_nothing<S: CertificateScheme, D: Digest>(reply: &Reply<S, D>) -> bool
     ensures { result ≡ is_nothing (told S.certificate_bytes reply.now) }
 {
@@ -185,7 +193,7 @@ fn is_nothing<S: CertificateScheme, D: Digest>(reply: &Reply<S, D>) -> bool
     }
 }
 
-/// Whether an answer says that nothing was done.
+/// Returns whether a reply says that nothing was done.
 fn says_nothing<S: CertificateScheme, D: Digest>(reply: &Reply<S, D>) -> bool
     ensures { result ≡ says_nothing (told S.certificate_bytes reply.now) }
 {
@@ -198,7 +206,7 @@ fn says_nothing<S: CertificateScheme, D: Digest>(reply: &Reply<S, D>) -> bool
     }
 }
 
-/// Whether a fault is another one than want of memory.
+/// Returns whether a fault is not `OutOfMemory`.
 pub(super) fn is_lasting(fault: &Fault) -> bool
     ensures { result ≡ is_lasting fault.now }
 {

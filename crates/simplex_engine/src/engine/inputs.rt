@@ -1,4 +1,4 @@
-//! Inputs: what the member is asked for each.
+//! Inputs, and the call of the member for each.
 #![tactic(auto)]
 
 ghost use Rattle.std.specs.Prelude.{◌≡◌, ◌≢◌, [], ◌∷◌, None, Ok, IfOk, OnOk, IsTrue, false, ◌==◌, IsFalse};
@@ -29,9 +29,10 @@ impl<S: Assembly<D>, L: Elector<S>, D: Digest> Engine<S, L, D> {
     ghost use Rattle.engine_planner.specs.Causes.{Arrival, Message};
     ghost use Rattle.simplex_engine.specs.Admission.{is_so, ignoring, IsStoredEarly};
 
-    /// Takes what came in, while the engine has not failed, and counts what is of no use.
+    /// Takes an input, while the engine has not failed, and counts it if it is ignored.
     pub(super) fn take(&mut self, input: Input<S, D>, now: u64) -> Result<bool, Fault>
-        ensures { IsInputTaken D.eq L.elect D.bytes S.certificate_bytes S.IsSignature S.IsMadeOf S.participants now input
+        ensures { IsInputTaken D.eq L.elect D.bytes S.certificate_bytes S.IsSignature S.IsMadeOf
+            S.participants now input
             self.old (ignoring self.old) self.new result }
     {
         let answer = self.take_in(input, now);
@@ -42,9 +43,10 @@ impl<S: Assembly<D>, L: Elector<S>, D: Digest> Engine<S, L, D> {
         answer
     }
 
-    /// Takes what came in.
+    /// Dispatches an input by its kind.
     fn take_in(&mut self, input: Input<S, D>, now: u64) -> Result<bool, Fault>
-        ensures { IsInputTaken D.eq L.elect D.bytes S.certificate_bytes S.IsSignature S.IsMadeOf S.participants now input
+        ensures { IsInputTaken D.eq L.elect D.bytes S.certificate_bytes S.IsSignature S.IsMadeOf
+            S.participants now input
             self.old self.old self.new result }
     {
         match input {
@@ -58,8 +60,8 @@ impl<S: Assembly<D>, L: Elector<S>, D: Digest> Engine<S, L, D> {
         }
     }
 
-    /// A proposal of another member: it is handed in where that member leads its view, which takes votes, and else kept where
-    /// its view comes soon. One of another epoch is not kept.
+    /// Passes another member's proposal on if that member leads its view and the view takes votes. Otherwise stores it if its view comes
+    /// soon. A proposal of another epoch is not stored.
     pub(super) fn offer(
         &mut self,
         from: Participant,
@@ -68,12 +70,16 @@ impl<S: Assembly<D>, L: Elector<S>, D: Digest> Engine<S, L, D> {
     ) -> Result<bool, Fault>
         ensures continues { Continues D.eq L.elect S.certificate_bytes S.IsSignature None self.old.core self.new.core }
         ensures batcher { self.new.batcher ≡ self.old.batcher }
-        ensures unadmitted { IsFalse (is_so (λ x. admits_proposal x from proposal.round) self.old.core.member.facts) → IfOk result (λ is_of_use.
+        ensures unadmitted { IsFalse (is_so (λ x. admits_proposal x from proposal.round) self.old.core.member.facts)
+            → IfOk result (λ is_of_use.
             IsFalse is_of_use × IsStoredEarly from proposal self.old self.new) }
-        ensures acted { IsTrue (is_so (λ x. admits_proposal x from proposal.round) self.old.core.member.facts) → IfOk result
-            (HasDoneTask D.eq L.elect (SetProposal proposal.round.view proposal) now self.old.core.member.facts self.new.core.member.facts) }
+        ensures acted { IsTrue (is_so (λ x. admits_proposal x from proposal.round) self.old.core.member.facts)
+            → IfOk result
+            (HasDoneTask D.eq L.elect (SetProposal proposal.round.view proposal) now self.old.core.member.facts
+            self.new.core.member.facts) }
         ensures due_work { OnOk result (KeepsApplicationWork self.old self.new) }
-        ensures provenance { OnOk result (IsCausedWith D.eq L.elect D.bytes S.certificate_bytes now (Arrival from proposal ∷ []) self.old self.new) }
+        ensures provenance { OnOk result
+            (IsCausedWith D.eq L.elect D.bytes S.certificate_bytes now (Arrival from proposal ∷ []) self.old self.new) }
     {
         if self.admits_proposal(from, proposal.round) {
             return self.ask(Task::SetProposal(proposal.view(), proposal), now);
@@ -82,7 +88,7 @@ impl<S: Assembly<D>, L: Elector<S>, D: Digest> Engine<S, L, D> {
         Ok(false)
     }
 
-    /// Keeps a proposal of this epoch whose view comes soon.
+    /// Stores a proposal of this epoch whose view comes soon.
     fn store_early(&mut self, from: Participant, proposal: Proposal<D>) -> Result<(), Fault>
         ensures same { self.new ≡ record self.old { plan = record (self.old.plan) { early = self.new.plan.early } } }
         ensures kept { OnOk result (IsStoredEarly from proposal self.old self.new) }
@@ -94,7 +100,8 @@ impl<S: Assembly<D>, L: Elector<S>, D: Digest> Engine<S, L, D> {
         Ok(())
     }
 
-    /// Whether a proposal may be handed in. One of this member itself never is: its key would have been used elsewhere.
+    /// Returns whether a proposal may be passed to the member. A proposal of this member itself never may: its key would have been used
+    /// elsewhere.
     fn admits_proposal(&self, from: Participant, round: Round) -> bool
         ensures { result ≡ is_so (λ x. admits_proposal x from round) self.now.core.member.facts }
     {
@@ -104,7 +111,7 @@ impl<S: Assembly<D>, L: Elector<S>, D: Digest> Engine<S, L, D> {
         }
     }
 
-    /// Whether the round is of this epoch.
+    /// Returns whether the round is of this epoch.
     pub(super) fn is_of_this_epoch(&self, round: Round) -> bool
         ensures { result ≡ is_so (λ x. is_of_epoch x round) self.now.core.member.facts }
     {
@@ -114,7 +121,7 @@ impl<S: Assembly<D>, L: Elector<S>, D: Digest> Engine<S, L, D> {
         }
     }
 
-    /// What the application built, where it was asked to build just there.
+    /// Takes the block that the application built, if the engine asked for it in exactly this context.
     fn build(
         &mut self,
         context: &Context<D, S::PublicKey>,
@@ -123,10 +130,13 @@ impl<S: Assembly<D>, L: Elector<S>, D: Digest> Engine<S, L, D> {
     ) -> Result<bool, Fault>
         ensures continues { Continues D.eq L.elect S.certificate_bytes S.IsSignature None self.old.core self.new.core }
         ensures batcher { self.new.batcher ≡ self.old.batcher }
-        ensures acted { IfOk result (IsBlockTaken D.eq L.elect (list_any (is_asked_in D.eq context.now) self.old.plan.builds.buildings.items)
+        ensures acted { IfOk result
+            (IsBlockTaken D.eq L.elect (list_any (is_asked_in D.eq context.now) self.old.plan.builds.buildings.items)
             context.now.round.view payload now self.old.core.member.facts self.new.core.member.facts) }
         ensures due_work { OnOk result (KeepsApplicationWork self.old self.new) }
-        ensures provenance { OnOk result (IsCausedWith D.eq L.elect D.bytes S.certificate_bytes now (Message (Proposed context.now.round.view payload) ∷ [])
+        ensures provenance { OnOk result
+            (IsCausedWith D.eq L.elect D.bytes S.certificate_bytes now
+            (Message (Proposed context.now.round.view payload) ∷ [])
             self.old self.new) }
     {
         if !self.plan.is_building(context) {
@@ -135,16 +145,20 @@ impl<S: Assembly<D>, L: Elector<S>, D: Digest> Engine<S, L, D> {
         self.ask(Task::Proposed(context.round.view, payload), now)
     }
 
-    /// The application's verdict on a proposal, where the member offered it and has no verdict yet. Any other verdict is ignored: the
-    /// member would take it on whatever proposal of the view is notarized, also one on a parent that is not certified.
+    /// Takes the application's verdict on a proposal that the member offered and that has no verdict yet. Any other verdict is ignored: the
+    /// member would apply it to whatever proposal of the view is notarized, even one on a parent that is not certified.
     fn judge(&mut self, view: View, is_success: bool, now: u64) -> Result<bool, Fault>
         ensures continues { Continues D.eq L.elect S.certificate_bytes S.IsSignature None self.old.core self.new.core }
         ensures batcher { self.new.batcher ≡ self.old.batcher }
-        ensures unadmitted { IsFalse (is_offered self.old.core.member.facts.outstanding_work view) → (result ≡ Ok false) × (self.new ≡ self.old) }
+        ensures unadmitted { IsFalse (is_offered self.old.core.member.facts.outstanding_work view) → (result ≡ Ok false)
+            × (self.new ≡ self.old) }
         ensures acted { IsTrue (is_offered self.old.core.member.facts.outstanding_work view) → IfOk result
-            (HasDoneTask D.eq L.elect (Certified view is_success) now self.old.core.member.facts self.new.core.member.facts) }
+            (HasDoneTask D.eq L.elect (Certified view is_success) now self.old.core.member.facts
+            self.new.core.member.facts) }
         ensures due_work { OnOk result (KeepsApplicationWork self.old self.new) }
-        ensures provenance { OnOk result (IsCausedWith D.eq L.elect D.bytes S.certificate_bytes now (Message (Certified view is_success) ∷ []) self.old self.new) }
+        ensures provenance { OnOk result
+            (IsCausedWith D.eq L.elect D.bytes S.certificate_bytes now (Message (Certified view is_success) ∷ [])
+            self.old self.new) }
     {
         if !self.core.awaits_verdict(view) {
             return Ok(false);
@@ -153,7 +167,7 @@ impl<S: Assembly<D>, L: Elector<S>, D: Digest> Engine<S, L, D> {
     }
 }
 
-/// Whether a proposal of the round is of its view's leader, and not of this member itself.
+/// Returns whether a proposal of the round is by its view's leader, and not by this member itself.
 fn is_by_leader<S: Scheme<D>, L: Elector<S>, D: Digest>(
     state: &State<S, L, D>,
     from: Participant,
@@ -165,7 +179,7 @@ fn is_by_leader<S: Scheme<D>, L: Elector<S>, D: Digest>(
     takes_votes(state, round) && is_leader(leader, from) && !state.is_me(from)
 }
 
-/// Whether the member is this leader.
+/// Returns whether the member is this leader.
 fn is_leader(leader: Option<Participant>, member: Participant) -> bool
     ensures { result ≡ option_map_or (λ i. i == member) leader false }
 {
@@ -175,7 +189,7 @@ fn is_leader(leader: Option<Participant>, member: Participant) -> bool
     }
 }
 
-/// Whether an input was of no use.
+/// Returns whether an input was ignored.
 fn is_in_vain(answer: &Result<bool, Fault>) -> bool
     ensures vain { IsTrue result → answer.now ≡ Ok false }
     ensures other { IsFalse result → answer.now ≢ Ok false }
@@ -183,7 +197,7 @@ fn is_in_vain(answer: &Result<bool, Fault>) -> bool
     matches!(answer, Ok(false))
 }
 
-/// The task of an answer of the application: whether it found the view's proposal valid.
+/// Returns the task for the application's verification of the view's proposal.
 fn verification<D: Digest>(view: View, is_valid: bool) -> Task<D>
     ensures { result ≡ verification_of is_valid view }
 {

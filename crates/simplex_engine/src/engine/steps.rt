@@ -28,14 +28,15 @@ impl<S: Assembly<D>, L: Elector<S>, D: Digest> Engine<S, L, D> {
     ghost use Rattle.simplex_voter.specs.Windows.{min_active};
     ghost use Rattle.engine_outbox.specs.declared.output.Work.TheVariants as work;
 
-    /// Takes all steps that are due, until the member has nothing new, and queues what the record has grown by.
+    /// Takes all steps that are due, until the member has nothing new, and queues the new entries of the record.
     ///
-    /// - `quiet`: it has cast its votes and handed out its certificates, was asked last for work, and had none.
-    /// - `idle`, `ahead`: nothing is to be done at the moment, and no block is to be built of a view that is over.
-    /// - `short`: by a pruning no more views of the record go than stay, or it has few entries.
-    /// - `lowest`, `lacking`: no vote is held of a view below the lowest one that is kept, and just what is lacking is asked for.
-    /// - `provenance`: all comes of what was at hand, and of the member's answers, but that views may be forgotten below the lowest one that
-    ///   the member keeps then; and what is lacking is asked for still.
+    /// - `quiet`: the member has cast its votes and returned its certificates; asked last for work, it had none.
+    /// - `idle`, `ahead`: nothing is due at the moment, and no block is to be built of a past view.
+    /// - `short`: a pruning would drop no more views of the record than it retains, or the record has few entries.
+    /// - `lowest`, `lacking`: no stored vote is of a view below the lowest retained one, and exactly the missing certificates are asked
+    ///   for.
+    /// - `provenance`: everything is caused by what was there before and by the member's replies, except that views may be forgotten below
+    ///   the lowest one that the member retains then. Missing certificates are still asked for.
     pub(super) fn work(&mut self, now: u64) -> Result<(), Fault>
         ensures alone { ContinuesWithPruning D.eq L.elect S.certificate_bytes S.IsSignature self.old self.new }
         ensures whole { OnOk result (IsWhole S.certificate_bytes self.new.core) }
@@ -47,13 +48,14 @@ impl<S: Assembly<D>, L: Elector<S>, D: Digest> Engine<S, L, D> {
         ensures lowest { OnOk result (HoldsFromKept self.new.core self.new.batcher) }
         ensures lacking { OnOk result (FetchesItsMissing self.new.core self.new.plan.repair) }
         ensures due_work { OnOk result (KeepsApplicationWork self.old self.new) }
-        ensures provenance { OnOk result (IsCausedWithPruning D.eq L.elect D.bytes S.certificate_bytes now self.old self.new) }
+        ensures provenance { OnOk result
+            (IsCausedWithPruning D.eq L.elect D.bytes S.certificate_bytes now self.old self.new) }
     {
         self.plan.begin();
         self.finish(now)
     }
 
-    /// Takes all steps, lets go what is kept of views that are not, and queues what the record has grown by.
+    /// Takes all steps, drops what is stored of views that are not retained, and queues the new entries of the record.
     fn finish(&mut self, now: u64) -> Result<(), Fault>
         ensures alone { ContinuesWithPruning D.eq L.elect S.certificate_bytes S.IsSignature self.old self.new }
         ensures whole { OnOk result (IsWhole S.certificate_bytes self.new.core) }
@@ -65,14 +67,15 @@ impl<S: Assembly<D>, L: Elector<S>, D: Digest> Engine<S, L, D> {
         ensures lowest { OnOk result (HoldsFromKept self.new.core self.new.batcher) }
         ensures lacking { OnOk result (FetchesItsMissing self.new.core self.new.plan.repair) }
         ensures due_work { OnOk result (KeepsApplicationWork self.old self.new) }
-        ensures provenance { OnOk result (IsCausedWithPruning D.eq L.elect D.bytes S.certificate_bytes now self.old self.new) }
+        ensures provenance { OnOk result
+            (IsCausedWithPruning D.eq L.elect D.bytes S.certificate_bytes now self.old self.new) }
     {
         self.run_to_short(now)?;
         self.settle()?;
         Ok(())
     }
 
-    /// Takes all steps, and prunes the record where more views of it go than stay, until nothing of both is left.
+    /// Takes all steps, and prunes the record if that drops more of its views than it retains, until neither is left to do.
     fn run_to_short(&mut self, now: u64) -> Result<(), Fault>
         ensures alone { ContinuesWithoutInput D.eq L.elect S.certificate_bytes S.IsSignature self.old self.new }
         ensures quiet { OnOk result (HasNothingNew D.eq L.elect self.new.core.member.facts) }
@@ -81,7 +84,8 @@ impl<S: Assembly<D>, L: Elector<S>, D: Digest> Engine<S, L, D> {
         ensures short { (given : _) → IsJournaled S.certificate_bytes given self.old.core
             → OnOk result (IsShort self.new.plan.options.long_record self.new.core.member.facts) }
         ensures due_work { OnOk result (KeepsApplicationWork self.old self.new) }
-        ensures provenance { OnOk result (IsCausedWithoutInput D.eq L.elect D.bytes S.certificate_bytes now self.old self.new) }
+        ensures provenance { OnOk result
+            (IsCausedWithoutInput D.eq L.elect D.bytes S.certificate_bytes now self.old self.new) }
     {
         for _ in 0..u64::MAX {
             self.run_all(now)?;
@@ -99,15 +103,17 @@ impl<S: Assembly<D>, L: Elector<S>, D: Digest> Engine<S, L, D> {
         ensures member { self.new.core.member ≡ self.old.core.member }
         ensures plan { self.new.plan ≡ self.old.plan }
         ensures short { (given : _) → IsJournaled S.certificate_bytes given self.old.core
-            → IfOk result (λ short. IsTrue short → IsShort self.new.plan.options.long_record self.new.core.member.facts) }
+            → IfOk result (λ short. IsTrue short
+            → IsShort self.new.plan.options.long_record self.new.core.member.facts) }
         ensures due_work { OnOk result (KeepsApplicationWork self.old self.new) }
-        ensures provenance { OnOk result ((now : ℕ) → IsCausedWithoutInput D.eq L.elect D.bytes S.certificate_bytes now self.old self.new) }
+        ensures provenance { OnOk result
+            ((now : ℕ) → IsCausedWithoutInput D.eq L.elect D.bytes S.certificate_bytes now self.old self.new) }
     {
         self.core.store()?;
         Ok(!self.core.is_record_too_long(self.plan.long_record()))
     }
 
-    /// Lets go what is held of views that are not kept, and queues what the record has grown by.
+    /// Drops what is stored of views that are not retained, and queues the new entries of the record.
     fn settle(&mut self) -> Result<(), Fault>
         ensures alone { ContinuesWithPruning D.eq L.elect S.certificate_bytes S.IsSignature self.old self.new }
         ensures member { self.new.core.member ≡ self.old.core.member }
@@ -117,7 +123,8 @@ impl<S: Assembly<D>, L: Elector<S>, D: Digest> Engine<S, L, D> {
         ensures lowest { OnOk result (HoldsFromKept self.new.core self.new.batcher) }
         ensures lacking { OnOk result (FetchesItsMissing self.new.core self.new.plan.repair) }
         ensures due_work { OnOk result (KeepsApplicationWork self.old self.new) }
-        ensures provenance { OnOk result ((now : ℕ) → IsCausedWithPruning D.eq L.elect D.bytes S.certificate_bytes now self.old self.new) }
+        ensures provenance { OnOk result
+            ((now : ℕ) → IsCausedWithPruning D.eq L.elect D.bytes S.certificate_bytes now self.old self.new) }
     {
         self.drop_unretained()?;
         self.core.store()?;
@@ -131,7 +138,8 @@ impl<S: Assembly<D>, L: Elector<S>, D: Digest> Engine<S, L, D> {
         ensures idle { OnOk result (IsIdle now self.new.plan) }
         ensures ahead { OnOk result (BuildsAhead self.new.core self.new.plan) }
         ensures due_work { OnOk result (KeepsApplicationWork self.old self.new) }
-        ensures provenance { OnOk result (IsCausedWithoutInput D.eq L.elect D.bytes S.certificate_bytes now self.old self.new) }
+        ensures provenance { OnOk result
+            (IsCausedWithoutInput D.eq L.elect D.bytes S.certificate_bytes now self.old self.new) }
     {
         for _ in 0..u64::MAX {
             if self.run_and_ask(now)? {
@@ -141,14 +149,16 @@ impl<S: Assembly<D>, L: Elector<S>, D: Digest> Engine<S, L, D> {
         Err(Fault::Failed)
     }
 
-    /// Takes steps until none is due, then asks once for work, blocks and votes. Returns whether nothing new came of it.
+    /// Takes steps until none is due, then asks once for work, blocks and votes. Returns whether that brought nothing new.
     fn run_and_ask(&mut self, now: u64) -> Result<bool, Fault>
         ensures alone { ContinuesWithoutInput D.eq L.elect S.certificate_bytes S.IsSignature self.old self.new }
-        ensures quiet { IfOk result (λ settled. IsTrue settled → HasNothingNew D.eq L.elect self.new.core.member.facts) }
+        ensures quiet { IfOk result
+            (λ settled. IsTrue settled → HasNothingNew D.eq L.elect self.new.core.member.facts) }
         ensures idle { IfOk result (λ settled. IsTrue settled → IsIdle now self.new.plan) }
         ensures ahead { IfOk result (λ settled. IsTrue settled → BuildsAhead self.new.core self.new.plan) }
         ensures due_work { OnOk result (KeepsApplicationWork self.old self.new) }
-        ensures provenance { OnOk result (IsCausedWithoutInput D.eq L.elect D.bytes S.certificate_bytes now self.old self.new) }
+        ensures provenance { OnOk result
+            (IsCausedWithoutInput D.eq L.elect D.bytes S.certificate_bytes now self.old self.new) }
     {
         self.run(now)?;
         if !self.ask_for_work(now)? {
@@ -163,7 +173,7 @@ impl<S: Assembly<D>, L: Elector<S>, D: Digest> Engine<S, L, D> {
         self.plan_due_votes()
     }
 
-    /// Whether no block is to be built of a view below the current one.
+    /// Returns whether no block is to be built of a view below the current one.
     fn builds_ahead(&self) -> bool
         ensures { IsTrue result → BuildsAhead self.now.core self.now.plan }
     {
@@ -173,11 +183,12 @@ impl<S: Assembly<D>, L: Elector<S>, D: Digest> Engine<S, L, D> {
         }
     }
 
-    /// Takes steps until none is due. A run that had no end would be one of 2^64 steps.
+    /// Takes steps until none is due. It fails after 2^64 steps.
     fn run(&mut self, now: u64) -> Result<(), Fault>
         ensures alone { ContinuesWithoutInput D.eq L.elect S.certificate_bytes S.IsSignature self.old self.new }
         ensures due_work { OnOk result (KeepsApplicationWork self.old self.new) }
-        ensures provenance { OnOk result (IsCausedWithoutInput D.eq L.elect D.bytes S.certificate_bytes now self.old self.new) }
+        ensures provenance { OnOk result
+            (IsCausedWithoutInput D.eq L.elect D.bytes S.certificate_bytes now self.old self.new) }
     {
         for _ in 0..u64::MAX {
             if !self.step(now)? {
@@ -187,11 +198,12 @@ impl<S: Assembly<D>, L: Elector<S>, D: Digest> Engine<S, L, D> {
         Err(Fault::Failed)
     }
 
-    /// Takes the next step, where one is due.
+    /// Takes the next step, if one is due. Returns whether one was.
     fn step(&mut self, now: u64) -> Result<bool, Fault>
         ensures alone { ContinuesWithoutInput D.eq L.elect S.certificate_bytes S.IsSignature self.old self.new }
         ensures due_work { OnOk result (KeepsApplicationWork self.old self.new) }
-        ensures provenance { OnOk result (IsCausedWithoutInput D.eq L.elect D.bytes S.certificate_bytes now self.old self.new) }
+        ensures provenance { OnOk result
+            (IsCausedWithoutInput D.eq L.elect D.bytes S.certificate_bytes now self.old self.new) }
     {
         match self.plan.next(now)? {
             Some(step) => self.take_step(step, now),
@@ -203,7 +215,8 @@ impl<S: Assembly<D>, L: Elector<S>, D: Digest> Engine<S, L, D> {
     fn take_step(&mut self, step: Step<S, D>, now: u64) -> Result<bool, Fault>
         ensures alone { ContinuesWithoutInput D.eq L.elect S.certificate_bytes S.IsSignature self.old self.new }
         ensures due_work { OnOk result (KeepsTaken (work_planned (step ∷ [])) self.old self.new) }
-        ensures provenance { OnOk result (IsCausedWith D.eq L.elect D.bytes S.certificate_bytes now (of_step step) self.old self.new) }
+        ensures provenance { OnOk result
+            (IsCausedWith D.eq L.elect D.bytes S.certificate_bytes now (of_step step) self.old self.new) }
     {
         match step {
             Step::Ask(task) => taken(self.ask_planned(task, now)),
@@ -214,12 +227,13 @@ impl<S: Assembly<D>, L: Elector<S>, D: Digest> Engine<S, L, D> {
         }
     }
 
-    /// Makes a planned call of the member. No verdict is planned; one would be ignored: the offer that it is on may be closed by now.
+    /// Makes a planned call of the member. No verdict is planned; one would be ignored, since its offer may be closed by now.
     fn ask_planned(&mut self, task: Task<D>, now: u64) -> Result<bool, Fault>
         ensures continues { Continues D.eq L.elect S.certificate_bytes S.IsSignature None self.old.core self.new.core }
         ensures batcher { self.new.batcher ≡ self.old.batcher }
         ensures due_work { OnOk result (KeepsApplicationWork self.old self.new) }
-        ensures provenance { OnOk result (IsCausedWith D.eq L.elect D.bytes S.certificate_bytes now (of_task task) self.old self.new) }
+        ensures provenance { OnOk result
+            (IsCausedWith D.eq L.elect D.bytes S.certificate_bytes now (of_task task) self.old self.new) }
     {
         if is_verdict(&task) {
             return Ok(false);
@@ -227,11 +241,12 @@ impl<S: Assembly<D>, L: Elector<S>, D: Digest> Engine<S, L, D> {
         self.ask(task, now)
     }
 
-    /// Sends the newest vote to nullify once more, where it is one of the view.
+    /// Sends the newest vote to nullify once more, if it is one of the view.
     fn repeat(&mut self, view: View) -> Result<bool, Fault>
         ensures alone { ContinuesWithoutInput D.eq L.elect S.certificate_bytes S.IsSignature self.old self.new }
         ensures due_work { OnOk result (KeepsApplicationWork self.old self.new) }
-        ensures provenance { OnOk result ((now : ℕ) → IsCausedWithoutInput D.eq L.elect D.bytes S.certificate_bytes now self.old self.new) }
+        ensures provenance { OnOk result
+            ((now : ℕ) → IsCausedWithoutInput D.eq L.elect D.bytes S.certificate_bytes now self.old self.new) }
     {
         self.core.repeat(view)?;
         Ok(true)
@@ -241,13 +256,14 @@ impl<S: Assembly<D>, L: Elector<S>, D: Digest> Engine<S, L, D> {
     fn push(&mut self, work: Work<S, D>) -> Result<bool, Fault>
         ensures alone { ContinuesWithoutInput D.eq L.elect S.certificate_bytes S.IsSignature self.old self.new }
         ensures due_work { OnOk result (KeepsTaken (work ∷ []) self.old self.new) }
-        ensures provenance { OnOk result ((now : ℕ) → IsCausedWith D.eq L.elect D.bytes S.certificate_bytes now (of_work work) self.old self.new) }
+        ensures provenance { OnOk result
+            ((now : ℕ) → IsCausedWith D.eq L.elect D.bytes S.certificate_bytes now (of_work work) self.old self.new) }
     {
         self.core.push(work)?;
         Ok(true)
     }
 
-    /// Lets go what is held of views that are not kept: votes here and elsewhere; and fetches of what is not lacking.
+    /// Drops what is stored of views that are not retained: votes here and elsewhere, and fetches of certificates that are not missing.
     fn drop_unretained(&mut self) -> Result<(), Fault>
         ensures alone { ContinuesWithPruning D.eq L.elect S.certificate_bytes S.IsSignature self.old self.new }
         ensures member { self.new.core.member ≡ self.old.core.member }
@@ -256,7 +272,8 @@ impl<S: Assembly<D>, L: Elector<S>, D: Digest> Engine<S, L, D> {
         ensures lowest { OnOk result (HoldsFromKept self.new.core self.new.batcher) }
         ensures lacking { OnOk result (FetchesItsMissing self.new.core self.new.plan.repair) }
         ensures due_work { OnOk result (KeepsApplicationWork self.old self.new) }
-        ensures provenance { OnOk result ((now : ℕ) → IsCausedWithPruning D.eq L.elect D.bytes S.certificate_bytes now self.old self.new) }
+        ensures provenance { OnOk result
+            ((now : ℕ) → IsCausedWithPruning D.eq L.elect D.bytes S.certificate_bytes now self.old self.new) }
     {
         let lowest = self.lowest_retained()?;
         self.report_forgotten(lowest)?;
@@ -264,7 +281,7 @@ impl<S: Assembly<D>, L: Elector<S>, D: Digest> Engine<S, L, D> {
         self.drop_final_fetches()
     }
 
-    /// From which view on what is held is kept. A member that has failed since found no memory.
+    /// Returns the lowest retained view. Returns `OutOfMemory` if the member has failed.
     fn lowest_retained(&self) -> Result<View, Fault>
         ensures lowest { IfOk result (λ lowest. IfSome self.now.core.member.facts.life (λ x. min_active x ≡ lowest)) }
         ensures alive { IfOk result (λ lowest. option_map min_active self.now.core.member.facts.life ≡ Some lowest) }
@@ -275,7 +292,7 @@ impl<S: Assembly<D>, L: Elector<S>, D: Digest> Engine<S, L, D> {
         }
     }
 
-    /// Closes the fetches of what the member's state does not lack.
+    /// Closes the fetches of certificates that the member's state is not missing.
     fn drop_final_fetches(&mut self) -> Result<(), Fault>
         ensures core { self.new.core ≡ self.old.core }
         ensures batcher { self.new.batcher ≡ self.old.batcher }
@@ -284,7 +301,8 @@ impl<S: Assembly<D>, L: Elector<S>, D: Digest> Engine<S, L, D> {
         ensures lacking { OnOk result (FetchesItsMissing self.new.core self.new.plan.repair) }
         ensures planned { KeepsPlanned self.old.plan self.new.plan }
         ensures causes { AreAmong (planned_causes self.new.plan) (planned_causes self.old.plan) }
-        ensures asks { OnOk result (KeepsFetching [] (λ kind view. held_by self.new kind view || is_final self.new.core.member.facts view)
+        ensures asks { OnOk result
+            (KeepsFetching [] (λ kind view. held_by self.new kind view || is_final self.new.core.member.facts view)
             [] self.old.plan self.new.plan) }
     {
         match self.core.state() {
@@ -293,13 +311,15 @@ impl<S: Assembly<D>, L: Elector<S>, D: Digest> Engine<S, L, D> {
         }
     }
 
-    /// Others are told that the views below may be forgotten, where more may than before.
+    /// Queues `Work::Forget` for the views below, if more may be forgotten than before.
     fn report_forgotten(&mut self, lowest: View) -> Result<(), Fault>
         ensures alone { ContinuesWithoutInput D.eq L.elect S.certificate_bytes S.IsSignature self.old self.new }
         ensures member { self.new.core.member ≡ self.old.core.member }
         ensures plan { self.new.plan ≡ self.old.plan }
         ensures due_work { OnOk result (KeepsApplicationWork self.old self.new) }
-        ensures provenance { OnOk result ((now : ℕ) → IsCausedWith D.eq L.elect D.bytes S.certificate_bytes now (of_work (work.Forget lowest)) self.old self.new) }
+        ensures provenance { OnOk result
+            ((now : ℕ) → IsCausedWith D.eq L.elect D.bytes S.certificate_bytes now (of_work (work.Forget lowest))
+            self.old self.new) }
     {
         if lowest <= self.forgotten {
             return Ok(());
@@ -309,12 +329,13 @@ impl<S: Assembly<D>, L: Elector<S>, D: Digest> Engine<S, L, D> {
         Ok(())
     }
 
-    /// Prunes the record. The member drops the views that are over first: the entries of a view stay as long as it is tracked, and at
-    /// the begin of a life all views of the record are.
+    /// Prunes the record. The member drops the past views first: the entries of a view stay as long as it is tracked, and at the start of a
+    /// lifetime all views of the record are.
     fn prune_record(&mut self, now: u64) -> Result<(), Fault>
         ensures alone { ContinuesWithoutInput D.eq L.elect S.certificate_bytes S.IsSignature self.old self.new }
         ensures due_work { OnOk result (KeepsApplicationWork self.old self.new) }
-        ensures provenance { OnOk result (IsCausedWithoutInput D.eq L.elect D.bytes S.certificate_bytes now self.old self.new) }
+        ensures provenance { OnOk result
+            (IsCausedWithoutInput D.eq L.elect D.bytes S.certificate_bytes now self.old self.new) }
     {
         self.ask(Task::Prune, now)?;
         self.core.prune_record()?;
@@ -329,7 +350,7 @@ fn is_verdict<D: Digest>(task: &Task<D>) -> bool
     matches!(task, Task::Certified(_, _))
 }
 
-/// A step was taken, whatever came of it, unless it has failed.
+/// Returns true for a step that was taken, whatever its result, unless it has failed.
 fn taken<T: Drop>(answer: Result<T, Fault>) -> Result<bool, Fault>
     ensures { IsOk result → IsOk answer }
 {

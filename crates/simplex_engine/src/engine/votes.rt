@@ -1,5 +1,5 @@
-//! Votes and certificates that came in.
-#![tactic(auto, using(engine_outbox::proofs::Going::stays, engine_outbox::proofs::Going::goes_further, crate::proofs::Backing::takes_nothing, crate::proofs::Backing::takes_no_more, crate::proofs::Backing::takes_anyway))]
+//! Votes and certificates that are passed in.
+#![tactic(auto, using(engine_outbox::proofs::Continuity::stays, engine_outbox::proofs::Continuity::goes_further, crate::proofs::CertificateVotes::takes_nothing, crate::proofs::CertificateVotes::takes_no_more, crate::proofs::CertificateVotes::takes_anyway))]
 
 ghost use Rattle.std.specs.Prelude.{◌≡◌, [], ◌∷◌, ◌++◌, None, Some, IfOk, OnOk, IsTrue, not, false, ◌==◌, Ok, IsFalse};
 ghost use Rattle.simplex_types.specs.Certificates.{certificate_facts};
@@ -35,7 +35,7 @@ impl<S: Assembly<D>, L: Elector<S>, D: Digest> Engine<S, L, D> {
     ghost use Rattle.simplex_engine.specs.declared.input.Input.TheVariants as input;
     ghost use Rattle.simplex_engine.specs.Admission.{is_so};
 
-    /// Whether votes of the round are taken. One of another epoch is not: an old vote, sent again, would stand in the place of this
+    /// Returns whether votes of the round are taken. A vote of another epoch is not: an old vote, sent again, would take the place of this
     /// epoch's, and show a contradiction that its signer never signed.
     fn admits_votes(&self, round: Round) -> bool
         ensures { result ≡ is_so (λ x. admits_votes x round) self.now.core.member.facts }
@@ -46,9 +46,10 @@ impl<S: Assembly<D>, L: Elector<S>, D: Digest> Engine<S, L, D> {
         }
     }
 
-    /// Counts a vote whose round takes votes.
+    /// Counts a vote if its round takes votes.
     pub(super) fn count(&mut self, vote: Vote<D, S::Signature>, now: u64) -> Result<bool, Fault>
-        ensures { IsInputTaken D.eq L.elect D.bytes S.certificate_bytes S.IsSignature S.IsMadeOf S.participants now (input.Vote vote)
+        ensures { IsInputTaken D.eq L.elect D.bytes S.certificate_bytes S.IsSignature S.IsMadeOf S.participants now
+            (input.Vote vote)
             self.old self.old self.new result }
     {
         if !self.admits_votes(round_of(&vote.subject)) {
@@ -57,10 +58,11 @@ impl<S: Assembly<D>, L: Elector<S>, D: Digest> Engine<S, L, D> {
         self.count_admitted(vote, now)
     }
 
-    /// Counts a vote whose round takes votes, and takes the certificate that it completes.
+    /// Counts a vote whose round takes votes, and passes the certificate that it completes to the member.
     fn count_admitted(&mut self, vote: Vote<D, S::Signature>, now: u64) -> Result<bool, Fault>
         requires { IsTrue (is_so (λ x. admits_votes x (subject_round vote.subject)) self.old.core.member.facts) }
-        ensures { IsInputTaken D.eq L.elect D.bytes S.certificate_bytes S.IsSignature S.IsMadeOf S.participants now (input.Vote vote)
+        ensures { IsInputTaken D.eq L.elect D.bytes S.certificate_bytes S.IsSignature S.IsMadeOf S.participants now
+            (input.Vote vote)
             self.old self.old self.new result }
     {
         match self.batcher.count(vote, true) {
@@ -69,14 +71,18 @@ impl<S: Assembly<D>, L: Elector<S>, D: Digest> Engine<S, L, D> {
         }
     }
 
-    /// Follows what a vote came to. Whether that was of use.
+    /// Follows the result of counting a vote. Returns false if the vote was ignored.
     fn follow_counted(&mut self, counted: Counted<S, D>, now: u64) -> Result<bool, Fault>
-        ensures continues { Continues D.eq L.elect S.certificate_bytes S.IsSignature (subject_made S.certificate_bytes counted) self.old.core self.new.core }
+        ensures continues { Continues D.eq L.elect S.certificate_bytes S.IsSignature
+            (subject_made S.certificate_bytes counted) self.old.core self.new.core }
         ensures batcher { self.new.batcher ≡ self.old.batcher }
-        ensures followed { IfOk result (IsCountFollowed D.eq L.elect S.certificate_bytes now counted self.old.plan.steps.items
+        ensures followed { IfOk result
+            (IsCountFollowed D.eq L.elect S.certificate_bytes now counted self.old.plan.steps.items
             self.old.core.member.facts self.new.plan.steps.items self.new.core.member.facts) }
         ensures due_work { OnOk result (KeepsApplicationWork self.old self.new) }
-        ensures provenance { OnOk result (IsCausedWith D.eq L.elect D.bytes S.certificate_bytes now (of_counted S.certificate_bytes counted) self.old self.new) }
+        ensures provenance { OnOk result
+            (IsCausedWith D.eq L.elect D.bytes S.certificate_bytes now (of_counted S.certificate_bytes counted)
+            self.old self.new) }
     {
         match counted {
             Counted::Certified(certificate) => match self.accept(&certificate, now) {
@@ -92,23 +98,29 @@ impl<S: Assembly<D>, L: Elector<S>, D: Digest> Engine<S, L, D> {
         }
     }
 
-    /// Hands a certificate in, where it is admitted.
+    /// Passes a certificate to the member if it is admitted.
     pub(super) fn accept(
         &mut self,
         certificate: &Certificate<S, D>,
         now: u64,
     ) -> Result<bool, Fault>
         ensures continues { Continues D.eq L.elect S.certificate_bytes S.IsSignature
-            (Some (certificate_subject (certificate_facts S.certificate_bytes certificate.now))) self.old.core self.new.core }
+            (Some (certificate_subject (certificate_facts S.certificate_bytes certificate.now)))
+            self.old.core self.new.core }
         ensures votes { TakesNone self.old.batcher self.new.batcher }
         ensures batcher { self.new.batcher ≡ self.old.batcher }
-        ensures dropped { IfOk result (λ is_of_use. IsFalse is_of_use → self.new.core.member.facts ≡ self.old.core.member.facts) }
-        ensures unadmitted { IsFalse (is_so (λ x. admits x (certificate_facts S.certificate_bytes certificate.now)) self.old.core.member.facts)
+        ensures dropped { IfOk result
+            (λ is_of_use. IsFalse is_of_use → self.new.core.member.facts ≡ self.old.core.member.facts) }
+        ensures unadmitted { IsFalse
+            (is_so (λ x. admits x (certificate_facts S.certificate_bytes certificate.now)) self.old.core.member.facts)
             → (result ≡ Ok false) × (self.new ≡ self.old) }
-        ensures acted { IsTrue (is_so (λ x. admits x (certificate_facts S.certificate_bytes certificate.now)) self.old.core.member.facts) → IfOk result
-            (IsSubmitted D.eq L.elect S.certificate_bytes now certificate.now self.old.core.member.facts self.new.core.member.facts) }
+        ensures acted { IsTrue (is_so (λ x. admits x (certificate_facts S.certificate_bytes certificate.now))
+            self.old.core.member.facts) → IfOk result
+            (IsSubmitted D.eq L.elect S.certificate_bytes now certificate.now self.old.core.member.facts
+            self.new.core.member.facts) }
         ensures due_work { OnOk result (KeepsApplicationWork self.old self.new) }
-        ensures provenance { OnOk result (IsCausedWith D.eq L.elect D.bytes S.certificate_bytes now (Quorum (certificate_subject
+        ensures provenance { OnOk result
+            (IsCausedWith D.eq L.elect D.bytes S.certificate_bytes now (Quorum (certificate_subject
             (certificate_facts S.certificate_bytes certificate.now)) ∷ []) self.old self.new) }
     {
         if !self.admits(certificate) {
@@ -119,9 +131,10 @@ impl<S: Assembly<D>, L: Elector<S>, D: Digest> Engine<S, L, D> {
         self.follow_certificate(certificate, &reply, now)
     }
 
-    /// Whether the certificate is admitted. One of a kind and view that has its certificate is not: it would change nothing.
+    /// Returns whether the certificate is admitted. A second certificate of a kind and view is not: it would change nothing.
     fn admits(&self, certificate: &Certificate<S, D>) -> bool
-        ensures { result ≡ is_so (λ x. admits x (certificate_facts S.certificate_bytes certificate.now)) self.now.core.member.facts }
+        ensures { result ≡ is_so (λ x. admits x (certificate_facts S.certificate_bytes certificate.now))
+            self.now.core.member.facts }
     {
         match self.core.state() {
             Some(state) => takes(state, certificate),
@@ -129,7 +142,7 @@ impl<S: Assembly<D>, L: Elector<S>, D: Digest> Engine<S, L, D> {
         }
     }
 
-    /// Follows the answer to a certificate. Whether it was not refused.
+    /// Follows the reply to a certificate. Returns whether the certificate was not refused.
     fn follow_certificate(
         &mut self,
         certificate: &Certificate<S, D>,
@@ -143,10 +156,14 @@ impl<S: Assembly<D>, L: Elector<S>, D: Digest> Engine<S, L, D> {
         ensures planned { OnOk result (KeepsPlannedThen self.old.plan self.new.plan) }
         ensures seen { OnOk result (TracksViews self.new.core.member.facts self.new.plan) }
         ensures causes { OnOk result (AreAmong (planned_causes self.new.plan)
-            (planned_causes self.old.plan ++ reply_causes now reply.now (certificate_call (certificate_facts S.certificate_bytes certificate.now) now))) }
+            (planned_causes self.old.plan
+            ++ reply_causes now reply.now
+            (certificate_call (certificate_facts S.certificate_bytes certificate.now) now))) }
         ensures asks { IsTrue (is_plain reply.now) → OnOk result (KeepsFetching (reply_causes now reply.now
-            (certificate_call (certificate_facts S.certificate_bytes certificate.now) now)) (λ kind view. is_final self.new.core.member.facts view)
-            (received_by D.bytes S.certificate_bytes reply.now (certificate_call (certificate_facts S.certificate_bytes certificate.now) now))
+            (certificate_call (certificate_facts S.certificate_bytes certificate.now) now))
+            (λ kind view. is_final self.new.core.member.facts view)
+            (received_by D.bytes S.certificate_bytes reply.now
+            (certificate_call (certificate_facts S.certificate_bytes certificate.now) now))
             self.old.plan self.new.plan) }
     {
         let is_of_use = !is_refused(reply);
@@ -156,7 +173,7 @@ impl<S: Assembly<D>, L: Elector<S>, D: Digest> Engine<S, L, D> {
     }
 }
 
-/// Whether votes of the round are taken.
+/// Returns whether votes of the round are taken.
 pub(super) fn takes_votes<S: Scheme<D>, L: Elector<S>, D: Digest>(
     state: &State<S, L, D>,
     round: Round,
@@ -166,7 +183,7 @@ pub(super) fn takes_votes<S: Scheme<D>, L: Elector<S>, D: Digest>(
     state.epoch() == round.epoch && state.admits_vote(round.view)
 }
 
-/// Whether a call is refused, and not for want of memory.
+/// Returns whether a call is refused, and not because of memory.
 fn is_refused<S: CertificateScheme, D: Digest>(reply: &Reply<S, D>) -> bool
     ensures { result ≡ is_refused (told S.certificate_bytes reply.now) }
 {
@@ -177,7 +194,7 @@ fn is_refused<S: CertificateScheme, D: Digest>(reply: &Reply<S, D>) -> bool
     }
 }
 
-/// Whether the certificate is taken, and would be the first of its kind and view.
+/// Returns whether the certificate is taken, and would be the first of its kind and view.
 fn takes<S: Scheme<D>, L: Elector<S>, D: Digest>(
     state: &State<S, L, D>,
     certificate: &Certificate<S, D>,

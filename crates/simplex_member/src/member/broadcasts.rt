@@ -1,4 +1,4 @@
-//! The calls of a member that hand out certificates, each over its state.
+//! The calls of a member that return certificates for broadcast, each over its state.
 
 ghost use Rattle.std.specs.Prelude.{◌≡◌, true, false, IfOk, IfErr, OnOk, is_some, option_map};
 ghost use Rattle.simplex_types.specs.Certificates.{certificate_facts, Notarized, Nullified, Finalized};
@@ -9,7 +9,7 @@ ghost use Rattle.simplex_member.specs.PartialFailures.{Ends};
 use simplex_types::types::{Certificate, CertificateScheme, Digest, Elector, Fault, View};
 use simplex_voter::voter::State;
 
-/// Hands out a view's notarization, once. The state is lost where there is no memory for a copy.
+/// Returns a view's notarization, once. If there is no memory for a copy, the state is lost.
 pub(super) fn broadcast_notarization<S: CertificateScheme, L: Elector<S>, D: Digest>(
     state: &mut State<S, L, D>,
     view: View,
@@ -19,7 +19,8 @@ pub(super) fn broadcast_notarization<S: CertificateScheme, L: Elector<S>, D: Dig
     ensures answer { IfOk result (λ c. option_map (certificate_facts S.certificate_bytes) c
         ≡ option_map Notarized (broadcast_notarization_answer state.old view)) }
     ensures after { OnOk result (state.new ≡ after_broadcast_notarization state.old view) }
-    ensures refused { IfErr result (Ends (is_some (broadcast_notarization_answer state.old view)) (plain_refusal state.old) state.old state.new) }
+    ensures refused { IfErr result
+        (Ends (is_some (broadcast_notarization_answer state.old view)) (plain_refusal state.old) state.old state.new) }
 {
     match state.broadcast_notarization(view) {
         Ok(Some(notarization)) => Ok(Some(Certificate::Notarization(notarization))),
@@ -28,7 +29,7 @@ pub(super) fn broadcast_notarization<S: CertificateScheme, L: Elector<S>, D: Dig
     }
 }
 
-/// Hands out a view's nullification, once. The state is lost where there is no memory for a copy.
+/// Returns a view's nullification, once. If there is no memory for a copy, the state is lost.
 pub(super) fn broadcast_nullification<S: CertificateScheme, L: Elector<S>, D: Digest>(
     state: &mut State<S, L, D>,
     view: View,
@@ -38,7 +39,8 @@ pub(super) fn broadcast_nullification<S: CertificateScheme, L: Elector<S>, D: Di
     ensures answer { IfOk result (λ c. option_map (certificate_facts S.certificate_bytes) c
         ≡ option_map Nullified (broadcast_nullification_answer state.old view)) }
     ensures after { OnOk result (state.new ≡ after_broadcast_nullification state.old view) }
-    ensures refused { IfErr result (Ends (is_some (broadcast_nullification_answer state.old view)) (plain_refusal state.old) state.old state.new) }
+    ensures refused { IfErr result
+        (Ends (is_some (broadcast_nullification_answer state.old view)) (plain_refusal state.old) state.old state.new) }
 {
     match state.broadcast_nullification(view) {
         Ok(Some(nullification)) => Ok(Some(Certificate::Nullification(nullification))),
@@ -47,7 +49,7 @@ pub(super) fn broadcast_nullification<S: CertificateScheme, L: Elector<S>, D: Di
     }
 }
 
-/// Hands out a view's finalization, once. The state is lost where there is no memory for a copy.
+/// Returns a view's finalization, once. If there is no memory for a copy, the state is lost.
 pub(super) fn broadcast_finalization<S: CertificateScheme, L: Elector<S>, D: Digest>(
     state: &mut State<S, L, D>,
     view: View,
@@ -57,7 +59,8 @@ pub(super) fn broadcast_finalization<S: CertificateScheme, L: Elector<S>, D: Dig
     ensures answer { IfOk result (λ c. option_map (certificate_facts S.certificate_bytes) c
         ≡ option_map Finalized (broadcast_finalization_answer state.old view)) }
     ensures after { OnOk result (state.new ≡ after_broadcast_finalization state.old view) }
-    ensures refused { IfErr result (Ends (is_some (broadcast_finalization_answer state.old view)) (plain_refusal state.old) state.old state.new) }
+    ensures refused { IfErr result
+        (Ends (is_some (broadcast_finalization_answer state.old view)) (plain_refusal state.old) state.old state.new) }
 {
     match state.broadcast_finalization(view) {
         Ok(Some(finalization)) => Ok(Some(Certificate::Finalization(finalization))),

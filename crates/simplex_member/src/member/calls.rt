@@ -1,4 +1,4 @@
-//! What is asked of a member, and what it answers.
+//! The calls of a member, and their replies.
 
 ghost use Rattle.std.specs.Prelude.{◌≡◌};
 ghost use Rattle.simplex_member.specs.Calls.{told};
@@ -22,37 +22,37 @@ use simplex_voter::voter::{CertificateFetch, ProposalRequest, Verify};
 
 /// A call of the voter's state, with its arguments. Moments are in milliseconds.
 ///
-/// Where the state takes a context, a call names its view: the context that is open there is the one of the last request to
-/// build in that view.
+/// A method of the state may take a context; its call names the view instead: the open context there is that of the last
+/// request to build in that view.
 #[derive(Drop)]
 pub enum Call<S: CertificateScheme, D> {
     AddNotarization(Notarization<S, D>),
     AddNullification(Nullification<S>, u64),
     AddFinalization(Finalization<S, D>, u64),
-    /// A proposal of the view's leader.
+    /// Passes a proposal of the view's leader.
     SetProposal(View, Proposal<D>),
-    /// What this member is to build next.
+    /// Asks what this member must build next.
     TryPropose,
-    /// The payload that was built on request in the view.
+    /// Passes the payload that was built on request in the view.
     Proposed(View, D, u64),
-    /// Whether the request to build in the view is to be replaced by another.
+    /// Asks whether the request to build in the view must be replaced by another.
     SupersedeProposalRequest(View),
-    /// Whether a handoff that is built in the view has to be given up, and why.
+    /// Asks whether a handoff that is being built in the view must be abandoned, and why.
     PendingHandoffAbandonment(View),
-    /// The request to build in the view is given up.
+    /// Abandons the request to build in the view.
     ReleaseProposalRequest(View),
-    /// Which proposal is to be verified next.
+    /// Asks which proposal to verify next.
     TryVerify,
-    /// The view's proposal was found valid.
+    /// Reports that the view's proposal was found valid.
     Verified(View),
-    /// The view's proposal was found invalid, or could not be verified.
+    /// Reports that the view's proposal was found invalid, or could not be verified.
     VerificationFailed(View, TimeoutReason, u64),
     ConstructNotarize(View),
-    /// The proposals that are to be certified next.
+    /// Asks which proposals to certify next.
     CertifyCandidates,
-    /// The certification of the view's proposal goes on under a token.
+    /// Reports that the certification of the view's proposal is under way under a token.
     SetCertifyHandle(View, u64),
-    /// The verdict of a view's certification.
+    /// Reports the verdict of a view's certification.
     Certified(View, bool, u64),
     ConstructNullify(View, TimeoutReason),
     ConstructFinalize(View),
@@ -60,34 +60,34 @@ pub enum Call<S: CertificateScheme, D> {
     BroadcastNullification(View),
     BroadcastFinalization(View),
     GetBestCertificate,
-    /// The view times out for a reason that the state doesn't see by itself.
+    /// Times the view out for a reason that the state doesn't see by itself.
     TriggerTimeout(View, TimeoutReason, u64),
-    /// The next timeout of the current view.
+    /// Asks for the next timeout of the current view.
     NextTimeout(u64),
     Prune,
 }
 
-/// What a call is answered.
+/// The reply to a call.
 #[derive(Drop)]
 pub enum Reply<S: CertificateScheme, D> {
-    /// The call is made.
+    /// The call was made.
     Unit,
-    /// Whether what was handed in is taken.
+    /// The result of `SetProposal`, `Proposed`, `SupersedeProposalRequest` or `Verified`.
     Flag(bool),
-    /// Whether the notarization or finalization was newly added, and the key of a leader that equivocated.
+    /// True if the notarization or finalization was newly added, and the key of a leader that equivocated.
     Added(bool, Option<S::PublicKey>),
-    /// Whether the nullification was newly added.
+    /// True if the nullification was newly added.
     AddedNullification(bool),
-    /// What is to be built.
+    /// The request to build, if there is one.
     Request(Option<ProposalRequest<D, S::PublicKey>>),
-    /// What is to be verified, or to be asked for.
+    /// The proposal to verify, or the certificate to fetch.
     Work(Verify<D, S::PublicKey>),
     /// The proposals to certify, and the notarizations to fetch for others.
     Candidates(Vec<Proposal<D>>, Vec<CertificateFetch>),
     /// The verdict, and the notarization of its view.
     Certified(bool, Option<Notarization<S, D>>),
     Notarize(Option<Notarize<S, D>>),
-    /// The vote, with whether it is a repeat.
+    /// The vote, and whether it is a repeat.
     Nullify(Option<(bool, Nullify<S>)>),
     Finalize(Option<Finalize<S, D>>),
     Certificate(Option<Certificate<S, D>>),
@@ -95,21 +95,21 @@ pub enum Reply<S: CertificateScheme, D> {
     Timeout(u64, TimeoutReason),
     /// The views that were dropped, rising.
     Views(Vec<View>),
-    /// Whether a request to build was open in the view.
+    /// True if a request to build was open in the view.
     Released(bool),
-    /// Whether the timeout is the one that counts from now on.
+    /// True if the timeout is the one that counts from now on.
     Triggered(bool),
-    /// Why a handoff has to be given up, if it has.
+    /// Why a handoff must be abandoned, if it must.
     Abandoned(Option<HandoffAbandonedReason>),
     /// The member was restarted.
     Restarted,
     Fault(Fault),
-    /// The call asks something of its caller that is not so.
+    /// The host must not make this call now.
     NotAllowed,
 }
 
 impl<S: CertificateScheme, D: Digest> Reply<S, D> {
-    /// A call has no answer.
+    /// The reply to a refused call.
     pub(super) fn refused(refusal: Refusal) -> Self
         ensures { told S.certificate_bytes result ≡ told_refused refusal }
     {

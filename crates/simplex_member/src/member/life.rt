@@ -1,4 +1,4 @@
-//! A member: its state, and the record from which a state can be made again.
+//! A member: its state, and the record from which the state can be rebuilt.
 
 ghost use Rattle.std.specs.Prelude.{◌≡◌, ◌++◌, [], None, IfOk, IfErr, IfSome, OnOk, length};
 ghost use Rattle.std.specs.Option.{option_copied};
@@ -12,7 +12,7 @@ use simplex_voter::voter::State;
 use std::alloc::Global;
 use std::marker::Model;
 
-/// What a call is told, by the result of its method.
+/// The reply to a call, from the result of its method.
 macro_rules! told {
     ($result:expr, $answer:pat => $reply:expr) => {
         match $result {
@@ -22,23 +22,24 @@ macro_rules! told {
     };
 }
 
-/// A voter's state with its record, which holds each vote before it is handed out.
+/// A voter's state with its record, which holds each vote before it is returned. A lifetime of a member lasts from its start, a
+/// restart or a resume to the next one.
 ///
-/// A member tests what a call asks of its caller, and answers `NotAllowed` where it is not so. It fails where a call left
-/// its state without memory, or where a vote that was cast could not be recorded; then its record alone is left.
+/// A member tests what a call requires of the host, and returns `NotAllowed` if that does not hold. It fails if a call left
+/// its state without memory, or if a vote that was cast could not be recorded; then only its record remains.
 #[derive(Drop)]
 pub struct Member<S: CertificateScheme, L: Elector<S>, D> {
     pub(super) alloc: Global,
     pub(super) state: Box<State<S, L, D>>,
-    /// What its state handed out and was not told the end of.
+    /// Requests of the state that are still unanswered.
     pub(super) outstanding_work: OutstandingWork<D, S::PublicKey>,
     pub(super) artifacts: Vec<Artifact<S, D>>,
-    /// No drop takes one of the first so many artifacts.
+    /// A drop never removes one of the first `closed` artifacts.
     pub(super) closed: usize,
     pub(super) is_pruned: bool,
-    /// That of the last life; a failed state no longer tells it.
+    /// The retention of the last lifetime: a failed state no longer has it.
     pub(super) retention: ViewDelta,
-    /// The least of all lives.
+    /// The smallest retention of all lifetimes.
     pub(super) least_retention: ViewDelta,
     pub(super) failed: bool,
 }
@@ -83,21 +84,24 @@ impl<S: CertificateScheme, L: Elector<S>, D: Digest> Member<S, L, D> {
     ghost use Rattle.simplex_member.specs.Start.{started_member};
     ghost use Rattle.simplex_types.specs.Config.{floor_facts};
 
-    /// A member that never voted: its state starts at a floor, with nothing in its record but the floor's finalization. A
-    /// member that did vote goes on from its journal by `Member::resume`, or could vote twice in a view.
+    /// Starts a member that never voted: its state starts at a floor, and its record holds only the floor's finalization. A
+    /// member that did vote must continue from its journal by `Member::resume`, or it could vote twice in a view.
     ///
-    /// The elector's members are the scheme's participants. `OtherEpoch`, `ZeroView` or `ViewTooLarge` where the floor's
-    /// finalization is of another epoch or of view 0, or names a view above 2^63 - 1; `TimeOverflow` where a deadline
+    /// The elector's members must be the scheme's participants. Returns `OtherEpoch`, `ZeroView` or `ViewTooLarge` if the
+    /// floor's finalization is of another epoch or of view 0, or names a view above 2^63 - 1; `TimeOverflow` if a deadline
     /// passes 2^64 - 1 milliseconds.
     pub fn start(alloc: Global, start: Start<S, L, D>) -> Result<Member<S, L, D>, RecoverError>
         requires { L.members start.settings.elector ≡ length (S.participants start.settings.scheme) }
         ensures started { IfOk result (λ member. member.facts ≡ started_member D.eq L.elect
-            (set_up S.me S.participants L.terms L.elects_early start.settings) (floor_facts S.certificate_bytes start.floor) start.now) }
+            (set_up S.me S.participants L.terms L.elects_early start.settings)
+            (floor_facts S.certificate_bytes start.floor) start.now) }
         ensures votes { IfOk result (λ member. member.votes ≡ []) }
-        ensures accepted { OnOk result (recover_error D.eq (set_up S.me S.participants L.terms L.elects_early start.settings)
+        ensures accepted { OnOk result
+            (recover_error D.eq (set_up S.me S.participants L.terms L.elects_early start.settings)
             (floor_facts S.certificate_bytes start.floor) start.now [] ≡ None) }
         ensures refused { IfErr result (IsErrorDue (recover_error D.eq
-            (set_up S.me S.participants L.terms L.elects_early start.settings) (floor_facts S.certificate_bytes start.floor) start.now [])) }
+            (set_up S.me S.participants L.terms L.elects_early start.settings)
+            (floor_facts S.certificate_bytes start.floor) start.now [])) }
     {
         let retention = retention_of(&start.settings);
         let (state, finalization) = begin(alloc, start.settings, start.floor, start.now)?;
@@ -116,7 +120,7 @@ impl<S: CertificateScheme, L: Elector<S>, D: Digest> Member<S, L, D> {
         })
     }
 
-    /// The state, while the member has not failed: it has a floor, and has not failed either.
+    /// Returns the state while the member has not failed: it has a floor, and has not failed either.
     pub fn state(&self) -> Option<&State<S, L, D>>
         ensures life { option_copied result ≡ self.now.facts.life }
         ensures started { IfSome result (λ state. (state.now.failed ≡ false) × (is_started state.now ≡ true)) }
@@ -135,7 +139,7 @@ impl<S: CertificateScheme, L: Elector<S>, D: Digest> Member<S, L, D> {
         !self.failed && self.outstanding_work.is_offered(view)
     }
 
-    /// The record, oldest entry first; also of a member that has failed.
+    /// Returns the record, oldest entry first; also of a member that has failed.
     pub fn record(&self) -> &[Artifact<S, D>]
         ensures entries { entries_of S.certificate_bytes result.now ≡ self.now.facts.entries }
         ensures votes { votes_of result.now ≡ self.now.votes }
@@ -143,27 +147,35 @@ impl<S: CertificateScheme, L: Elector<S>, D: Digest> Member<S, L, D> {
         &self.artifacts
     }
 
-    /// Makes a call of the state and records what came of it: a certificate that was newly added, a view's first verdict,
-    /// and a vote with its signature, unless it is a repeat, before it is handed out. Each call is also a method, with an
-    /// answer of its own type.
+    /// Makes a call of the state and records its effect: a certificate that was newly added, a view's first verdict, and a
+    /// vote with its signature, unless it is a repeat, before it is returned. Each call is also a method, with a result of
+    /// its own type.
     ///
-    /// What the state asks to build, to verify or to certify is open until it is answered: a request to build until its
-    /// payload, a true answer that it is to be replaced, or its release; a verification until its answer; an offer until
-    /// its verdict.
+    /// Each request of the state to build, verify or certify is open until it is answered:
+    /// - a request to build until its payload, a true reply that it must be replaced, or its release,
+    /// - a verification until its answer,
+    /// - an offer until its verdict.
     ///
-    /// `NotAllowed`, with nothing changed, where a certificate is of another epoch or of a view that is not kept, or a
-    /// tracked view has no notarization or another verdict; where a proposal is of another epoch or view or of a view that
-    /// is not kept; where no request, verification or offer is open in the view; where the current view has no timeout. Of
-    /// the faults `ViewTooLarge` and `TimeOverflow` change nothing. After `OutOfMemory` nothing has changed, or the member
-    /// has failed, and answers `Failed` from then on.
+    /// Returns `NotAllowed`, with nothing changed, if
+    /// - a certificate is of another epoch or of a view that is not retained,
+    /// - a verdict is of a tracked view that has no notarization or another verdict,
+    /// - a proposal is of another epoch or view or of a view that is not retained,
+    /// - no request, verification or offer is open in the view,
+    /// - the current view has no timeout.
+    ///
+    /// The faults `ViewTooLarge` and `TimeOverflow` change nothing. After `OutOfMemory` nothing has changed, or the member
+    /// has failed, and returns `Failed` from then on.
     pub fn call(&mut self, call: Call<S, D>) -> Reply<S, D>
     where
         S: Scheme<D>,
-        ensures made { IsCall D.eq L.elect self.old.facts (asked S.certificate_bytes call) (told S.certificate_bytes result) self.new.facts }
+        ensures made { IsCall D.eq L.elect self.old.facts (asked S.certificate_bytes call)
+            (told S.certificate_bytes result) self.new.facts }
         ensures of_its_kind { is_reply_to (told S.certificate_bytes result) (asked S.certificate_bytes call) ≡ true }
         ensures answered { IfAnswered (told S.certificate_bytes result)
-            (IsAnswered D.eq L.elect self.old.facts (asked S.certificate_bytes call) (told S.certificate_bytes result) self.new.facts) }
-        ensures kept { IfRefused (told S.certificate_bytes result) (λ refusal. UnchangedButLifetime self.old.facts refusal self.new.facts) }
+            (IsAnswered D.eq L.elect self.old.facts (asked S.certificate_bytes call) (told S.certificate_bytes result)
+            self.new.facts) }
+        ensures kept { IfRefused (told S.certificate_bytes result)
+            (λ refusal. UnchangedButLifetime self.old.facts refusal self.new.facts) }
         ensures grown { HasGrown self.old.facts self.new.facts }
         ensures signed { IfSome self.old.facts.life (IsSignedReply S.IsSignature result) }
         ensures votes { self.new.votes ≡ self.old.votes ++ signed_reply result }
@@ -175,7 +187,8 @@ impl<S: CertificateScheme, L: Elector<S>, D: Digest> Member<S, L, D> {
     fn make(&mut self, call: Call<S, D>) -> Reply<S, D>
     where
         S: Scheme<D>,
-        ensures made { IsCall D.eq L.elect self.old.facts (asked S.certificate_bytes call) (told S.certificate_bytes result) self.new.facts }
+        ensures made { IsCall D.eq L.elect self.old.facts (asked S.certificate_bytes call)
+            (told S.certificate_bytes result) self.new.facts }
         ensures signed { IfSome self.old.facts.life (IsSignedReply S.IsSignature result) }
         ensures votes { self.new.votes ≡ self.old.votes ++ signed_reply result }
     {

@@ -1,4 +1,4 @@
-//! What a member has open of its state's answers.
+//! The requests of a member's state that are still open.
 
 ghost use Rattle.std.specs.Prelude.{◌≡◌, true, OnOk, IfErr, is_some};
 ghost use Rattle.std.specs.Option.{option_copied};
@@ -12,7 +12,7 @@ use simplex_voter::voter::{ProposalRequest, Verify};
 use std::alloc::Global;
 use std::marker::Model;
 
-/// The requests, verifications and offers of a life that wait for their answer, by view.
+/// The requests, verifications and offers of a lifetime that wait for their answer, by view.
 #[derive(Drop)]
 pub struct OutstandingWork<D, P: Copy> {
     contexts: Waiting<Context<D, P>>,
@@ -28,7 +28,11 @@ impl<D, P: Copy> Model for OutstandingWork<D, P> {
     ghost Value = { KeptWork P D };
 
     ghost view = { λ o. record {
-      open_now = record { contexts = o.contexts.entries; verifying = views_of o.verifying.entries; offered = map.keys o.offered };
+      open_now = record {
+        contexts = o.contexts.entries;
+        verifying = views_of o.verifying.entries;
+        offered = map.keys o.offered;
+      };
       has_room = o.contexts.has_room && o.verifying.has_room;
     } };
 }
@@ -48,7 +52,7 @@ impl<D: Digest, P: Copy> OutstandingWork<D, P> {
         }
     }
 
-    /// Makes room for a request and a verification more. Where there is no memory, what is open stays as it is.
+    /// Makes room for one more request and verification. If there is no memory, what is open stays as it is.
     pub(super) fn make_room(&mut self) -> Result<(), Fault>
         ensures same { self.new.open_now ≡ self.old.open_now }
         ensures room { OnOk result (self.new.has_room ≡ true) }
@@ -58,7 +62,7 @@ impl<D: Digest, P: Copy> OutstandingWork<D, P> {
         self.verifying.make_room()
     }
 
-    /// What the request to build in a view was made with.
+    /// The context of the request to build in a view.
     pub(super) fn context(&self, view: View) -> Option<&Context<D, P>>
         ensures { option_copied result ≡ context_at self.now.open_now view }
     {
@@ -71,7 +75,7 @@ impl<D: Digest, P: Copy> OutstandingWork<D, P> {
         self.context(view).is_some()
     }
 
-    /// A request to build replaces an earlier one in its view.
+    /// Opens a request to build, in place of an earlier one in its view.
     pub(super) fn open_request(&mut self, request: &Option<ProposalRequest<D, P>>)
         requires { self.old.has_room ≡ true }
         ensures { self.new.open_now ≡ with_open_request self.old.open_now request.now }
@@ -102,7 +106,7 @@ impl<D: Digest, P: Copy> OutstandingWork<D, P> {
         self.verifying.get(view).is_some()
     }
 
-    /// A proposal that is handed out waits for its answer.
+    /// Opens a verification, if a proposal is returned for one.
     pub(super) fn open_verification(&mut self, verify: &Verify<D, P>)
         requires { self.old.has_room ≡ true }
         ensures { self.new.open_now ≡ with_verification self.old.open_now verify.now }
@@ -125,7 +129,7 @@ impl<D: Digest, P: Copy> OutstandingWork<D, P> {
         self.offered.get(view).is_some()
     }
 
-    /// Each proposal that is offered waits for its verdict.
+    /// Opens each proposal that is offered, until its verdict.
     pub(super) fn open_offers(&mut self, proposals: &[Proposal<D>]) -> Result<(), Fault>
         ensures opened { OnOk result (self.new.open_now ≡ with_offers self.old.open_now proposals.now) }
         ensures refused { IfErr result (λ fault. fault ≡ OutOfMemory) }

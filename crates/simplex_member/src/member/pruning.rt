@@ -1,4 +1,4 @@
-//! How a record is kept short within a life.
+//! Shortening a record within a lifetime.
 
 ghost use Rattle.std.specs.Prelude.{◌≡◌, ◌||◌, nat_le, filter};
 ghost use Rattle.simplex_voter.specs.Facts.{is_tracked};
@@ -15,13 +15,14 @@ use simplex_voter::voter::State;
 impl<S: CertificateScheme, L: Elector<S>, D: Digest> Member<S, L, D> {
     ghost use Rattle.simplex_member.specs.Pruning.{pruned_member, votes_within};
 
-    /// Prunes the record within the life: takes away each entry that a restart would prune, more than this life's retention
-    /// below the highest finalized view of the record, unless the state still tracks the view of the entry; so `prune` comes
-    /// before it. What stays is closed to later drops.
+    /// Prunes the record within the lifetime: removes each entry that a restart would prune, more than this lifetime's
+    /// retention below the highest finalized view of the record, unless the state still tracks the view of the entry; so
+    /// call `prune` first. The remaining entries are closed to later drops.
     ///
-    /// It takes no memory. The state stays as it is, and so does all that is open; a member that has failed tracks no view. It
-    /// counts as a pruning: from then on a restart is refused, with `RetentionGrown`, whose settings keep more views than a life
-    /// before. A journal takes the shorter record and what `stored` answers in one step, in place of all that it held.
+    /// It takes no memory. The state and all open requests stay as they are; a member that has failed tracks no view. It
+    /// counts as a pruning: from then on a restart whose settings retain more views than an earlier lifetime is refused
+    /// with `RetentionGrown`. A journal must store the shorter record and what `stored` returns in one step, in place of
+    /// all that it held.
     pub fn prune_record(&mut self)
         ensures pruned { self.new.facts ≡ pruned_member self.old.facts }
         ensures votes { self.new.votes ≡ votes_within self.old.facts self.old.votes }
@@ -33,7 +34,7 @@ impl<S: CertificateScheme, L: Elector<S>, D: Digest> Member<S, L, D> {
     }
 }
 
-/// Drops the entries below a view, but for those of views that a state tracks which has not failed.
+/// Drops the entries below a view, except those of views that a state tracks which has not failed.
 fn keep_within<S: CertificateScheme, L: Elector<S>, D: Digest>(
     entries: &mut Vec<Artifact<S, D>>,
     state: &State<S, L, D>,
@@ -41,9 +42,11 @@ fn keep_within<S: CertificateScheme, L: Elector<S>, D: Digest>(
     lowest: View,
 )
     ensures left { entries_of S.certificate_bytes entries.new.items ≡ filter
-        (λ e. tracks (living failed state.now) (entry_view e) || nat_le lowest (entry_view e)) (entries_of S.certificate_bytes entries.old.items) }
+        (λ e. tracks (living failed state.now) (entry_view e) || nat_le lowest (entry_view e))
+        (entries_of S.certificate_bytes entries.old.items) }
     ensures votes { votes_of entries.new.items ≡ filter
-        (λ v. tracks (living failed state.now) (entry_view v.vote) || nat_le lowest (entry_view v.vote)) (votes_of entries.old.items) }
+        (λ v. tracks (living failed state.now) (entry_view v.vote) || nat_le lowest (entry_view v.vote))
+        (votes_of entries.old.items) }
 {
     if failed {
         keep_from(entries, lowest);
@@ -52,16 +55,19 @@ fn keep_within<S: CertificateScheme, L: Elector<S>, D: Digest>(
     }
 }
 
-/// Drops the entries below a view, but for those of views that the state tracks: what it records of such a view stands on them.
+/// Drops the entries below a view, except those of views that the state tracks: what it records of such a view depends on
+/// them.
 fn keep_tracked<S: CertificateScheme, L: Elector<S>, D: Digest>(
     entries: &mut Vec<Artifact<S, D>>,
     state: &State<S, L, D>,
     lowest: View,
 )
     ensures left { entries_of S.certificate_bytes entries.new.items ≡ filter
-        (λ e. is_tracked state.now (entry_view e) || nat_le lowest (entry_view e)) (entries_of S.certificate_bytes entries.old.items) }
+        (λ e. is_tracked state.now (entry_view e) || nat_le lowest (entry_view e))
+        (entries_of S.certificate_bytes entries.old.items) }
     ensures votes { votes_of entries.new.items ≡ filter
-        (λ v. is_tracked state.now (entry_view v.vote) || nat_le lowest (entry_view v.vote)) (votes_of entries.old.items) }
+        (λ v. is_tracked state.now (entry_view v.vote) || nat_le lowest (entry_view v.vote))
+        (votes_of entries.old.items) }
 {
     entries.retain(|artifact| {
         let view = artifact.view();

@@ -1,4 +1,4 @@
-//! How what is handed in is recorded, and the calls of a member on certifications, each over its state and its record.
+//! Recording of what is passed in, and the calls of a member on certifications, each over its state and its record.
 
 ghost use Rattle.std.specs.Prelude.{◌≡◌, ◌<◌, ◌++◌, ◌∷◌, [], None, Ok, true, false, IfOk, IfErr, OnOk, OnErr, IsOkUnless, vec_len, vec_capacity, option_map};
 ghost use Rattle.simplex_types.specs.Certificates.{notarization_facts, artifact_facts, Verdict};
@@ -34,7 +34,7 @@ pub(super) fn keep<S: CertificateScheme, D: Digest>(
     }
 }
 
-/// Records an artifact for which there is room, where it is new. It is no vote.
+/// Records an artifact for which there is room, if it is new. It is no vote.
 pub(super) fn store_new<S: CertificateScheme, D: Digest>(
     artifacts: &mut Vec<Artifact<S, D>>,
     is_new: bool,
@@ -42,7 +42,8 @@ pub(super) fn store_new<S: CertificateScheme, D: Digest>(
 )
     requires { vec_len artifacts.old < vec_capacity artifacts.old }
     ensures kept { entries_of S.certificate_bytes artifacts.new.items
-        ≡ entries_of S.certificate_bytes artifacts.old.items ++ if_new is_new (artifact_facts S.certificate_bytes artifact) }
+        ≡ entries_of S.certificate_bytes artifacts.old.items
+        ++ if_new is_new (artifact_facts S.certificate_bytes artifact) }
     ensures same_votes { signed_vote artifact ≡ [] → votes_of artifacts.new.items ≡ votes_of artifacts.old.items }
 {
     if is_new {
@@ -50,7 +51,7 @@ pub(super) fn store_new<S: CertificateScheme, D: Digest>(
     }
 }
 
-/// A copy of what is handed in, with room for it in the record. Where there is none for either, the record is as it was.
+/// A copy of what is passed in, with room for it in the record. If there is no memory for either, the record is unchanged.
 pub(super) fn with_room<S: CertificateScheme, D: Digest, C: Drop>(
     artifacts: &mut Vec<Artifact<S, D>>,
     copy: Result<C, Fault>,
@@ -67,22 +68,22 @@ pub(super) fn with_room<S: CertificateScheme, D: Digest, C: Drop>(
     }
 }
 
-/// Whether the state added a notarization or a finalization.
+/// Returns whether the state added a notarization or a finalization.
 pub(super) fn is_added<K>(made: &Result<(bool, Option<K>), Fault>) -> bool
     ensures { result ≡ is_new (λ added. added.0) made.now }
 {
     matches!(made, Ok((true, _)))
 }
 
-/// Whether the state added a nullification.
+/// Returns whether the state added a nullification.
 pub(super) fn is_nullification_added(made: &Result<bool, Fault>) -> bool
     ensures { result ≡ is_new (λ added. added) made.now }
 {
     matches!(made, Ok(true))
 }
 
-/// Gives a verdict, and records it where it is the first of a tracked view. After `OutOfMemory` the state is lost, and any other
-/// fault changes nothing.
+/// Records a verdict, in the record too if it is the first of a tracked view. After `OutOfMemory` the state is lost; any
+/// other fault changes nothing.
 pub(super) fn certified<S: CertificateScheme, L: Elector<S>, D: Digest>(
     state: &mut State<S, L, D>,
     outstanding_work: &mut OutstandingWork<D, S::PublicKey>,
@@ -95,14 +96,17 @@ pub(super) fn certified<S: CertificateScheme, L: Elector<S>, D: Digest>(
     requires allowed { takes_verdict state.old view success ≡ true }
     requires room { vec_len artifacts.old < vec_capacity artifacts.old }
     ensures due { OnOk result (certified_refusal state.old view success now ≡ None) }
-    ensures answer { IfOk result (λ answer. option_map (notarization_facts S.certificate_bytes) answer ≡ certified_answer state.old view) }
+    ensures answer { IfOk result
+        (λ answer. option_map (notarization_facts S.certificate_bytes) answer ≡ certified_answer state.old view) }
     ensures after { OnOk result (state.new ≡ after_certified L.elect state.old view success now) }
-    ensures recorded { OnOk result (entries_of S.certificate_bytes artifacts.new.items ≡ entries_of S.certificate_bytes artifacts.old.items
+    ensures recorded { OnOk result
+        (entries_of S.certificate_bytes artifacts.new.items ≡ entries_of S.certificate_bytes artifacts.old.items
         ++ if_new (is_first_verdict state.old view) (Verdict (round_number state.old view) success)) }
     ensures closed { OnOk result (outstanding_work.new.open_now ≡ without_offer outstanding_work.old.open_now view) }
     ensures refused { IfErr result (Ends true (certified_refusal state.old view success now) state.old state.new) }
     ensures kept_open { IfErr result (UnchangedUnlessLost outstanding_work.old.open_now outstanding_work.new.open_now) }
-    ensures same_record { OnErr result (entries_of S.certificate_bytes artifacts.new.items ≡ entries_of S.certificate_bytes artifacts.old.items) }
+    ensures same_record { OnErr result
+        (entries_of S.certificate_bytes artifacts.new.items ≡ entries_of S.certificate_bytes artifacts.old.items) }
     ensures same_votes { votes_of artifacts.new.items ≡ votes_of artifacts.old.items }
 {
     let is_first = state.is_first_verdict(view);
@@ -120,16 +124,19 @@ pub(super) fn certified<S: CertificateScheme, L: Elector<S>, D: Digest>(
     }
 }
 
-/// Offers the proposals that are to be certified next. The state is lost where there is no memory for them.
+/// Offers the proposals to certify next. If there is no memory for them, the state is lost.
 pub(super) fn certify_candidates<S: CertificateScheme, L: Elector<S>, D: Digest>(
     state: &mut State<S, L, D>,
     outstanding_work: &mut OutstandingWork<D, S::PublicKey>,
 ) -> Result<(Vec<Proposal<D>>, Vec<CertificateFetch>), Fault>
     requires resumption { state.old.failed ≡ false }
     requires begun { is_started state.old ≡ true }
-    ensures answer { IfOk result (λ answer. (answer.0.items, answer.1.items) ≡ candidates_answer D.eq L.elect state.old) }
+    ensures answer { IfOk result
+        (λ answer. (answer.0.items, answer.1.items) ≡ candidates_answer D.eq L.elect state.old) }
     ensures after { OnOk result (state.new ≡ after_candidates state.old) }
-    ensures opened { OnOk result (outstanding_work.new.open_now ≡ with_offers outstanding_work.old.open_now (candidates_answer D.eq L.elect state.old).0) }
+    ensures opened { OnOk result
+        (outstanding_work.new.open_now ≡ with_offers outstanding_work.old.open_now
+        (candidates_answer D.eq L.elect state.old).0) }
     ensures refused { IfErr result (Ends true (plain_refusal state.old) state.old state.new) }
     ensures kept_open { IfErr result (UnchangedUnlessLost outstanding_work.old.open_now outstanding_work.new.open_now) }
 {

@@ -1,4 +1,4 @@
-//! Why a call of a member has no answer.
+//! Why a call of a member is refused.
 
 ghost use Rattle.std.specs.Prelude.{◌≡◌};
 ghost use Rattle.simplex_member.specs.PartialFailures.{is_lost};
@@ -8,12 +8,12 @@ use std::alloc::{AllocError, AllocFailed};
 use std::error::Error;
 use std::fmt;
 
-/// Why a call has no answer. But for want of memory, nothing has changed.
+/// Why a call is refused. Except when out of memory, nothing has changed.
 #[derive(Clone, Copy, PartialEq, Eq, Debug)]
 pub enum Refusal {
     /// A fault of the state: after `OutOfMemory` the member has failed, or nothing has changed.
     Fault(Fault),
-    /// The call asks something of its caller that is not so.
+    /// The host must not make this call now.
     NotAllowed,
 }
 
@@ -68,7 +68,7 @@ impl<V: Drop> From<AllocFailed<V>> for Refusal {
     }
 }
 
-/// Whether the state is lost with a part of a call: it found no memory in its midst.
+/// Returns whether the state is lost: it ran out of memory in the middle of a call.
 pub(super) fn is_lost<T>(made: &Result<T, Fault>) -> bool
     ensures { result ≡ is_lost made.now }
 {

@@ -1,4 +1,4 @@
-//! How a member goes on from its journal, when its process has ended.
+//! Resuming a member from its journal, after its process has ended.
 
 ghost use Rattle.std.specs.Prelude.{◌≡◌, ◌&&◌, IfOk, IfErr, length, nat_lt};
 ghost use Rattle.simplex_member.specs.declared.member.resume.ResumeError.TheVariants.{Recover};
@@ -13,12 +13,12 @@ use std::alloc::Global;
 use std::error::Error;
 use std::fmt;
 
-/// Why a member does not go on from its journal.
+/// Why a member cannot resume from its journal.
 #[derive(Clone, Copy, PartialEq, Eq, Debug)]
 pub enum ResumeError {
     /// There are fewer entries than were closed: some are lost, and votes may be among them.
     EntriesLost,
-    /// As a restart is refused.
+    /// A restart would be refused for this reason.
     Recover(RecoverError),
 }
 
@@ -38,7 +38,7 @@ impl fmt::Display for ResumeError {
 
 impl Error for ResumeError {}
 
-/// That a member does not go on, with the entries that it was given.
+/// A refused `resume`: the reason, and the entries that were passed in.
 #[derive(Drop)]
 pub struct NotResumed<S: CertificateScheme, D> {
     pub error: ResumeError,
@@ -56,7 +56,7 @@ impl<S: CertificateScheme, D: Digest> fmt::Display for NotResumed<S, D> {
     }
 }
 
-/// Without the entries, which are as many as a life has left.
+/// Without the entries, of which there are as many as a lifetime has left.
 impl<S: CertificateScheme, D: Digest> fmt::Debug for NotResumed<S, D> {
     fn fmt<W: fmt::Write>(&self, f: &mut fmt::Formatter<W>) -> fmt::Result {
         f.debug_struct("NotResumed")
@@ -72,14 +72,14 @@ impl Stored {
     ghost use Rattle.simplex_record.specs.Entries.{entries_of};
     ghost use Rattle.simplex_member.specs.Journal.{has_lost};
 
-    /// Whether there are fewer entries than were closed.
+    /// Returns whether there are fewer entries than were closed.
     fn has_lost<S: CertificateScheme, D: Digest>(&self, entries: &[Artifact<S, D>]) -> bool
         ensures { result ≡ has_lost self.now (entries_of S.certificate_bytes entries.now) }
     {
         entries.len() < self.closed
     }
 
-    /// Whether more views are to be kept than in a life before, of a record that was pruned.
+    /// Returns whether more views are to be retained than in an earlier lifetime, of a record that was pruned.
     fn retention_grows(&self, retention: ViewDelta) -> bool
         ensures { result ≡ (self.now.is_pruned && nat_lt self.now.least_retention retention) }
     {
@@ -93,15 +93,15 @@ impl<S: CertificateScheme, L: Elector<S>, D: Digest> Member<S, L, D> {
     ghost use Rattle.simplex_member.specs.Journal.{IsResumed, IsNotResumed};
     ghost use Rattle.simplex_record.specs.Start.{start_facts};
 
-    /// A member that goes on from its journal: `entries` is the record as it was stored last, and `stored` what was stored
-    /// beside it. It begins a new life just as `restart` does that drops and prunes nothing.
+    /// Resumes a member from its journal: `entries` is the record as it was last stored, and `stored` what was stored
+    /// beside it. It begins a new lifetime exactly as a `restart` that drops and prunes nothing.
     ///
-    /// The elector's members are the scheme's participants. That what is handed in was stored last, and what `Start` says of
-    /// later lives, is the caller's word.
+    /// The elector's members must be the scheme's participants. The host must ensure that these values were stored last, and
+    /// what `Start` says of later lifetimes.
     ///
-    /// `EntriesLost` where there are fewer entries than `stored.closed`. `RetentionGrown` where the record was pruned and the
-    /// settings keep more views than a life before. Then the errors of `recover`, and `OutOfMemory`. Each hands the entries
-    /// back as they came.
+    /// Returns `EntriesLost` if there are fewer entries than `stored.closed`, `RetentionGrown` if the record was pruned and
+    /// the settings retain more views than an earlier lifetime; then the errors of `recover`, and `OutOfMemory`. Each error
+    /// returns the entries as they were passed in.
     pub fn resume(
         alloc: Global,
         start: Start<S, L, D>,
@@ -146,7 +146,7 @@ impl<S: CertificateScheme, L: Elector<S>, D: Digest> Member<S, L, D> {
     }
 }
 
-/// That no state was made, with the entries.
+/// The refusal when no state was made, with the entries.
 fn not_recovered<S: CertificateScheme, D: Digest>(
     error: RecoverError,
     entries: Vec<Artifact<S, D>>,

@@ -24,8 +24,8 @@ pub enum Step<S: CertificateScheme, L: Elector<S>, D> {
 
 /// Starts a member and takes the steps in order, with one reply a step.
 ///
-/// The elector's members are the scheme's participants, of the start and of each restart. It ends early with the error of
-/// a start or a restart that is refused, and with `OutOfMemory` where there is no memory for the replies.
+/// The elector's members must be the scheme's participants, for the start and for each restart. It ends early with the
+/// error of a refused start or restart, and with `OutOfMemory` if there is no memory for the replies.
 #[tactic(auto, unfolding(crate::specs::Runs::IsRunFrom, crate::specs::Runs::EndsRunFrom))]
 pub fn run<S: Scheme<D>, L: Elector<S>, D: Digest>(
     alloc: Global,
@@ -34,9 +34,13 @@ pub fn run<S: Scheme<D>, L: Elector<S>, D: Digest>(
 ) -> Result<Vec<Reply<S, D>>, RecoverError>
     requires started { L.members start.settings.elector ≡ length (S.participants start.settings.scheme) }
     requires restarted { AreSetUp S.participants L.members steps.items }
-    ensures whole { IfOk result (λ replies. IsRunFrom D.eq L.elect (start_facts S.me S.participants L.terms L.elects_early S.certificate_bytes start)
-        (steps_of S.me S.participants L.terms L.elects_early S.certificate_bytes steps.items) (map (told S.certificate_bytes) replies.items)) }
-    ensures ended { IfErr result (EndsRunFrom D.eq L.elect (start_facts S.me S.participants L.terms L.elects_early S.certificate_bytes start)
+    ensures whole { IfOk result
+        (λ replies. IsRunFrom D.eq L.elect
+        (start_facts S.me S.participants L.terms L.elects_early S.certificate_bytes start)
+        (steps_of S.me S.participants L.terms L.elects_early S.certificate_bytes steps.items)
+        (map (told S.certificate_bytes) replies.items)) }
+    ensures ended { IfErr result
+        (EndsRunFrom D.eq L.elect (start_facts S.me S.participants L.terms L.elects_early S.certificate_bytes start)
         (steps_of S.me S.participants L.terms L.elects_early S.certificate_bytes steps.items)) }
 {
     let mut member = Member::start(alloc, start)?;
@@ -51,9 +55,11 @@ fn take_steps<S: Scheme<D>, L: Elector<S>, D: Digest>(
 ) -> Result<Vec<Reply<S, D>>, RecoverError>
     requires { AreSetUp S.participants L.members steps.items }
     ensures whole { IfOk result (λ replies. IsRun D.eq L.elect member.old.facts
-        (steps_of S.me S.participants L.terms L.elects_early S.certificate_bytes steps.items) (map (told S.certificate_bytes) replies.items) member.new.facts) }
+        (steps_of S.me S.participants L.terms L.elects_early S.certificate_bytes steps.items)
+        (map (told S.certificate_bytes) replies.items) member.new.facts) }
     ensures ended { IfErr result (λ error. (error ≡ OutOfMemory)
-        ⊎ EndsRun D.eq L.elect member.old.facts (steps_of S.me S.participants L.terms L.elects_early S.certificate_bytes steps.items) error) }
+        ⊎ EndsRun D.eq L.elect member.old.facts
+        (steps_of S.me S.participants L.terms L.elects_early S.certificate_bytes steps.items) error) }
 {
     let mut replies = Vec::new(alloc);
     for step in steps {
@@ -75,14 +81,15 @@ fn push_reserved<T: Drop>(items: &mut Vec<T>, item: T)
     }
 }
 
-/// Takes a step, and answers its reply.
+/// Takes a step, and returns its reply.
 fn take_step<S: Scheme<D>, L: Elector<S>, D: Digest>(
     member: &mut Member<S, L, D>,
     step: Step<S, L, D>,
 ) -> Result<Reply<S, D>, RecoverError>
     requires { IsSetUp S.participants L.members step }
     ensures taken { IfOk result (λ reply. IsStep D.eq L.elect member.old.facts
-        (step_facts S.me S.participants L.terms L.elects_early S.certificate_bytes step) (told S.certificate_bytes reply) member.new.facts) }
+        (step_facts S.me S.participants L.terms L.elects_early S.certificate_bytes step)
+        (told S.certificate_bytes reply) member.new.facts) }
     ensures refused { IfErr result (λ error. IsRefused D.eq L.elect member.old.facts
         (step_facts S.me S.participants L.terms L.elects_early S.certificate_bytes step) error) }
 {

@@ -1,4 +1,4 @@
-//! How the votes of a member are recorded, each before it is handed out: the state counts as lost until it is.
+//! Recording of a member's votes, each before it is returned: the state counts as lost until the vote is recorded.
 
 ghost use Rattle.std.specs.Prelude.{◌≡◌, ◌⊎◌, ◌<◌, ◌++◌, Ok, Err, IfOk, IfErr, OnErr, vec_len, vec_capacity};
 ghost use Rattle.simplex_types.specs.declared.types.fault.Fault.TheVariants.{OutOfMemory};
@@ -14,7 +14,8 @@ use simplex_types::types::{
 };
 use std::alloc::Global;
 
-/// Records a vote to nullify that the state made, unless it is a repeat. Where there is no memory for a copy, the state is lost.
+/// Records a vote to nullify that the state made, unless it is a repeat. If there is no memory for a copy, the state is
+/// lost.
 pub(super) fn store_nullify<S: CertificateScheme, D: Digest>(
     alloc: Global,
     artifacts: &mut Vec<Artifact<S, D>>,
@@ -24,8 +25,10 @@ pub(super) fn store_nullify<S: CertificateScheme, D: Digest>(
     ensures same { IfOk result (λ vote. made ≡ Ok vote) }
     ensures kept { IfOk result (λ vote. entries_of S.certificate_bytes artifacts.new.items
         ≡ entries_of S.certificate_bytes artifacts.old.items ++ unrepeated_vote (reply_nullify vote)) }
-    ensures votes { IfOk result (λ vote. votes_of artifacts.new.items ≡ votes_of artifacts.old.items ++ signed_nullify vote) }
-    ensures same_record { OnErr result (entries_of S.certificate_bytes artifacts.new.items ≡ entries_of S.certificate_bytes artifacts.old.items) }
+    ensures votes { IfOk result
+        (λ vote. votes_of artifacts.new.items ≡ votes_of artifacts.old.items ++ signed_nullify vote) }
+    ensures same_record { OnErr result
+        (entries_of S.certificate_bytes artifacts.new.items ≡ entries_of S.certificate_bytes artifacts.old.items) }
     ensures same_votes { OnErr result (votes_of artifacts.new.items ≡ votes_of artifacts.old.items) }
     ensures refused { IfErr result (λ fault. (made ≡ Err fault) ⊎ (fault ≡ OutOfMemory)) }
 {
@@ -39,7 +42,7 @@ pub(super) fn store_nullify<S: CertificateScheme, D: Digest>(
     Ok(vote)
 }
 
-/// Records a vote to notarize that the state made. Where there is no memory for a copy, the state is lost.
+/// Records a vote to notarize that the state made. If there is no memory for a copy, the state is lost.
 pub(super) fn store_notarize<S: CertificateScheme, D: Digest>(
     alloc: Global,
     artifacts: &mut Vec<Artifact<S, D>>,
@@ -49,8 +52,10 @@ pub(super) fn store_notarize<S: CertificateScheme, D: Digest>(
     ensures same { IfOk result (λ vote. made ≡ Ok vote) }
     ensures kept { IfOk result (λ vote. entries_of S.certificate_bytes artifacts.new.items
         ≡ entries_of S.certificate_bytes artifacts.old.items ++ vote_entry (reply_notarize vote)) }
-    ensures votes { IfOk result (λ vote. votes_of artifacts.new.items ≡ votes_of artifacts.old.items ++ signed_notarize vote) }
-    ensures same_record { OnErr result (entries_of S.certificate_bytes artifacts.new.items ≡ entries_of S.certificate_bytes artifacts.old.items) }
+    ensures votes { IfOk result
+        (λ vote. votes_of artifacts.new.items ≡ votes_of artifacts.old.items ++ signed_notarize vote) }
+    ensures same_record { OnErr result
+        (entries_of S.certificate_bytes artifacts.new.items ≡ entries_of S.certificate_bytes artifacts.old.items) }
     ensures same_votes { OnErr result (votes_of artifacts.new.items ≡ votes_of artifacts.old.items) }
     ensures refused { IfErr result (λ fault. (made ≡ Err fault) ⊎ (fault ≡ OutOfMemory)) }
 {
@@ -64,7 +69,7 @@ pub(super) fn store_notarize<S: CertificateScheme, D: Digest>(
     Ok(vote)
 }
 
-/// Records a vote to finalize that the state made. Where there is no memory for a copy, the state is lost.
+/// Records a vote to finalize that the state made. If there is no memory for a copy, the state is lost.
 pub(super) fn store_finalize<S: CertificateScheme, D: Digest>(
     alloc: Global,
     artifacts: &mut Vec<Artifact<S, D>>,
@@ -74,8 +79,10 @@ pub(super) fn store_finalize<S: CertificateScheme, D: Digest>(
     ensures same { IfOk result (λ vote. made ≡ Ok vote) }
     ensures kept { IfOk result (λ vote. entries_of S.certificate_bytes artifacts.new.items
         ≡ entries_of S.certificate_bytes artifacts.old.items ++ vote_entry (reply_finalize vote)) }
-    ensures votes { IfOk result (λ vote. votes_of artifacts.new.items ≡ votes_of artifacts.old.items ++ signed_finalize vote) }
-    ensures same_record { OnErr result (entries_of S.certificate_bytes artifacts.new.items ≡ entries_of S.certificate_bytes artifacts.old.items) }
+    ensures votes { IfOk result
+        (λ vote. votes_of artifacts.new.items ≡ votes_of artifacts.old.items ++ signed_finalize vote) }
+    ensures same_record { OnErr result
+        (entries_of S.certificate_bytes artifacts.new.items ≡ entries_of S.certificate_bytes artifacts.old.items) }
     ensures same_votes { OnErr result (votes_of artifacts.new.items ≡ votes_of artifacts.old.items) }
     ensures refused { IfErr result (λ fault. (made ≡ Err fault) ⊎ (fault ≡ OutOfMemory)) }
 {

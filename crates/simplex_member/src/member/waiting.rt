@@ -1,4 +1,4 @@
-//! What waits for an answer, by view.
+//! Values that wait for an answer, by view.
 
 ghost use Rattle.std.specs.Prelude.{◌≡◌, ◌==◌, true, not, filter, [], Some, None, if◌then◌else◌, OnOk, IfErr};
 ghost use Rattle.std.specs.Option.{option_copied};
@@ -11,8 +11,8 @@ use simplex_view_maps::tracked::Tracked;
 use std::alloc::Global;
 use std::marker::Model;
 
-/// Values by view. The newest stands apart, so that it takes no memory to put it there; it goes to the others when room is
-/// made for the next.
+/// Values by view. The newest is stored apart, so that storing it takes no memory; it moves to the others when room is made
+/// for the next.
 #[derive(Drop)]
 pub struct Waiting<V> {
     newest: Option<(View, V)>,
@@ -26,7 +26,10 @@ impl<V> Model for Waiting<V> {
 
     ghost Value = { WaitingFacts V };
 
-    ghost view = { λ w. record { entries = map.entries (with_newest w.newest w.others); has_room = not (is_some w.newest) } };
+    ghost view = { λ w. record {
+      entries = map.entries (with_newest w.newest w.others);
+      has_room = not (is_some w.newest);
+    } };
 }
 
 impl<V: Drop> Waiting<V> {
@@ -54,7 +57,7 @@ impl<V: Drop> Waiting<V> {
         }
     }
 
-    /// Makes room for a value more. Where there is no memory, nothing has changed.
+    /// Makes room for one more value. If there is no memory, nothing has changed.
     pub(super) fn make_room(&mut self) -> Result<(), Fault>
         ensures same { self.new.entries ≡ self.old.entries }
         ensures room { OnOk result (self.new.has_room ≡ true) }
@@ -66,7 +69,7 @@ impl<V: Drop> Waiting<V> {
         }
     }
 
-    /// Puts a value among the others, or leaves it the newest where there is no memory.
+    /// Moves a value to the others, or leaves it the newest if there is no memory.
     fn move_over(&mut self, view: View, value: V) -> Result<(), Fault>
         requires { self.old.has_room ≡ true }
         ensures entries { self.new.entries ≡ put nat_cmp view value self.old.entries }
@@ -91,7 +94,7 @@ impl<V: Drop> Waiting<V> {
         self.newest = Some((view, value));
     }
 
-    /// Removes the value of a view, where there is one.
+    /// Removes the value of a view, if there is one.
     pub(super) fn remove(&mut self, view: View)
         ensures entries { self.new.entries ≡ filter (λ e. not (e.0 == view)) self.old.entries }
         ensures room { self.old.has_room ≡ true → self.new.has_room ≡ true }

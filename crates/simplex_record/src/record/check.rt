@@ -16,12 +16,12 @@ use simplex_types::types::{
     Artifact, CertificateScheme, Digest, Epoch, Participant, Proposal, Round, View, Viewable,
 };
 
-/// Tests whether a state can be made from a floor and a record in an epoch, by the scheme's member, and answers the
-/// first rule that is broken: the floor's finalization comes first, then the record's entries in order, each by
-/// the rules of `RecoverError` from `OutOfOrder` to `FinalizeWithoutVerdict` in that order.
+/// Tests whether a state can be made from a floor and a record in an epoch, by the scheme's member. Returns the first rule
+/// that is broken: the floor's finalization comes first, then the record's entries in order, each by the rules of
+/// `RecoverError` from `OutOfOrder` to `FinalizeWithoutVerdict` in that order.
 ///
-/// An entry is compared with those before it alone; the floor's view plays no part. It goes through the record
-/// once and takes no memory.
+/// An entry is compared only with those before it; the floor's view plays no part. The test reads the record once and takes
+/// no memory.
 #[tactic(auto, unfolding(crate::specs::Check::first_recover_error))]
 pub fn check_record<S: CertificateScheme, D: Digest>(
     scheme: &S,
@@ -41,8 +41,10 @@ pub(super) fn check_floor<S: CertificateScheme, D: Digest>(
     epoch: Epoch,
     floor: &Floor<S, D>,
 ) -> Result<(), RecoverError>
-    ensures broken { IfErr result (λ error. first_error (recovery_floor_rules epoch (floor_facts S.certificate_bytes floor.now)) ≡ Some error) }
-    ensures kept { OnOk result (first_error (recovery_floor_rules epoch (floor_facts S.certificate_bytes floor.now)) ≡ None) }
+    ensures broken { IfErr result
+        (λ error. first_error (recovery_floor_rules epoch (floor_facts S.certificate_bytes floor.now)) ≡ Some error) }
+    ensures kept { OnOk result
+        (first_error (recovery_floor_rules epoch (floor_facts S.certificate_bytes floor.now)) ≡ None) }
 {
     match floor {
         Floor::Genesis(_) => Ok(()),
@@ -60,8 +62,11 @@ fn check_entries<S: CertificateScheme, D: Digest>(
     epoch: Epoch,
     entries: &[Artifact<S, D>],
 ) -> Result<(), RecoverError>
-    ensures broken { IfErr result (λ error. first_broken_after D.eq epoch (S.me scheme.now) [] (entries_of S.certificate_bytes entries.now) ≡ Some error) }
-    ensures kept { OnOk result (first_broken_after D.eq epoch (S.me scheme.now) [] (entries_of S.certificate_bytes entries.now) ≡ None) }
+    ensures broken { IfErr result
+        (λ error. first_broken_after D.eq epoch (S.me scheme.now) []
+        (entries_of S.certificate_bytes entries.now) ≡ Some error) }
+    ensures kept { OnOk result
+        (first_broken_after D.eq epoch (S.me scheme.now) [] (entries_of S.certificate_bytes entries.now) ≡ None) }
 {
     let mut seen = Seen::new(View::zero());
     for artifact in entries {
@@ -70,8 +75,8 @@ fn check_entries<S: CertificateScheme, D: Digest>(
     Ok(())
 }
 
-/// Tests the next artifact, and keeps what it says of its view.
-#[tactic(auto, using(crate::proofs::Seen::first_errors))]
+/// Tests the next artifact, and notes its effect on its view.
+#[tactic(auto, using(crate::proofs::CheckState::first_errors))]
 fn check_next<S: CertificateScheme, D: Digest>(
     scheme: &S,
     epoch: Epoch,
@@ -79,10 +84,14 @@ fn check_next<S: CertificateScheme, D: Digest>(
     artifact: &Artifact<S, D>,
 ) -> Result<(), RecoverError>
     ensures broken { IfErr result (λ error. first_error
-        (next_rules D.eq epoch (S.me scheme.now) seen.old (artifact_facts S.certificate_bytes artifact.now)) ≡ Some error) }
-    ensures kept { OnOk result (first_error (next_rules D.eq epoch (S.me scheme.now) seen.old (artifact_facts S.certificate_bytes artifact.now)) ≡ None) }
+        (next_rules D.eq epoch (S.me scheme.now) seen.old (artifact_facts S.certificate_bytes artifact.now)) ≡ Some
+        error) }
+    ensures kept { OnOk result
+        (first_error (next_rules D.eq epoch (S.me scheme.now) seen.old
+        (artifact_facts S.certificate_bytes artifact.now)) ≡ None) }
     ensures seen { OnOk result (seen.new ≡ seen_with
-        (turned_to seen.old (entry_view (artifact_facts S.certificate_bytes artifact.now))) (artifact_facts S.certificate_bytes artifact.now)) }
+        (turned_to seen.old (entry_view (artifact_facts S.certificate_bytes artifact.now)))
+        (artifact_facts S.certificate_bytes artifact.now)) }
 {
     let view = artifact.view();
     if view < seen.view {
@@ -101,8 +110,10 @@ fn check_alone<S: CertificateScheme, D: Digest>(
     me: Option<Participant>,
     artifact: &Artifact<S, D>,
 ) -> Result<(), RecoverError>
-    ensures broken { IfErr result (λ error. first_error (own_rules epoch me (artifact_facts S.certificate_bytes artifact.now)) ≡ Some error) }
-    ensures kept { OnOk result (first_error (own_rules epoch me (artifact_facts S.certificate_bytes artifact.now)) ≡ None) }
+    ensures broken { IfErr result
+        (λ error. first_error (own_rules epoch me (artifact_facts S.certificate_bytes artifact.now)) ≡ Some error) }
+    ensures kept { OnOk result
+        (first_error (own_rules epoch me (artifact_facts S.certificate_bytes artifact.now)) ≡ None) }
 {
     match artifact {
         Artifact::Notarize(vote) => check_vote(epoch, me, vote.signer, &vote.proposal),
@@ -157,7 +168,7 @@ fn check_round(epoch: Epoch, round: Round, parent: Option<View>) -> Result<(), R
     )
 }
 
-/// Whether this member cast the vote.
+/// Returns whether this member cast the vote.
 fn signs_as(me: Option<Participant>, signer: Participant) -> bool
     ensures { result ≡ signs_as me signer }
 {

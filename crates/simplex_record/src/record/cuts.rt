@@ -1,4 +1,4 @@
-//! What a restart leaves of a record.
+//! The cuts that a restart makes in a record.
 
 ghost use Rattle.std.specs.Prelude.{◌≡◌, ◌-◌, ◌<◌, Bool, true, length, nat_le, filter};
 ghost use Rattle.simplex_types.specs.Certificates.{artifact_facts};
@@ -8,15 +8,16 @@ ghost use Rattle.simplex_record.specs.Votes.{votes_of, pruned_votes};
 
 use simplex_types::types::{Artifact, CertificateScheme, Digest, View, ViewDelta, Viewable};
 
-/// Drops at most so many last entries, never a vote nor anything before one, and none of the first `closed`.
+/// Drops at most `count` last entries, never a vote nor anything before one, and none of the first `closed`.
 ///
-/// A journal that lost its end still holds each vote that left, so what is dropped may be handed in again.
+/// A journal that lost its end still holds each vote that was sent, so what is dropped may be passed in again.
 pub fn drop_last<S: CertificateScheme, D: Digest>(
     entries: &mut Vec<Artifact<S, D>>,
     closed: usize,
     count: u64,
 )
-    ensures left { entries_of S.certificate_bytes entries.new.items ≡ without_last closed count (entries_of S.certificate_bytes entries.old.items) }
+    ensures left { entries_of S.certificate_bytes entries.new.items ≡ without_last closed count
+        (entries_of S.certificate_bytes entries.old.items) }
     ensures votes { votes_of entries.new.items ≡ votes_of entries.old.items }
 {
     let mut left = count;
@@ -32,7 +33,8 @@ pub fn prune_record<S: CertificateScheme, D: Digest>(
     entries: &mut Vec<Artifact<S, D>>,
     retention: ViewDelta,
 )
-    ensures left { entries_of S.certificate_bytes entries.new.items ≡ pruned_entries retention (entries_of S.certificate_bytes entries.old.items) }
+    ensures left { entries_of S.certificate_bytes entries.new.items ≡ pruned_entries retention
+        (entries_of S.certificate_bytes entries.old.items) }
     ensures votes { votes_of entries.new.items
         ≡ pruned_votes retention (entries_of S.certificate_bytes entries.old.items) (votes_of entries.old.items) }
 {
@@ -40,7 +42,7 @@ pub fn prune_record<S: CertificateScheme, D: Digest>(
     keep_from(entries, lowest);
 }
 
-/// The lowest view that a record keeps: `retention` views below the highest finalized one, and 0 where there are fewer.
+/// The lowest view that a record retains: `retention` views below the highest finalized one, and 0 if there are fewer.
 pub fn lowest_retained<S: CertificateScheme, D: Digest>(
     entries: &[Artifact<S, D>],
     retention: ViewDelta,
@@ -55,7 +57,8 @@ pub fn lowest_retained<S: CertificateScheme, D: Digest>(
 pub fn keep_from<S: CertificateScheme, D: Digest>(entries: &mut Vec<Artifact<S, D>>, view: View)
     ensures left { entries_of S.certificate_bytes entries.new.items
         ≡ filter (λ e. nat_le view (entry_view e)) (entries_of S.certificate_bytes entries.old.items) }
-    ensures votes { votes_of entries.new.items ≡ filter (λ v. nat_le view (entry_view v.vote)) (votes_of entries.old.items) }
+    ensures votes { votes_of entries.new.items ≡ filter (λ v. nat_le view (entry_view v.vote))
+        (votes_of entries.old.items) }
 {
     entries.retain(|artifact| artifact.view() >= view);
 }
@@ -81,7 +84,7 @@ fn finalized_by<S: CertificateScheme, D: Digest>(artifact: &Artifact<S, D>) -> V
     }
 }
 
-/// Whether the last entry may be dropped: it is no vote, and not closed.
+/// Returns whether the last entry may be dropped: it is no vote, and not closed.
 fn may_drop<S: CertificateScheme, D: Digest>(entries: &[Artifact<S, D>], closed: usize) -> bool
     ensures answer { result ≡ may_drop closed (entries_of S.certificate_bytes entries.now) }
     ensures something { result ≡ true → 0 < length entries.now }

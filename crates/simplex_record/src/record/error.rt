@@ -7,7 +7,7 @@ use std::alloc::{AllocError, AllocFailed};
 use std::error::Error;
 use std::fmt;
 
-/// Why no state is made from a record, by rising number from 1, in the order in which an entry is tested.
+/// Why no state is made from a record, by rising number from 1, in the order of the tests.
 #[derive(Clone, Copy, PartialEq, Eq, Debug)]
 pub enum RecoverError {
     /// An entry's view is below that of the entry before it.
@@ -34,9 +34,9 @@ pub enum RecoverError {
     FinalizeWithoutVerdict,
     /// A deadline passes 2^64 - 1 milliseconds.
     TimeOverflow,
-    /// A growth was refused for want of memory.
+    /// An allocation failed: out of memory.
     OutOfMemory,
-    /// The record is pruned, and more views are to be kept than in an earlier life.
+    /// The record is pruned, and more views are to be retained than in an earlier lifetime.
     RetentionGrown,
 }
 
@@ -98,7 +98,7 @@ impl From<AllocError> for RecoverError {
     }
 }
 
-/// The error, where its rule is broken.
+/// Returns the error if its rule is broken.
 pub(super) fn refuse_if(is_broken: bool, error: RecoverError) -> Result<(), RecoverError>
     ensures { result ≡ (if is_broken then Err error else Ok tt) }
 {

@@ -1,4 +1,4 @@
-//! A state is made from a floor and a whole record, whose entries it takes again one after another.
+//! Rebuilding a state from a floor and a whole record, whose entries are replayed one after another.
 
 ghost use Rattle.std.specs.Prelude.{◌≡◌, true, false, None, IfOk, IfErr, OnOk, length, option_map};
 ghost use Rattle.simplex_types.specs.Certificates.{artifact_facts, finalization_facts};
@@ -31,7 +31,8 @@ fn add<S: CertificateScheme, L: Elector<S>, D: Digest>(
     requires in_time { has_late_deadline state.old now ≡ false }
     requires kept { takes_round state.old (artifact_round artifact.now) ≡ true }
     requires small { artifact_too_large artifact.now ≡ false }
-    ensures after { OnOk result (state.new ≡ after_adding D.eq L.elect state.old now (artifact_facts S.certificate_bytes artifact.now)) }
+    ensures after { OnOk result
+        (state.new ≡ after_adding D.eq L.elect state.old now (artifact_facts S.certificate_bytes artifact.now)) }
     ensures refused { IfErr result (λ fault. fault ≡ OutOfMemory) }
 {
     match artifact {
@@ -69,7 +70,7 @@ fn add<S: CertificateScheme, L: Elector<S>, D: Digest>(
     }
 }
 
-/// Restores what an entry says.
+/// Replays an entry.
 fn replay<S: CertificateScheme, L: Elector<S>, D: Digest>(
     state: &mut State<S, L, D>,
     artifact: &Artifact<S, D>,
@@ -77,13 +78,14 @@ fn replay<S: CertificateScheme, L: Elector<S>, D: Digest>(
     requires resumption { state.old.failed ≡ false }
     requires small { artifact_too_large artifact.now ≡ false }
     requires taken { TakesReplay state.old artifact.now }
-    ensures after { OnOk result (state.new ≡ after_replaying D.eq L.elect state.old (artifact_facts S.certificate_bytes artifact.now)) }
+    ensures after { OnOk result
+        (state.new ≡ after_replaying D.eq L.elect state.old (artifact_facts S.certificate_bytes artifact.now)) }
     ensures refused { IfErr result (λ fault. fault ≡ OutOfMemory) }
 {
     state.replay(artifact)
 }
 
-/// Gives a verdict that was replayed.
+/// Passes on a verdict that was replayed.
 fn give<S: CertificateScheme, L: Elector<S>, D: Digest>(
     state: &mut State<S, L, D>,
     artifact: &Artifact<S, D>,
@@ -92,7 +94,8 @@ fn give<S: CertificateScheme, L: Elector<S>, D: Digest>(
     requires resumption { state.old.failed ≡ false }
     requires in_time { has_late_deadline state.old now ≡ false }
     requires allowed { GivesVerdict state.old (artifact_facts S.certificate_bytes artifact.now) }
-    ensures after { OnOk result (state.new ≡ after_verdict_of L.elect state.old now (artifact_facts S.certificate_bytes artifact.now)) }
+    ensures after { OnOk result
+        (state.new ≡ after_verdict_of L.elect state.old now (artifact_facts S.certificate_bytes artifact.now)) }
     ensures refused { IfErr result (λ fault. fault ≡ OutOfMemory) }
 {
     if let Artifact::Certification(round, success) = artifact {
@@ -101,7 +104,7 @@ fn give<S: CertificateScheme, L: Elector<S>, D: Digest>(
     Ok(())
 }
 
-/// Takes an entry of a view that is kept: a certificate is added, each entry is replayed, a verdict is given.
+/// Takes an entry of a retained view: adds a certificate, replays each entry, and passes on a verdict.
 fn take<S: CertificateScheme, L: Elector<S>, D: Digest>(
     alloc: Global,
     state: &mut State<S, L, D>,
@@ -112,7 +115,8 @@ fn take<S: CertificateScheme, L: Elector<S>, D: Digest>(
     requires in_time { has_late_deadline state.old now ≡ false }
     requires small { artifact_too_large artifact.now ≡ false }
     requires taken { TakesEntry S.certificate_bytes D.eq L.elect state.old now artifact.now }
-    ensures after { OnOk result (state.new ≡ after_entry D.eq L.elect state.old now (artifact_facts S.certificate_bytes artifact.now)) }
+    ensures after { OnOk result
+        (state.new ≡ after_entry D.eq L.elect state.old now (artifact_facts S.certificate_bytes artifact.now)) }
     ensures refused { IfErr result (λ fault. fault ≡ OutOfMemory) }
 {
     add(alloc, state, artifact, now)?;
@@ -120,7 +124,7 @@ fn take<S: CertificateScheme, L: Elector<S>, D: Digest>(
     give(state, artifact, now)
 }
 
-/// Takes an entry, or passes it over where its view is below those that are kept.
+/// Takes an entry, or skips it if its view is below those that are retained.
 #[tactic(auto, unfolding(crate::specs::Recovery::after_kept_entry))]
 fn take_kept<S: CertificateScheme, L: Elector<S>, D: Digest>(
     alloc: Global,
@@ -131,7 +135,8 @@ fn take_kept<S: CertificateScheme, L: Elector<S>, D: Digest>(
     requires resumption { state.old.failed ≡ false }
     requires in_time { has_late_deadline state.old now ≡ false }
     requires next { TakesNext S.certificate_bytes D.eq L.elect state.old now artifact.now }
-    ensures after { OnOk result (state.new ≡ after_kept_entry D.eq L.elect state.old now (artifact_facts S.certificate_bytes artifact.now)) }
+    ensures after { OnOk result
+        (state.new ≡ after_kept_entry D.eq L.elect state.old now (artifact_facts S.certificate_bytes artifact.now)) }
     ensures refused { IfErr result (λ fault. fault ≡ OutOfMemory) }
 {
     if artifact.view() < state.min_active() {
@@ -150,7 +155,8 @@ fn take_all<S: CertificateScheme, L: Elector<S>, D: Digest>(
     requires resumption { state.old.failed ≡ false }
     requires in_time { has_late_deadline state.old now ≡ false }
     requires each { TakesEntries S.certificate_bytes D.eq L.elect state.old now entries.now }
-    ensures after { OnOk result (state.new ≡ after_entries D.eq L.elect state.old now (entries_of S.certificate_bytes entries.now)) }
+    ensures after { OnOk result
+        (state.new ≡ after_entries D.eq L.elect state.old now (entries_of S.certificate_bytes entries.now)) }
     ensures refused { IfErr result (λ fault. fault ≡ OutOfMemory) }
 {
     for artifact in entries {
@@ -159,21 +165,25 @@ fn take_all<S: CertificateScheme, L: Elector<S>, D: Digest>(
     Ok(())
 }
 
-/// What `recover` makes, on the heap, with the floor's finalization. Its errors are those of `recover`.
+/// Returns what `recover` makes, on the heap, with the floor's finalization. Its errors are those of `recover`.
 pub fn remake<S: CertificateScheme, L: Elector<S>, D: Digest>(
     alloc: Global,
     start: Start<S, L, D>,
     entries: &[Artifact<S, D>],
 ) -> Result<(Box<State<S, L, D>>, Option<Finalization<S, D>>), RecoverError>
     requires { L.members start.settings.elector ≡ length (S.participants start.settings.scheme) }
-    ensures recovered { IfOk result (λ made. made.0.value ≡ recovered_state D.eq L.elect (set_up S.me S.participants L.terms L.elects_early start.settings)
+    ensures recovered { IfOk result
+        (λ made. made.0.value ≡ recovered_state D.eq L.elect
+        (set_up S.me S.participants L.terms L.elects_early start.settings)
         (floor_facts S.certificate_bytes start.floor) start.now (entries_of S.certificate_bytes entries.now)) }
     ensures resumption { IfOk result (λ made. (made.0.value.failed ≡ false) × (is_started made.0.value ≡ true)) }
     ensures floor { IfOk result (λ made. option_map (finalization_facts S.certificate_bytes) made.1
         ≡ floor_answer (floor_facts S.certificate_bytes start.floor)) }
-    ensures accepted { OnOk result (recover_error D.eq (set_up S.me S.participants L.terms L.elects_early start.settings)
+    ensures accepted { OnOk result
+        (recover_error D.eq (set_up S.me S.participants L.terms L.elects_early start.settings)
         (floor_facts S.certificate_bytes start.floor) start.now (entries_of S.certificate_bytes entries.now) ≡ None) }
-    ensures refused { IfErr result (IsErrorDue (recover_error D.eq (set_up S.me S.participants L.terms L.elects_early start.settings)
+    ensures refused { IfErr result
+        (IsErrorDue (recover_error D.eq (set_up S.me S.participants L.terms L.elects_early start.settings)
         (floor_facts S.certificate_bytes start.floor) start.now (entries_of S.certificate_bytes entries.now))) }
 {
     let Start {
@@ -189,26 +199,29 @@ pub fn remake<S: CertificateScheme, L: Elector<S>, D: Digest>(
     }
 }
 
-/// Makes a state from a floor and a whole record, oldest entry first: the floor is set, and the entries are taken in
-/// order. A certificate is added again, a vote and a verdict stand again, and a verdict has its effects. An entry of a
-/// view that isn't kept any more when its turn comes is passed over. What the state would hand out counts as handed out,
-/// as far as the record says so.
+/// Makes a state from a floor and a whole record, oldest entry first: sets the floor, and takes the entries in order. A
+/// certificate is added again, a vote and a verdict are restored, and a verdict has its effects. An entry whose view is no
+/// longer retained when it is reached is skipped. Certificates count as already broadcast as far as the record says so.
 ///
-/// The elector's members are the scheme's participants. The first error that is due, in the order of `RecoverError`: the
-/// first rule that the floor breaks, or else the record, as `check_record` says; then `TimeOverflow`, where a deadline
-/// passes 2^64 - 1 milliseconds. `OutOfMemory` comes only where none is due. There is no state then, and the record is as
-/// it was.
+/// The elector's members must be the scheme's participants. Returns the first error that applies, in the order of
+/// `RecoverError`: the first rule that the floor breaks, or else the record, as in `check_record`; then `TimeOverflow`, if
+/// a deadline passes 2^64 - 1 milliseconds. Returns `OutOfMemory` only if none of these applies. After an error there is no
+/// state, and the record is unchanged.
 pub fn recover<S: CertificateScheme, L: Elector<S>, D: Digest>(
     alloc: Global,
     start: Start<S, L, D>,
     entries: &[Artifact<S, D>],
 ) -> Result<State<S, L, D>, RecoverError>
     requires { L.members start.settings.elector ≡ length (S.participants start.settings.scheme) }
-    ensures recovered { IfOk result (λ state. state ≡ recovered_state D.eq L.elect (set_up S.me S.participants L.terms L.elects_early start.settings)
+    ensures recovered { IfOk result
+        (λ state. state ≡ recovered_state D.eq L.elect
+        (set_up S.me S.participants L.terms L.elects_early start.settings)
         (floor_facts S.certificate_bytes start.floor) start.now (entries_of S.certificate_bytes entries.now)) }
-    ensures accepted { OnOk result (recover_error D.eq (set_up S.me S.participants L.terms L.elects_early start.settings)
+    ensures accepted { OnOk result
+        (recover_error D.eq (set_up S.me S.participants L.terms L.elects_early start.settings)
         (floor_facts S.certificate_bytes start.floor) start.now (entries_of S.certificate_bytes entries.now) ≡ None) }
-    ensures refused { IfErr result (IsErrorDue (recover_error D.eq (set_up S.me S.participants L.terms L.elects_early start.settings)
+    ensures refused { IfErr result
+        (IsErrorDue (recover_error D.eq (set_up S.me S.participants L.terms L.elects_early start.settings)
         (floor_facts S.certificate_bytes start.floor) start.now (entries_of S.certificate_bytes entries.now))) }
 {
     let (state, _finalization) = remake(alloc, start, entries)?;

@@ -1,4 +1,4 @@
-//! What a record says of the view of its last entry, for the test of the next.
+//! The facts of a record about the view of its last entry, to test the next.
 
 ghost use Rattle.std.specs.Prelude.{◌≡◌, Some, None, IfErr, OnOk};
 ghost use Rattle.simplex_types.specs.Certificates.{artifact_facts};
@@ -10,7 +10,7 @@ use simplex_types::types::{Artifact, CertificateScheme, Digest, Proposal, View};
 
 /// The votes, the verdict and the notarization that were seen of one view.
 ///
-/// A record is in the order of its views, so nothing of an earlier view has to be kept.
+/// A record is in the order of its views, so nothing of an earlier view must be stored.
 #[derive(Drop)]
 pub(super) struct Seen<D> {
     pub(super) view: View,
@@ -36,7 +36,7 @@ impl<D: Digest> Seen<D> {
         }
     }
 
-    /// Forgets the last view, where this one is above it.
+    /// Forgets the last view, if this one is above it.
     pub(super) fn turn_to(&mut self, view: View)
         ensures { self.new ≡ turned_to self.old view }
     {
@@ -45,13 +45,16 @@ impl<D: Digest> Seen<D> {
         }
     }
 
-    /// Tests an artifact of the view by what was seen of it.
+    /// Tests an artifact of the view against what was seen of it.
     pub(super) fn allows<S: CertificateScheme>(
         &self,
         artifact: &Artifact<S, D>,
     ) -> Result<(), RecoverError>
-        ensures broken { IfErr result (λ error. first_error (seen_rules D.eq self.now (artifact_facts S.certificate_bytes artifact.now)) ≡ Some error) }
-        ensures kept { OnOk result (first_error (seen_rules D.eq self.now (artifact_facts S.certificate_bytes artifact.now)) ≡ None) }
+        ensures broken { IfErr result
+            (λ error. first_error (seen_rules D.eq self.now (artifact_facts S.certificate_bytes artifact.now)) ≡ Some
+            error) }
+        ensures kept { OnOk result
+            (first_error (seen_rules D.eq self.now (artifact_facts S.certificate_bytes artifact.now)) ≡ None) }
     {
         match artifact {
             Artifact::Notarize(vote) => refuse_if(
@@ -90,7 +93,7 @@ impl<D: Digest> Seen<D> {
         refuse_if(self.is_given(!success), RecoverError::ContradictingVerdicts)
     }
 
-    /// Whether this verdict was given.
+    /// Returns whether this verdict was given.
     fn is_given(&self, success: bool) -> bool
         ensures { result ≡ is_given success self.now.verdict }
     {
@@ -100,7 +103,7 @@ impl<D: Digest> Seen<D> {
         }
     }
 
-    /// Keeps what an artifact of the view says of it.
+    /// Notes an artifact of the view.
     pub(super) fn add<S: CertificateScheme>(&mut self, artifact: &Artifact<S, D>)
         ensures { self.new ≡ seen_with self.old (artifact_facts S.certificate_bytes artifact.now) }
     {
@@ -115,7 +118,7 @@ impl<D: Digest> Seen<D> {
     }
 }
 
-/// Whether another proposal was voted for.
+/// Returns whether another proposal was voted for.
 fn is_other<D: Digest>(seen: &Option<Proposal<D>>, proposal: &Proposal<D>) -> bool
     ensures { result ≡ is_other D.eq seen.now proposal.now }
 {

@@ -1,4 +1,4 @@
-//! A start by the settings of an engine, which are tested.
+//! A start from a member's settings, which are tested.
 
 ghost use Rattle.std.specs.Prelude.{◌≡◌, ◌==◌, Ok, Err, IfOk, MatchOption, length};
 ghost use Rattle.simplex_types.specs.Config.{first_broken_rule};
@@ -11,12 +11,12 @@ use simplex_voter::voter::Config as StateConfig;
 use std::error::Error;
 use std::fmt;
 
-/// Why settings make no start, in the order in which they are tested.
+/// Why settings make no start, in the order of the tests.
 #[derive(Clone, Copy, PartialEq, Eq, Debug)]
 pub enum StartError {
     /// The first rule that the settings break.
     Config(ConfigError),
-    /// The elector elects among more or fewer members than the scheme has participants.
+    /// The elector has more or fewer members than the scheme has participants.
     OtherMembers,
 }
 
@@ -37,17 +37,20 @@ impl fmt::Display for StartError {
 impl Error for StartError {}
 
 impl<S: Scheme<D>, L: Elector<S>, D: Digest> Start<S, L, D> {
-    /// How a member starts by an engine's settings, which are tested, with an elector and at a moment in milliseconds.
+    /// Returns the start of a member from its settings, which are tested, with an elector and at a moment in
+    /// milliseconds.
     ///
-    /// Where skipping is disabled no latched timeout counts, so a view ends by its own deadlines alone. `Config` with the
-    /// first rule that the settings break; `OtherMembers` where the elector's members are not the scheme's participants. A
-    /// start that was made has what `Member::start`, a restart and a resume ask of it, `fits`.
+    /// If skipping is disabled no latched timeout counts, so a view ends only by its own deadlines. Returns `Config` with
+    /// the first rule that the settings break; `OtherMembers` if the elector's members are not the scheme's participants.
+    /// The returned start meets what `Member::start`, a restart and a resume require of it, `fits`.
     pub fn of(config: Config<S, D>, elector: L, now: u64) -> Result<Start<S, L, D>, StartError>
         ensures tested { MatchOption
             (start_error (first_broken_rule (length (S.participants config.scheme)) (S.accepts config.scheme) config)
             (L.members elector == length (S.participants config.scheme)))
-            (result ≡ Ok (start_by (length (S.participants config.scheme)) config elector now)) (λ error. result ≡ Err error) }
-        ensures fits { IfOk result (λ start. L.members start.settings.elector ≡ length (S.participants start.settings.scheme)) }
+            (result ≡ Ok (start_by (length (S.participants config.scheme)) config elector now))
+            (λ error. result ≡ Err error) }
+        ensures fits { IfOk result
+            (λ start. L.members start.settings.elector ≡ length (S.participants start.settings.scheme)) }
     {
         if let Err(broken) = config.assert() {
             return Err(StartError::Config(broken));
@@ -75,7 +78,7 @@ impl<S: Scheme<D>, L: Elector<S>, D: Digest> Start<S, L, D> {
     }
 }
 
-/// How many unfinalized terms may be skipped among so many participants.
+/// How many unfinalized terms may be skipped among this many participants.
 fn skip_budget(policy: SkipPolicy, participants: usize) -> u64
     ensures { result ≡ skip_budget_of policy participants }
 {

@@ -1,4 +1,4 @@
-//! The entries of a record that was tested are handed to a resolver, one after another.
+//! Passing the entries of a tested record to a resolver, one after another.
 
 ghost use Rattle.std.specs.Prelude.{◌≡◌, false, None, ◌∷◌, IfErr, OnOk};
 ghost use Rattle.simplex_types.specs.Certificates.{artifact_facts, certificate_facts};
@@ -13,7 +13,7 @@ use crate::resolver::State;
 use simplex_types::types::{Artifact, Certificate, CertificateScheme, Digest, Fault, View};
 use std::alloc::Global;
 
-/// Hands the entries in, in order.
+/// Passes the entries in, in order.
 pub(super) fn pass_every<S: CertificateScheme, D: Digest>(
     alloc: Global,
     state: &mut State,
@@ -21,7 +21,8 @@ pub(super) fn pass_every<S: CertificateScheme, D: Digest>(
 ) -> Result<(), Fault>
     requires resumption { state.old.is_failed ≡ false }
     requires sound { record_error (newest_first S.certificate_bytes entries.now) ≡ None }
-    ensures after { OnOk result (state.new ≡ all_after state.old (record_calls D.bytes S.certificate_bytes entries.now)) }
+    ensures after { OnOk result
+        (state.new ≡ all_after state.old (record_calls D.bytes S.certificate_bytes entries.now)) }
     ensures refused { IfErr result (λ fault. fault ≡ OutOfMemory) }
 {
     let mut places = Places::new(alloc);
@@ -33,7 +34,8 @@ pub(super) fn pass_every<S: CertificateScheme, D: Digest>(
     Ok(())
 }
 
-/// Hands an entry in, behind those before it, whose notarizations stand at the places. A vote tells a resolver nothing.
+/// Passes an entry in, after those before it, whose notarizations are at these places. A vote changes nothing
+/// in a resolver.
 fn hand<S: CertificateScheme, D: Digest>(
     alloc: Global,
     state: &mut State,
@@ -43,9 +45,11 @@ fn hand<S: CertificateScheme, D: Digest>(
 ) -> Result<(), Fault>
     requires resumption { state.old.is_failed ≡ false }
     requires noted { AreNoted S.certificate_bytes places.now before.now }
-    requires sound { record_error (artifact_facts S.certificate_bytes artifact.now ∷ newest_first S.certificate_bytes before.now) ≡ None }
+    requires sound { record_error
+        (artifact_facts S.certificate_bytes artifact.now ∷ newest_first S.certificate_bytes before.now) ≡ None }
     ensures after { OnOk result (state.new ≡ all_after state.old
-        (entry_calls D.bytes (newest_first S.certificate_bytes before.now) (artifact_facts S.certificate_bytes artifact.now))) }
+        (entry_calls D.bytes (newest_first S.certificate_bytes before.now)
+        (artifact_facts S.certificate_bytes artifact.now))) }
     ensures refused { IfErr result (λ fault. fault ≡ OutOfMemory) }
 {
     match artifact {
@@ -74,14 +78,15 @@ fn pass_certificate<S: CertificateScheme, D: Digest>(
 ) -> Result<(), Fault>
     requires resumption { state.old.is_failed ≡ false }
     requires sound { certificate_error (certificate_facts S.certificate_bytes certificate) ≡ None }
-    ensures after { OnOk result (state.new ≡ after state.old (update D.bytes (certificate_facts S.certificate_bytes certificate))) }
+    ensures after { OnOk result
+        (state.new ≡ after state.old (update D.bytes (certificate_facts S.certificate_bytes certificate))) }
     ensures refused { IfErr result (λ fault. fault ≡ OutOfMemory) }
 {
     let _effects = state.updated(&certificate)?;
     Ok(())
 }
 
-/// Hands a verdict in, with the last notarization of its view.
+/// Passes a verdict in, with the last notarization of its view.
 fn pass_verdict<S: CertificateScheme, D: Digest>(
     alloc: Global,
     state: &mut State,

@@ -1,4 +1,4 @@
-//! The test of a record before a resolver is given any of it.
+//! The test of a record before a resolver receives any of it.
 
 ghost use Rattle.std.specs.Prelude.{◌≡◌, Some, None, ◌∷◌, IfErr, OnOk};
 ghost use Rattle.simplex_types.specs.Certificates.{artifact_facts};
@@ -28,7 +28,7 @@ pub(super) fn check_entries<S: CertificateScheme, D: Digest>(
     Ok(())
 }
 
-/// Tests an artifact by those before it, whose notarizations stand at the places.
+/// Tests an artifact against those before it, whose notarizations are at these places.
 fn check_entry<S: CertificateScheme, D: Digest>(
     places: &Places,
     before: &[Artifact<S, D>],

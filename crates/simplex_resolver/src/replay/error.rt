@@ -12,7 +12,7 @@ pub enum ReplayError {
     ViewTooLarge,
     /// A verdict has no notarization of its view before it.
     VerdictWithoutNotarization,
-    /// A growth was refused for want of memory.
+    /// An allocation failed: out of memory.
     OutOfMemory,
 }
 

@@ -1,4 +1,4 @@
-//! A resolver that a driver keeps, with its open fetches and with the law of them at each moment.
+//! A resolver with its open fetches, and with their law at each moment.
 
 ghost use Rattle.std.specs.Prelude.{◌≡◌, ◌≤◌, ◌<◌, ◌^◌, [], true, false, None, IfOk, IfErr, OnOk, OnErr};
 ghost use Rattle.simplex_types.specs.Certificates.{certificate_facts, notarization_facts};
@@ -21,10 +21,10 @@ use std::alloc::Global;
 use std::collections::BTreeSet;
 use std::marker::Model;
 
-/// A resolver that a driver keeps, and the views whose fetch is open: the effects of each call are applied to them.
+/// A resolver for a host, and the views whose fetch is open: the effects of each call are applied to them.
 ///
-/// `HasReceivedCalls` says which calls it was told so far: `new` and `start` begin the list, each method says what it adds, and
-/// `keeps_the_laws` says what holds of the whole.
+/// `HasReceivedCalls` lists the calls that it received so far: `new` and `start` begin the list, each method states
+/// what it adds, and `keeps_the_laws` states what holds of the whole.
 #[derive(Drop)]
 pub struct LawfulResolver {
     state: State,
@@ -44,11 +44,12 @@ impl Model for LawfulResolver {
 impl LawfulResolver {
     ghost use Rattle.simplex_resolver.specs.CallHistory.{HasReceivedCalls, IsMade, ReceivesMore, IsBegun, IsLeftBy, OfEachCallHistory, OpensTheOutstanding, OpensNone, OpensNoneAgain, AnswersTheReceived};
 
-    /// A resolver that was told nothing. It opens no fetch before `replayed` is called.
+    /// Returns a resolver that has received nothing. It opens no fetch before `replayed` is called.
     pub fn new(alloc: Global, term_length: TermLength) -> LawfulResolver
         ensures state { result.state ≡ empty term_length }
         ensures begins { HasReceivedCalls term_length [] result }
     {
+        // proof only: exposes that the term length is positive
         let _positive = term_length.get();
         LawfulResolver {
             state: State::new(alloc, term_length),
@@ -56,21 +57,24 @@ impl LawfulResolver {
         }
     }
 
-    /// A resolver that starts from a member's record, oldest entry first, as `replay_record` does, with its first fetches
-    /// open.
+    /// Returns a resolver that starts from a member's record, oldest entry first, as `replay_record` does, with
+    /// its first fetches open.
     ///
     /// # Errors
     ///
-    /// Those of `replay_record`, `OutOfMemory` also where there is none for the fetches. There is no resolver then.
+    /// Those of `replay_record`, and `OutOfMemory` also if there is none for the fetches. Then there is no
+    /// resolver.
     pub fn start<S: CertificateScheme, D: Digest>(
         alloc: Global,
         term_length: TermLength,
         entries: &[Artifact<S, D>],
     ) -> Result<LawfulResolver, ReplayError>
-        ensures begins { IfOk result (HasReceivedCalls term_length (replay_calls D.bytes S.certificate_bytes entries.now)) }
+        ensures begins { IfOk result
+            (HasReceivedCalls term_length (replay_calls D.bytes S.certificate_bytes entries.now)) }
         ensures accepted { OnOk result (record_error (newest_first S.certificate_bytes entries.now) ≡ None) }
         ensures refused { IfErr result (IsDue (record_error (newest_first S.certificate_bytes entries.now))) }
     {
+        // proof only: exposes that the term length is positive
         let _positive = term_length.get();
         let (state, effects) = replay_record(alloc, term_length, entries)?;
         let mut fetches = BTreeSet::new(alloc);
@@ -80,21 +84,24 @@ impl LawfulResolver {
         }
     }
 
-    /// Tells of a certificate that the member accepted, as `State::updated` does. Answers the effects, which are applied to
-    /// the open fetches. A fetch among them may be of a view whose fetch is open already.
+    /// Passes a certificate that the member accepted, as `State::updated` does. Returns the effects, which are
+    /// applied to the open fetches. A fetch among them may be of a view whose fetch is open already.
     ///
     /// # Errors
     ///
-    /// `Failed` on a failed resolver, `ViewTooLarge` where the certificate's view or its parent's is above 2^63 - 1; both
-    /// change nothing. After `OutOfMemory` the resolver has failed: a beginning of the effects is applied, and every later
-    /// call is refused.
+    /// `Failed` on a failed resolver, `ViewTooLarge` if the certificate's view or its parent's is above
+    /// 2^63 - 1; both change nothing. After `OutOfMemory` the resolver has failed: a prefix of the effects is
+    /// applied, and every later call is refused.
     pub fn updated<S: CertificateScheme, D: Digest>(
         &mut self,
         certificate: &Certificate<S, D>,
     ) -> Result<Vec<Effect>, Fault>
         requires { 1 ≤ certificate_view certificate.now }
-        ensures made { IfOk result (λ es. IsMade (update D.bytes (certificate_facts S.certificate_bytes certificate.now)) self.old es.items self.new) }
-        ensures told { OnOk result (ReceivesMore self.old (update D.bytes (certificate_facts S.certificate_bytes certificate.now)) self.new) }
+        ensures made { IfOk result
+            (λ es. IsMade (update D.bytes (certificate_facts S.certificate_bytes certificate.now)) self.old
+            es.items self.new) }
+        ensures told { OnOk result
+            (ReceivesMore self.old (update D.bytes (certificate_facts S.certificate_bytes certificate.now)) self.new) }
         ensures accepted { OnOk result ((self.old.state.is_failed ≡ false) × (highest_view certificate.now < 2 ^ 63)) }
         ensures refused { IfErr result (λ fault. IsLeftBy self.old (highest_view certificate.now)
             (update D.bytes (certificate_facts S.certificate_bytes certificate.now)) fault self.new) }
@@ -105,8 +112,8 @@ impl LawfulResolver {
         }
     }
 
-    /// Tells of a verdict on a notarization, as `State::certified` does. Answers the effects, which are applied to the open
-    /// fetches.
+    /// Passes a verdict on a notarization, as `State::certified` does. Returns the effects, which are applied
+    /// to the open fetches.
     ///
     /// # Errors
     ///
@@ -117,9 +124,14 @@ impl LawfulResolver {
         success: bool,
     ) -> Result<Vec<Effect>, Fault>
         requires { 1 ≤ notarization.proposal.round.view }
-        ensures made { IfOk result (λ es. IsMade (verdict D.bytes (notarization_facts S.certificate_bytes notarization) success) self.old es.items self.new) }
-        ensures told { OnOk result (ReceivesMore self.old (verdict D.bytes (notarization_facts S.certificate_bytes notarization) success) self.new) }
-        ensures accepted { OnOk result ((self.old.state.is_failed ≡ false) × (highest_named notarization.proposal < 2 ^ 63)) }
+        ensures made { IfOk result
+            (λ es. IsMade (verdict D.bytes (notarization_facts S.certificate_bytes notarization) success) self.old
+            es.items self.new) }
+        ensures told { OnOk result
+            (ReceivesMore self.old (verdict D.bytes (notarization_facts S.certificate_bytes notarization) success)
+            self.new) }
+        ensures accepted { OnOk result
+            ((self.old.state.is_failed ≡ false) × (highest_named notarization.proposal < 2 ^ 63)) }
         ensures refused { IfErr result (λ fault. IsLeftBy self.old (highest_named notarization.proposal)
             (verdict D.bytes (notarization_facts S.certificate_bytes notarization) success) fault self.new) }
     {
@@ -129,7 +141,7 @@ impl LawfulResolver {
         }
     }
 
-    /// Ends the replay, as `State::replayed` does. Answers the effects, which are applied to the open fetches.
+    /// Ends the replay, as `State::replayed` does. Returns the effects, which are applied to the open fetches.
     ///
     /// # Errors
     ///
@@ -164,27 +176,28 @@ impl LawfulResolver {
         }
     }
 
-    /// The resolver's state: what is settled, what is served, and whether it has failed.
+    /// Returns the resolver's state: what is settled, what is served, and whether it has failed.
     pub fn state(&self) -> &State
         ensures { result.now ≡ self.now.state }
     {
         &self.state
     }
 
-    /// The views whose fetch is open, rising.
+    /// Returns the views whose fetch is open, rising.
     pub fn fetches(&self) -> &BTreeSet<View>
         ensures { result.now.keys ≡ self.now.open_fetches }
     {
         &self.fetches
     }
 
-    /// The laws of all that the resolver was told so far. It does nothing: its contract is the law.
+    /// The laws of all calls that the resolver received so far. The function does nothing: its contract is the
+    /// law.
     ///
-    /// - `wanted`: once its replay has ended, its open fetches are exactly the views that are wanted by what it was told, in
-    ///   whatever order it came.
-    /// - `none`: before that none is open.
-    /// - `again`: a certificate of a kind and view that it was told of before opens no fetch.
-    /// - `answers`: what its state answers follows from what it was told.
+    /// - `wanted`: once its replay has ended, its open fetches are exactly the views to fetch after these
+    ///   calls, in whatever order they came.
+    /// - `none`: before that no fetch is open.
+    /// - `again`: a certificate of a kind and view that it received before opens no fetch.
+    /// - `answers`: what its state returns follows from what it received.
     pub fn keeps_the_laws(&self)
         ensures wanted { OfEachCallHistory self.now (OpensTheOutstanding self.now) }
         ensures none { OfEachCallHistory self.now (OpensNone self.now) }

@@ -1,4 +1,4 @@
-//! Where the newest notarization of each view stands in a record.
+//! The place of each view's newest notarization in a record.
 
 ghost use Rattle.std.specs.Prelude.{◌≡◌, ◌≤◌, [], ◌∷◌, ◌++◌, length, option_map, OnOk, OnErr};
 ghost use Rattle.std.specs.Option.{option_copied};
@@ -15,17 +15,17 @@ use std::alloc::Global;
 
 /// The places of the newest notarizations among the first entries of a record.
 ///
-/// Where there is no memory for a place, it and those behind it are not noted: then a search walks back over them. So a
-/// record is tested however little memory there is.
+/// If there is no memory for a place, it and the later ones are not noted: then a search walks back over them.
+/// So a record is tested however little memory there is.
 #[derive(Drop)]
 pub(super) struct Places {
     by_view: Tracked<usize>,
-    // of how many entries these are the places
+    // the number of entries whose places are noted
     noted: usize,
 }
 
 impl Places {
-    /// Nothing is noted.
+    /// No entry is noted.
     pub(super) fn new(alloc: Global) -> Places
         ensures places { result.by_view ≡ map.empty }
         ensures noted { result.noted ≡ 0 }
@@ -36,7 +36,7 @@ impl Places {
         }
     }
 
-    /// Notes the entry behind some others, if all of these are noted.
+    /// Notes the entry after some others, if all of these are noted.
     pub(super) fn note<S: CertificateScheme, D: Digest>(
         &mut self,
         before: &[Artifact<S, D>],
@@ -78,13 +78,14 @@ impl Places {
     }
 }
 
-/// Keeps the place of an entry, if it is a notarization.
+/// Stores the place of an entry, if it is a notarization.
 fn store_position<S: CertificateScheme, D: Digest>(
     places: &mut Tracked<usize>,
     artifact: &Artifact<S, D>,
     place: usize,
 ) -> Result<(), AllocFailed<usize>>
-    ensures kept { OnOk result (places.new ≡ with_place places.old (artifact_facts S.certificate_bytes artifact.now) place) }
+    ensures kept { OnOk result
+        (places.new ≡ with_place places.old (artifact_facts S.certificate_bytes artifact.now) place) }
     ensures refused { OnErr result (places.new ≡ places.old) }
 {
     match artifact {
@@ -93,7 +94,7 @@ fn store_position<S: CertificateScheme, D: Digest>(
     }
 }
 
-/// Puts a place in, in place of the one that the view has.
+/// Stores a place, in place of the one that the view has.
 fn put(places: &mut Tracked<usize>, view: View, place: usize) -> Result<(), AllocFailed<usize>>
     ensures kept { OnOk result (places.new ≡ map.insert places.old view place) }
     ensures refused { OnErr result (places.new ≡ places.old) }
@@ -123,7 +124,7 @@ fn last_notarization<S: CertificateScheme, D: Digest>(
     None
 }
 
-/// The notarization that the artifact is, if it is one of the view.
+/// The notarization in the artifact, if it is one of the view.
 fn notarization_at<S: CertificateScheme, D: Digest>(
     artifact: &Artifact<S, D>,
     view: View,

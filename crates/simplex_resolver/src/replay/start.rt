@@ -1,4 +1,4 @@
-//! A resolver is started from a record.
+//! Starting a resolver from a record.
 
 ghost use Rattle.std.specs.Prelude.{◌≡◌, ℕ, false, None, IfOk, IfErr, OnOk};
 ghost use Rattle.std.specs.List.{AllByRecursion};
@@ -17,7 +17,7 @@ use crate::resolver::{Effect, State};
 use simplex_types::types::{Artifact, CertificateScheme, Digest, Fault, TermLength};
 use std::alloc::Global;
 
-/// Hands the whole record in and ends the replay.
+/// Passes the whole record in and ends the replay.
 fn replay<S: CertificateScheme, D: Digest>(
     alloc: Global,
     state: &mut State,
@@ -25,31 +25,35 @@ fn replay<S: CertificateScheme, D: Digest>(
 ) -> Result<Vec<Effect>, Fault>
     requires resumption { state.old.is_failed ≡ false }
     requires sound { record_error (newest_first S.certificate_bytes entries.now) ≡ None }
-    ensures after { OnOk result (state.new ≡ all_after state.old (replay_calls D.bytes S.certificate_bytes entries.now)) }
-    ensures effects { IfOk result (λ es. es.items ≡ effects (all_after state.old (record_calls D.bytes S.certificate_bytes entries.now)) Replayed) }
+    ensures after { OnOk result
+        (state.new ≡ all_after state.old (replay_calls D.bytes S.certificate_bytes entries.now)) }
+    ensures effects { IfOk result
+        (λ es. es.items ≡ effects
+        (all_after state.old (record_calls D.bytes S.certificate_bytes entries.now)) Replayed) }
     ensures refused { IfErr result (λ fault. fault ≡ OutOfMemory) }
 {
     pass_every(alloc, state, entries)?;
     state.replayed()
 }
 
-/// Starts a resolver from a member's record, oldest entry first: it is handed each certificate, and each verdict with the
-/// last notarization of its view before it, and then the end of the replay. Votes tell it nothing. Answered with the
-/// resolver are the fetches to open.
+/// Starts a resolver from a member's record, oldest entry first. It receives each certificate, and each verdict
+/// with the last notarization of its view before it, and then the end of the replay. Votes change nothing in
+/// it. Returns the resolver and the fetches to open.
 ///
-/// The record may stand in any order that has a view's notarization before its verdicts.
+/// The record may be in any order that has a view's notarization before its verdicts.
 ///
 /// # Errors
 ///
-/// The first entry that cannot be handed in: a certificate of genesis (`ZeroView`), one that names a view above 2^63 - 1
-/// (`ViewTooLarge`), a verdict without a notarization of its view before it (`VerdictWithoutNotarization`).
-/// `OutOfMemory` comes only where none of these is due. There is no resolver then.
+/// The first entry that cannot be passed in: a certificate of genesis (`ZeroView`), one that names a view above
+/// 2^63 - 1 (`ViewTooLarge`), a verdict without a notarization of its view before it
+/// (`VerdictWithoutNotarization`). `OutOfMemory` only if none of these applies. Then there is no resolver.
 pub fn replay_record<S: CertificateScheme, D: Digest>(
     alloc: Global,
     term_length: TermLength,
     entries: &[Artifact<S, D>],
 ) -> Result<(State, Vec<Effect>), ReplayError>
-    ensures state { IfOk result (λ made. made.0 ≡ facts_of term_length (replay_calls D.bytes S.certificate_bytes entries.now)) }
+    ensures state { IfOk result
+        (λ made. made.0 ≡ facts_of term_length (replay_calls D.bytes S.certificate_bytes entries.now)) }
     ensures effects { IfOk result (λ made. made.1.items
         ≡ effects (facts_of term_length (record_calls D.bytes S.certificate_bytes entries.now)) Replayed) }
     ensures named { OnOk result (AllByRecursion NamesAView (replay_calls D.bytes S.certificate_bytes entries.now)) }
@@ -59,6 +63,7 @@ pub fn replay_record<S: CertificateScheme, D: Digest>(
     ensures refused { IfErr result (IsDue (record_error (newest_first S.certificate_bytes entries.now))) }
 {
     check_entries(alloc, entries)?;
+    // proof only: exposes that the term length is positive
     let _positive = term_length.get();
     let mut state = State::new(alloc, term_length);
     match replay(alloc, &mut state, entries) {

@@ -1,4 +1,4 @@
-//! How calls of the resolver change the open fetches.
+//! The effects of the resolver's calls on the open fetches.
 
 use simplex_types::reasons::{FetchReason, Kind};
 use simplex_types::types::View;
@@ -21,6 +21,6 @@ pub enum Effect {
     },
     /// This view is finalized: close every fetch up to it, of either kind.
     Finalized(View),
-    /// The floor is at this view now: close every fetch up to it.
+    /// The floor is now at this view: close every fetch up to it.
     Raised(View),
 }

@@ -1,4 +1,5 @@
-//! The notarized and judged views, with the encodings of those whose last verdict was true, and which of them have failed.
+//! The notarized and judged views, with the encodings of those whose last verdict was true, and which of them
+//! have failed.
 
 ghost use Rattle.std.specs.Prelude.{◌≡◌, Some, None, OnOk};
 ghost use Rattle.std.specs.Option.{option_copied};
@@ -15,14 +16,15 @@ use simplex_view_maps::tracked::Tracked;
 use std::alloc::Global;
 use std::marker::Model;
 
-/// A map from views, each with an encoding where its last verdict was true, and the set of those that a verdict has failed.
+/// A map from views, each with an encoding if its last verdict was true, and the set of those with a false
+/// verdict.
 ///
-/// Each view takes one place, but for one that has failed and was certified after that.
+/// Each view takes one place, except one that has failed and was certified after that.
 #[derive(Drop)]
 pub(super) struct Notarizations {
-    /// Views that no verdict came to.
+    /// Views without a verdict.
     noted: Views,
-    /// Views that a verdict has failed.
+    /// Views with a false verdict.
     failed: Views,
     /// The encodings of the views whose last verdict was true.
     certified: Tracked<Bytes>,
@@ -55,7 +57,7 @@ impl Notarizations {
         }
     }
 
-    /// Notes a view, unless it is there.
+    /// Adds a view, unless it is there.
     pub(super) fn note(&mut self, view: View) -> Result<(), Fault>
         ensures { OnOk result (self.new ≡ record self.old { by_view = insert_new self.old.by_view view None }) }
     {
@@ -65,16 +67,17 @@ impl Notarizations {
         self.noted.insert(view)
     }
 
-    /// The view's last verdict was true: this is the encoding that is served.
+    /// Records that the view's last verdict was true, and stores the encoding to serve.
     pub(super) fn certify(&mut self, view: View, encoding: Bytes) -> Result<(), Fault>
-        ensures { OnOk result (self.new ≡ record self.old { by_view = map.insert self.old.by_view view (Some encoding) }) }
+        ensures { OnOk result (self.new ≡ record
+            self.old { by_view = map.insert self.old.by_view view (Some encoding) }) }
     {
         served::put(&mut self.certified, view, encoding)?;
         self.noted.remove(view);
         Ok(())
     }
 
-    /// The view's last verdict was false: it has failed from now on.
+    /// Records that the view's last verdict was false: it has failed from now on.
     pub(super) fn refuse(&mut self, view: View) -> Result<(), Fault>
         ensures { OnOk result (self.new ≡ record {
           by_view = map.insert self.old.by_view view None;
@@ -87,7 +90,7 @@ impl Notarizations {
         Ok(())
     }
 
-    /// Whether the view is notarized or judged.
+    /// Returns whether the view is notarized or judged.
     pub(super) fn contains(&self, view: View) -> bool
         ensures { result ≡ map.contains_key self.now.by_view view }
     {
@@ -96,21 +99,21 @@ impl Notarizations {
             || self.noted.contains(view)
     }
 
-    /// Whether a verdict has failed the view.
+    /// Returns whether the view has a false verdict.
     pub(super) fn has_failed(&self, view: View) -> bool
         ensures { result ≡ map.contains_key self.now.failed view }
     {
         self.failed.contains(view)
     }
 
-    /// The views that a verdict has failed.
+    /// The views with a false verdict.
     pub(super) fn failed(&self) -> &Views
         ensures { result.now ≡ self.now.failed }
     {
         &self.failed
     }
 
-    /// The encoding at the view, where its last verdict was true.
+    /// The encoding at the view, if its last verdict was true.
     pub(super) fn certified_at(&self, view: View) -> Option<&Bytes>
         ensures { option_copied result ≡ certified_encoding self.now.by_view view }
     {

@@ -9,7 +9,7 @@ use simplex_types::types::{Fault, View};
 use std::alloc::AllocError;
 use std::collections::BTreeSet;
 
-/// Puts the view in.
+/// Adds the view.
 fn add_view(views: &mut BTreeSet<View>, view: View) -> Result<(), AllocError>
     ensures after { OnOk result ((v : ℕ) → has views.new.keys v ≡ (v == view || has views.old.keys v)) }
     ensures refused { OnErr result (views.new.keys ≡ views.old.keys) }
@@ -58,12 +58,12 @@ fn apply_one(outstanding: &mut BTreeSet<View>, effect: &Effect) -> Result<(), Al
     Ok(())
 }
 
-/// Applies the effects, in order, to the views whose fetch is open: a fetch puts its view in, what a
-/// nullification, a finalization or the floor settles goes out. A settled notarization changes nothing.
+/// Applies the effects, in order, to the views whose fetch is open: a fetch adds its view; what a
+/// nullification, a finalization or the floor settles is removed. A settled notarization changes nothing.
 ///
 /// # Errors
 ///
-/// `OutOfMemory` alone; then a beginning of the effects is applied.
+/// Only `OutOfMemory`; then a prefix of the effects is applied.
 pub fn apply(outstanding: &mut BTreeSet<View>, effects: &[Effect]) -> Result<(), Fault>
     ensures applied { OnOk result (IsApplied outstanding.old.keys effects.now outstanding.new.keys) }
     ensures kept { OnOk result (KeepsOutstanding outstanding.old.keys effects.now outstanding.new.keys) }

@@ -1,4 +1,4 @@
-//! Which views have to be fetched.
+//! The search for the views that must be fetched.
 
 ghost use Rattle.std.specs.Prelude.{◌≡◌, ◌<◌, ◌≤◌, ◌^◌, [], ◌∷◌, ◌++◌, if◌then◌else◌, filter, not, nat_lt, ◌&&◌, is_some, IfOk, OnOk};
 ghost use Rattle.std.specs.Option.{option_copied};
@@ -35,7 +35,8 @@ pub(super) fn needs_nullification(nullifications: &ByTerm<Bytes>, floor: View, v
     view > floor && covering_nullification(nullifications, view).is_none()
 }
 
-/// Fetches the uncovered anchors from `first` on below `current`, and answers the first anchor that is not below it.
+/// Fetches the uncovered anchors from `first` on below `current`, and returns the first anchor that is not
+/// below it.
 pub(super) fn scan(
     nullifications: &ByTerm<Bytes>,
     term_length: TermLength,
@@ -69,7 +70,8 @@ fn fetch_anchor(
     effects: &mut Vec<Effect>,
 ) -> Result<(), AllocError>
     ensures { OnOk result (effects.new.items ≡ effects.old.items
-        ++ (if not (has_covering nullifications.now anchor) then Fetch anchor cause MissingNullification ∷ [] else [])) }
+        ++ (if not (has_covering nullifications.now anchor)
+        then Fetch anchor cause MissingNullification ∷ [] else [])) }
 {
     if covering_nullification(nullifications, anchor).is_none() {
         effects.push(Effect::Fetch {

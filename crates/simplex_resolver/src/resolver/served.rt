@@ -1,4 +1,4 @@
-//! What is kept at views: steps over plain maps.
+//! Storing certificates at views: steps over plain maps.
 
 ghost use Rattle.std.specs.Prelude.{◌≡◌, ◌<◌, ◌^◌, ◌+◌, nat_lt, if◌then◌else◌, Some, OnOk, OnErr, is_some};
 ghost use Rattle.std.specs.Option.{option_copied, option_map_or};
@@ -15,7 +15,7 @@ use simplex_view_maps::by_term::ByTerm;
 use simplex_view_maps::tracked::Tracked;
 use std::alloc::Global;
 
-/// Puts the value in, in place of the one that the view has.
+/// Stores the value, in place of the one that the view has.
 pub(super) fn put<V: Drop>(tracked: &mut Tracked<V>, view: View, value: V) -> Result<(), Fault>
     ensures put { OnOk result (tracked.new ≡ map.insert tracked.old view value) }
     ensures refused { OnErr result (tracked.new ≡ tracked.old) }
@@ -28,7 +28,7 @@ pub(super) fn put<V: Drop>(tracked: &mut Tracked<V>, view: View, value: V) -> Re
     Ok(())
 }
 
-/// Keeps the nullification's encoding, unless the view has one.
+/// Stores the nullification's encoding, unless the view has one.
 pub(super) fn store_nullification<S: CertificateScheme, D: Digest>(
     alloc: Global,
     nullifications: &mut ByTerm<Bytes>,
@@ -37,7 +37,8 @@ pub(super) fn store_nullification<S: CertificateScheme, D: Digest>(
 ) -> Result<(), Fault>
     requires { IsVotable view }
     ensures kept { OnOk result (nullifications.new ≡ record nullifications.old {
-      by_view = insert_new nullifications.old.by_view view (encoding D.bytes (certificate_facts S.certificate_bytes certificate.now));
+      by_view = insert_new nullifications.old.by_view view
+          (encoding D.bytes (certificate_facts S.certificate_bytes certificate.now));
     }) }
     ensures same_terms { nullifications.new.term_length ≡ nullifications.old.term_length }
 {
@@ -59,7 +60,8 @@ pub(super) fn store_finalization<S: CertificateScheme, D: Digest>(
     certificate: &Certificate<S, D>,
 ) -> Result<(), Fault>
     ensures kept { OnOk result (finalization.new ≡ (if nat_lt (option_map_or (λ f. f.0) finalization.old 0) view
-        then Some (view, encoding D.bytes (certificate_facts S.certificate_bytes certificate.now)) else finalization.old)) }
+        then Some (view, encoding D.bytes (certificate_facts S.certificate_bytes certificate.now))
+        else finalization.old)) }
     ensures refused { OnErr result (finalization.new ≡ finalization.old) }
 {
     let last = match finalization {

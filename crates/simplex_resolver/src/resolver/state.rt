@@ -1,4 +1,4 @@
-//! What a resolver holds, and its calls.
+//! The state of a resolver, and its calls.
 
 mod certificates;
 mod serving;
@@ -22,7 +22,7 @@ use simplex_view_maps::by_term::ByTerm;
 use std::alloc::Global;
 use std::marker::Model;
 
-/// The certificates that a resolver keeps and serves, and how far their repair has come.
+/// The certificates that a resolver stores and serves, and the progress of their repair.
 #[derive(Drop)]
 pub struct State {
     alloc: Global,
@@ -31,14 +31,14 @@ pub struct State {
     current_view: View,
     /// The highest view of a finalization or a true verdict.
     floor: View,
-    /// Scans have passed the anchors below this view. A floor that rises inside a term pulls it back.
+    /// Scans have passed the anchors below this view. A floor that rises inside a term moves it back.
     scanned: View,
     /// The highest finalization's view and encoding.
     finalization: Option<(View, Bytes)>,
     /// Encoded nullifications whose term ends above the last finalized view.
     nullifications: ByTerm<Bytes>,
-    /// The notarized or judged views above the last finalized one, each with its encoding where its
-    /// last verdict was true, and which of them a verdict has failed.
+    /// The notarized or judged views above the last finalized one, each with its encoding if its last verdict
+    /// was true, and which of them have a false verdict.
     notarizations: Notarizations,
     replaying: bool,
     failed: bool,
@@ -94,10 +94,11 @@ impl Model for State {
 }
 
 impl State {
-    /// A resolver that has been given nothing. It fetches nothing before `replayed` is called.
+    /// Returns a resolver that has received nothing. It fetches nothing before `replayed` is called.
     pub fn new(alloc: Global, term_length: TermLength) -> Self
         ensures { result ≡ empty term_length }
     {
+        // proof only: exposes that the term length is positive
         let _positive = term_length.get();
         State {
             alloc,
@@ -113,22 +114,22 @@ impl State {
         }
     }
 
-    /// How many views stand in a term.
+    /// How many views a term has.
     pub fn term_length(&self) -> TermLength
         ensures { result ≡ term_length self.now }
     {
         self.term_length
     }
 
-    /// Whether a call has found no memory, or `fail` was called: then every later call but the plain getters is
-    /// refused.
+    /// Returns whether a call has run out of memory, or `fail` was called: then every later call but the plain
+    /// getters is refused.
     pub fn is_failed(&self) -> bool
         ensures { result ≡ self.now.is_failed }
     {
         self.failed
     }
 
-    /// Fails the state, for a caller who keeps the open fetches beside it and had no memory to apply the effects
+    /// Fails the state, for a host that stores the open fetches itself and had no memory to apply the effects
     /// of a call.
     pub fn fail(&mut self)
         ensures { self.new ≡ record self.old { is_failed = true } }
@@ -146,24 +147,27 @@ impl State {
         }
     }
 
-    /// Records a certificate that the member accepted, and answers what follows from it, in order: what it
-    /// settles, whether the floor rose, and the views whose nullification is to be fetched.
+    /// Records a certificate that the member accepted. Returns its effects, in order: what it settles, whether
+    /// the floor rose, and the views whose nullification must be fetched.
     ///
-    /// The current view rises to the certificate's. A nullification is kept where its term ends above the
-    /// last finalized view. A finalization raises the floor and drops what it covers. A notarization is
-    /// noted, and served once it is certified.
+    /// The current view rises to the certificate's. A nullification is stored if its term ends above the last
+    /// finalized view. A finalization raises the floor and drops what it covers. A notarization is noted, and
+    /// served once it is certified.
     ///
     /// # Errors
     ///
-    /// `Failed` on a failed state, `ViewTooLarge` where its view or its parent's is above 2^63 - 1; both
-    /// change nothing. After `OutOfMemory` the state is failed.
+    /// `Failed` on a failed state, `ViewTooLarge` if its view or its parent's is above 2^63 - 1; both change
+    /// nothing. After `OutOfMemory` the state is failed.
     pub fn updated<S: CertificateScheme, D: Digest>(
         &mut self,
         certificate: &Certificate<S, D>,
     ) -> Result<Vec<Effect>, Fault>
         requires { 1 ≤ certificate_view certificate.now }
-        ensures after { OnOk result (self.new ≡ after self.old (update D.bytes (certificate_facts S.certificate_bytes certificate.now))) }
-        ensures effects { IfOk result (λ es. es.items ≡ effects self.old (update D.bytes (certificate_facts S.certificate_bytes certificate.now))) }
+        ensures after { OnOk result
+            (self.new ≡ after self.old (update D.bytes (certificate_facts S.certificate_bytes certificate.now))) }
+        ensures effects { IfOk result
+            (λ es. es.items ≡ effects self.old
+            (update D.bytes (certificate_facts S.certificate_bytes certificate.now))) }
         ensures accepted { OnOk result ((self.old.is_failed ≡ false) × (highest_view certificate.now < 2 ^ 63)) }
         ensures refused { IfErr result (λ fault. Refused self.old (highest_view certificate.now) fault self.new) }
     {
@@ -186,8 +190,8 @@ impl State {
     /// with the notarization.
     ///
     /// A true verdict raises the floor to the notarization, which is served from then on. A false one is
-    /// remembered until a finalization; its view is fetched where it is above the floor and uncovered. The
-    /// current view stays.
+    /// remembered until a finalization; its view is fetched if it is above the floor and uncovered. The current
+    /// view stays.
     ///
     /// # Errors
     ///
@@ -198,10 +202,15 @@ impl State {
         success: bool,
     ) -> Result<Vec<Effect>, Fault>
         requires { 1 ≤ notarization.proposal.round.view }
-        ensures after { OnOk result (self.new ≡ after self.old (verdict D.bytes (notarization_facts S.certificate_bytes notarization) success)) }
-        ensures effects { IfOk result (λ es. es.items ≡ effects self.old (verdict D.bytes (notarization_facts S.certificate_bytes notarization) success)) }
+        ensures after { OnOk result
+            (self.new ≡ after self.old
+            (verdict D.bytes (notarization_facts S.certificate_bytes notarization) success)) }
+        ensures effects { IfOk result
+            (λ es. es.items ≡ effects self.old
+            (verdict D.bytes (notarization_facts S.certificate_bytes notarization) success)) }
         ensures accepted { OnOk result ((self.old.is_failed ≡ false) × (highest_named notarization.proposal < 2 ^ 63)) }
-        ensures refused { IfErr result (λ fault. Refused self.old (highest_named notarization.proposal) fault self.new) }
+        ensures refused { IfErr result
+            (λ fault. Refused self.old (highest_named notarization.proposal) fault self.new) }
     {
         if self.failed {
             return Err(Fault::Failed);
@@ -218,8 +227,8 @@ impl State {
         }
     }
 
-    /// Ends the replay of the journal, and answers the fetches that waited for it: the uncovered anchors
-    /// below the current view, then the failed views that need a nullification.
+    /// Ends the replay of the journal. Returns the fetches that waited for it: the uncovered anchors below the
+    /// current view, then the failed views that need a nullification.
     ///
     /// # Errors
     ///

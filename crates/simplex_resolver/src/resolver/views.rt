@@ -15,7 +15,7 @@ use std::marker::Model;
 
 /// A set of views, seen as a map from them.
 ///
-/// Most views have nothing but a place in such sets, so it keeps no box for each.
+/// Most views have only a place in such sets, so the set allocates no box for each.
 #[derive(Drop)]
 pub(super) struct Views {
     views: BTreeSet<View>,
@@ -57,7 +57,7 @@ impl Views {
         }
     }
 
-    /// Puts a view in, unless it is there.
+    /// Adds a view, unless it is there.
     pub(super) fn insert(&mut self, view: View) -> Result<(), Fault>
         ensures inserted { OnOk result (self.new ≡ map.insert self.old view tt) }
         ensures unless_there { OnOk result (self.new ≡ insert_new self.old view tt) }
@@ -67,14 +67,14 @@ impl Views {
         Ok(())
     }
 
-    /// Takes a view out, if it is there.
+    /// Removes a view, if it is there.
     pub(super) fn remove(&mut self, view: View)
         ensures { self.new ≡ map.remove self.old view }
     {
         self.views.remove(&view);
     }
 
-    /// Whether a view stands there.
+    /// Returns whether the set has a view.
     pub(super) fn contains(&self, view: View) -> bool
         ensures { result ≡ map.contains_key self.now view }
     {
@@ -93,7 +93,7 @@ impl Views {
         ensures { self.new ≡ at_or_above self.old view }
     {
         drop_lower(&mut self.views, view);
-        // brings that the views stand in order
+        // proof only: exposes that the views are in order
         let _count = self.views.len();
     }
 }

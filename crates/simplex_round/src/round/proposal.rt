@@ -1,4 +1,4 @@
-//! The proposal of a view: whether to build or to verify one, and what came of it.
+//! The proposal of a view: whether to build or to verify one, and the result.
 
 ghost use Rattle.std.specs.Prelude.{◌≡◌, ◌&&◌, Some, None, true, false, not, is_some, if◌then◌else◌};
 ghost use Rattle.std.specs.Option.{option_copied};
@@ -18,22 +18,22 @@ impl<S: CertificateScheme, D: Digest> Round<S, D> {
         self.slot.proposal()
     }
 
-    /// Whether a proposal is held, and no other was seen.
+    /// Returns whether a proposal is held, and no other was seen.
     pub fn has_unequivocated_proposal(&self) -> bool
         ensures { result ≡ is_unequivocated self.now.slot }
     {
         self.slot.has_unequivocated_proposal()
     }
 
-    /// Whether the held proposal was verified or is this member's own, and no other was seen.
+    /// Returns whether the held proposal was verified or is this member's own, and no other was seen.
     pub fn is_verified(&self) -> bool
         ensures { result ≡ is_verified_slot self.now.slot }
     {
         self.slot.status() == Status::Verified
     }
 
-    /// Whether this member is to build a proposal: it leads the view, has not voted to nullify
-    /// it, and neither holds a proposal nor is building one.
+    /// Returns whether this member must build a proposal: it leads the view, has not voted to
+    /// nullify it, and neither holds a proposal nor is building one.
     pub fn should_propose(&self) -> bool
         ensures { result ≡ should_propose self.now }
     {
@@ -45,8 +45,8 @@ impl<S: CertificateScheme, D: Digest> Round<S, D> {
         }
     }
 
-    /// Asks for a proposal to be built, where one is to be built: the leader is answered, and
-    /// the request stands until it is cleared.
+    /// Requests that a proposal be built, if one must be: returns the leader, and the request
+    /// remains until it is cleared.
     pub fn try_propose(&mut self) -> Option<Leader<S::PublicKey>>
         ensures leader { result ≡ (if should_propose self.old then self.old.leader else None) }
         ensures facts { self.new ≡ (if should_propose self.old then record self.old {
@@ -70,10 +70,11 @@ impl<S: CertificateScheme, D: Digest> Round<S, D> {
 
     /// Records this member's own proposal, built at `now`, as verified.
     ///
-    /// False, and nothing changes, where nullify was decided or another proposal is held, as
-    /// when a certificate came first.
+    /// Returns false, and changes nothing, if nullify was decided or another proposal is held, for
+    /// example when a certificate came first.
     pub fn proposed(&mut self, now: u64, proposal: Proposal<D>) -> bool
-        ensures recorded { result ≡ (not (is_nullify self.old.decision) && holds_or_empty (same_proposal D.eq) self.old.slot proposal) }
+        ensures recorded { result ≡
+            (not (is_nullify self.old.decision) && holds_or_empty (same_proposal D.eq) self.old.slot proposal) }
         ensures facts { self.new ≡ (if result then record self.old {
           slot = after_own
               (same_proposal D.eq) self.old.slot proposal;
@@ -90,9 +91,9 @@ impl<S: CertificateScheme, D: Digest> Round<S, D> {
         true
     }
 
-    /// Takes a proposal from the leader's vote, and answers whether it is to be verified: it is
-    /// the first one, and nullify was not decided. A proposal that differs from the held one is
-    /// kept out, and the view counts as equivocated from then on.
+    /// Takes a proposal from the leader's vote, and returns whether it is to be verified: it is the
+    /// first one, and nullify was not decided. A proposal that differs from the held one is not
+    /// stored, and the view counts as equivocated from then on.
     pub fn set_proposal(&mut self, proposal: &Proposal<D>) -> bool
         ensures first { result ≡ (not (is_nullify self.old.decision) && not (is_some self.old.slot.held)) }
         ensures facts { self.new ≡ (if is_nullify self.old.decision then self.old else record self.old {
@@ -117,8 +118,8 @@ impl<S: CertificateScheme, D: Digest> Round<S, D> {
         }
     }
 
-    /// The leader and the held proposal, where it is to be verified: another member leads the
-    /// view, nullify was not decided, and verification was not asked for. Records no request.
+    /// The leader and the held proposal, if it is to be verified: another member leads the view,
+    /// nullify was not decided, and verification was not requested. Records no request.
     pub fn pending_verification(&self) -> Option<(Leader<S::PublicKey>, Proposal<D>)>
         ensures { result ≡ pending_proposal self.now }
     {
@@ -132,8 +133,8 @@ impl<S: CertificateScheme, D: Digest> Round<S, D> {
         }
     }
 
-    /// Records that verification is asked for. False where it was asked for before, this member
-    /// leads the view, no leader is known or nullify was decided; then nothing changes.
+    /// Records that verification is requested. Returns false, and changes nothing, if it was
+    /// requested before, this member leads the view, no leader is known or nullify was decided.
     pub fn request_verify(&mut self) -> bool
         ensures first { result ≡ should_verify self.old }
         ensures facts { self.new ≡ (if should_verify self.old then record self.old {
@@ -144,24 +145,25 @@ impl<S: CertificateScheme, D: Digest> Round<S, D> {
         self.is_verify_ready() && self.slot.request_verify()
     }
 
-    /// Marks the held proposal as verified. False where nothing was marked: nullify was
+    /// Marks the held proposal as verified. Returns false if nothing was marked: nullify was
     /// decided, no proposal is held, it was verified before, or two were seen.
     pub fn verified(&mut self) -> bool
         ensures marked { result ≡ (not (is_nullify self.old.decision) && is_unverified self.old.slot) }
-        ensures facts { self.new ≡ (if is_nullify self.old.decision then self.old else record self.old { slot = after_mark self.old.slot }) }
+        ensures facts { self.new ≡
+            (if is_nullify self.old.decision then self.old else record self.old { slot = after_mark self.old.slot }) }
     {
         !self.is_nullified() && self.slot.mark_verified()
     }
 
-    /// Whether `view` was the last one that peers were asked for, to verify this view's proposal.
+    /// Returns whether `view` was the last one that peers were asked for, to verify this view's proposal.
     pub fn is_last_request(&self, view: View) -> bool
         ensures { result ≡ is_last_request self.now view }
     {
         self.last_request == Some(view)
     }
 
-    /// Notes that the verification of this view's proposal asks peers for a certificate of
-    /// `view`. False where that view was the last one asked for.
+    /// Records that the verification of this view's proposal asks peers for a certificate of
+    /// `view`. Returns false if that view was the last one asked for.
     pub fn request(&mut self, view: View) -> bool
         ensures first { result ≡ not (is_last_request self.old view) }
         ensures facts { self.new ≡ record self.old { last_request = Some view } }
@@ -171,8 +173,8 @@ impl<S: CertificateScheme, D: Digest> Round<S, D> {
         first
     }
 
-    /// Binds the view to a proposal and its parent's payload, as they were when it was handed to
-    /// the application, built or voted for. A certificate may replace either later.
+    /// Binds the view to a proposal and its parent's payload, as they were when the proposal was
+    /// passed to the application, built or voted for. A certificate may replace either later.
     pub fn set_verifying(&mut self, proposal: Proposal<D>, parent_payload: D)
         ensures { self.new ≡ record self.old { binding = Some (proposal, parent_payload) } }
     {

@@ -8,7 +8,7 @@ use simplex_types::reasons::TimeoutReason;
 use simplex_types::types::{CertificateScheme, Digest, Fault};
 
 impl<S: CertificateScheme, D: Digest> Round<S, D> {
-    /// Notes that this member entered the view at `now`. The first entry stays.
+    /// Records that this member entered the view at `now`. The first entry stays.
     pub fn mark_entered(&mut self, now: u64)
         ensures { self.new ≡ record self.old { entered_at = Some (unwrap_or self.old.entered_at now) } }
     {
@@ -18,7 +18,7 @@ impl<S: CertificateScheme, D: Digest> Round<S, D> {
     }
 
     /// Returns the milliseconds from the build of this member's own proposal to `now`, or without
-    /// one from its entry: 0 where `now` is earlier, none without either.
+    /// one from its entry: 0 if `now` is earlier, `None` without either.
     pub fn elapsed_since_start(&self, now: u64) -> Option<u64>
         ensures { result ≡ elapsed now (start_of self.now) }
     {
@@ -28,7 +28,7 @@ impl<S: CertificateScheme, D: Digest> Round<S, D> {
         }
     }
 
-    /// The time since this member entered the view. 0 where `now` is earlier, none where it did
+    /// The milliseconds since this member entered the view: 0 if `now` is earlier, `None` if it did
     /// not enter.
     pub fn elapsed_since_entry(&self, now: u64) -> Option<u64>
         ensures { result ≡ elapsed now self.now.entered_at }
@@ -37,8 +37,8 @@ impl<S: CertificateScheme, D: Digest> Round<S, D> {
         Some(now.saturating_sub(start))
     }
 
-    /// Arms the deadlines, as is done when the view is entered: those for a proposal and for its
-    /// certification while neither vote was decided, the stall deadline always.
+    /// Arms the deadlines at the entry of the view: those for a proposal and for its certification
+    /// while neither vote was decided, the stall deadline always.
     pub fn set_deadlines(&mut self, leader: u64, certification: u64, stall: Option<u64>)
         ensures { self.new ≡ with_deadlines self.old leader certification stall }
     {
@@ -63,7 +63,7 @@ impl<S: CertificateScheme, D: Digest> Round<S, D> {
         self.stall_deadline
     }
 
-    /// Latches an explicit timeout at `now`, and answers whether it did. The first one stays, with
+    /// Latches an explicit timeout at `now`, and returns whether it did. The first one stays, with
     /// its moment and reason; once either vote was decided nothing is latched any more.
     pub fn latch_timeout(&mut self, now: u64, reason: TimeoutReason) -> bool
         ensures answer { result ≡ awaits_latch self.old }
@@ -78,14 +78,14 @@ impl<S: CertificateScheme, D: Digest> Round<S, D> {
         false
     }
 
-    /// The round's next timeout and its reason. None where the view is finalized or this member
-    /// voted to finalize it.
+    /// Returns the round's next timeout and its reason. `None` if the view is finalized or this
+    /// member voted to finalize it.
     ///
     /// After its vote to nullify only the repetition of that vote is due, `retry_interval` after
     /// the first poll since the vote. Before, it is the latched timeout if `allow_latched`, else
     /// the leader deadline while no proposal is held, else the certification deadline while the
-    /// view is not certified. Answers `TimeOverflow`, and nothing has changed, where the moment
-    /// of a repetition passes the greatest u64.
+    /// view is not certified. Returns `TimeOverflow`, with nothing changed, if the moment of a
+    /// repetition passes the greatest u64.
     pub fn next_timeout(
         &mut self,
         now: u64,
@@ -96,7 +96,8 @@ impl<S: CertificateScheme, D: Digest> Round<S, D> {
         ensures refused { IsOkUnless result Fault.TimeOverflow }
         ensures unchanged { OnErr result (self.new ≡ self.old) }
         ensures facts { OnOk result (self.new ≡ with_retry self.old now retry_interval) }
-        ensures answer { IfOk result (λ timeout. timeout ≡ round_timeout (with_retry self.old now retry_interval) allow_latched) }
+        ensures answer { IfOk result
+            (λ timeout. timeout ≡ round_timeout (with_retry self.old now retry_interval) allow_latched) }
     {
         if self.finalization.is_some() {
             return Ok(None);

@@ -10,15 +10,15 @@ use super::{Certification, Round};
 use simplex_types::types::{CertificateScheme, Digest, Proposal};
 
 impl<S: CertificateScheme, D: Digest> Round<S, D> {
-    /// How far the certification is.
+    /// The progress of the certification.
     pub fn certification(&self) -> Certification
         ensures { result ≡ self.now.certification }
     {
         self.certification
     }
 
-    /// The held proposal, where it is the notarized one and its certification was neither asked
-    /// for, nor answered, nor given up. Records no request.
+    /// The held proposal, if it is the notarized one and its certification was neither requested,
+    /// nor answered, nor abandoned. Records no request.
     pub fn pending_certification(&self) -> Option<Proposal<D>>
         ensures { result ≡ certifiable_proposal (same_proposal D.eq) self.now }
     {
@@ -33,8 +33,8 @@ impl<S: CertificateScheme, D: Digest> Round<S, D> {
         }
     }
 
-    /// Records that certification was asked for, under this token, in place of all before. A
-    /// caller that has a verdict does not call it: the verdict would be lost.
+    /// Records that certification was requested, under this token, in place of any before. A host
+    /// that has a verdict must not call it: the verdict would be lost.
     pub fn set_certify_handle(&mut self, token: u64)
         ensures { self.new ≡ record self.old { certification = Outstanding token } }
     {
@@ -51,7 +51,7 @@ impl<S: CertificateScheme, D: Digest> Round<S, D> {
         }
     }
 
-    /// Gives the certification up, unless there is a verdict.
+    /// Abandons the certification, unless there is a verdict.
     pub fn abort_certify(&mut self)
         ensures { self.new ≡ record self.old { certification = after_abort self.old.certification } }
     {
@@ -60,15 +60,15 @@ impl<S: CertificateScheme, D: Digest> Round<S, D> {
         }
     }
 
-    /// Whether the certification was given up, and no verdict came after that.
+    /// Returns whether the certification was abandoned, and no verdict came after that.
     pub fn is_certify_aborted(&self) -> bool
         ensures { result ≡ is_aborted self.now.certification }
     {
         matches!(self.certification, Certification::Aborted)
     }
 
-    /// Records the verdict, also where certification was given up or not asked for. Needs that
-    /// no contradicting verdict stands, which `certification` shows.
+    /// Records the verdict, also if certification was abandoned or not requested. There must be no
+    /// contradicting verdict, which `certification` shows.
     pub fn certified(&mut self, success: bool)
         requires { is_judged (not success) self.old.certification ≡ false }
         ensures { self.new ≡ certified_round self.old success }
@@ -76,14 +76,14 @@ impl<S: CertificateScheme, D: Digest> Round<S, D> {
         self.certification = Certification::Judged(success);
     }
 
-    /// Whether the application certified the proposal.
+    /// Returns whether the application certified the proposal.
     pub fn is_certified(&self) -> bool
         ensures { result ≡ is_certified self.now.certification }
     {
         matches!(self.certification, Certification::Judged(true))
     }
 
-    /// The held proposal, where the view is finalized or certified.
+    /// The held proposal, if the view is finalized or certified.
     pub fn certified_proposal(&self) -> Option<&Proposal<D>>
         ensures { option_copied result ≡ certified_held self.now }
     {
@@ -93,7 +93,7 @@ impl<S: CertificateScheme, D: Digest> Round<S, D> {
         self.slot.proposal()
     }
 
-    /// The held proposal's payload, where the view is finalized or certified.
+    /// The held proposal's payload, if the view is finalized or certified.
     pub fn certified_payload(&self) -> Option<&D>
         ensures { option_copied result ≡ option_map (λ p. p.payload) (certified_held self.now) }
     {

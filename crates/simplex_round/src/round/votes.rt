@@ -1,4 +1,4 @@
-//! This member's votes in a view, and what its record says of them.
+//! This member's votes in a view, and their replay from its record.
 
 ghost use Rattle.std.specs.Prelude.{◌≡◌, ◌||◌, Some, None, true, false, if◌then◌else◌};
 ghost use Rattle.simplex_types.specs.Proposal.{same_proposal};
@@ -9,26 +9,26 @@ use super::{Decision, Round};
 use simplex_types::types::{Artifact, CertificateScheme, Digest, Proposal};
 
 impl<S: CertificateScheme, D: Digest> Round<S, D> {
-    /// Whether the vote to notarize was decided.
+    /// Returns whether the vote to notarize was decided.
     pub fn broadcast_notarize(&self) -> bool
         ensures { result ≡ self.now.notarize_decided }
     {
         self.notarize_decided
     }
 
-    /// Whether `construct_notarize` would answer a proposal: neither notarize nor nullify was
-    /// decided, and the held proposal is verified and was not contradicted.
+    /// Returns whether `construct_notarize` would return a proposal: neither notarize nor nullify
+    /// was decided, and the held proposal is verified and was not contradicted.
     pub fn can_construct_notarize(&self) -> bool
         ensures { result ≡ can_notarize self.now }
     {
         !self.notarize_decided && !self.is_nullified() && self.is_verified()
     }
 
-    /// Decides the vote to notarize and answers its proposal, once, where
-    /// `can_construct_notarize`.
+    /// Decides the vote to notarize and returns its proposal, once, if `can_construct_notarize`.
     pub fn construct_notarize(&mut self) -> Option<Proposal<D>>
         ensures vote { result ≡ (if can_notarize self.old then self.old.slot.held else None) }
-        ensures facts { self.new ≡ record self.old { notarize_decided = self.old.notarize_decided || can_notarize self.old } }
+        ensures facts { self.new ≡ record
+            self.old { notarize_decided = self.old.notarize_decided || can_notarize self.old } }
     {
         if !self.can_construct_notarize() {
             return None;
@@ -37,9 +37,9 @@ impl<S: CertificateScheme, D: Digest> Round<S, D> {
         self.slot.proposal().copied()
     }
 
-    /// Decides the vote to nullify, and answers whether it was decided before, as a repetition
-    /// is. None, and nothing changes, after the vote to finalize. The moment of the next
-    /// repetition is open until the next poll.
+    /// Decides the vote to nullify, and returns whether it was decided before, as it is for a
+    /// repetition. Returns `None`, and changes nothing, after the vote to finalize. The moment of
+    /// the next repetition is unset until the next poll.
     pub fn construct_nullify(&mut self) -> Option<bool>
         ensures retry { result ≡ (if is_finalize self.old.decision then None else Some (is_nullify self.old.decision)) }
         ensures facts { self.new ≡ after_nullify self.old }
@@ -53,8 +53,8 @@ impl<S: CertificateScheme, D: Digest> Round<S, D> {
         Some(retry)
     }
 
-    /// Whether `construct_finalize` would answer a proposal: neither nullify nor finalize was
-    /// decided, a proposal is held and was not contradicted, and the view is notarized and
+    /// Returns whether `construct_finalize` would return a proposal: neither nullify nor finalize
+    /// was decided, a proposal is held and was not contradicted, and the view is notarized and
     /// certified. This member need not have verified it.
     pub fn can_construct_finalize(&self) -> bool
         ensures { result ≡ can_finalize self.now }
@@ -65,11 +65,12 @@ impl<S: CertificateScheme, D: Digest> Round<S, D> {
             && self.is_certified()
     }
 
-    /// Decides the vote to finalize and answers its proposal, once, where
-    /// `can_construct_finalize`. Else nothing changes.
+    /// Decides the vote to finalize and returns its proposal, once, if `can_construct_finalize`.
+    /// Otherwise nothing changes.
     pub fn construct_finalize(&mut self) -> Option<Proposal<D>>
         ensures vote { result ≡ (if can_finalize self.old then self.old.slot.held else None) }
-        ensures facts { self.new ≡ (if can_finalize self.old then record self.old { decision = Finalize } else self.old) }
+        ensures facts { self.new ≡
+            (if can_finalize self.old then record self.old { decision = Finalize } else self.old) }
     {
         if !self.can_construct_finalize() {
             return None;
@@ -78,12 +79,12 @@ impl<S: CertificateScheme, D: Digest> Round<S, D> {
         self.slot.proposal().copied()
     }
 
-    /// Takes an entry of this member's record after a restart: a vote is decided again, and its
-    /// notarized proposal counts as verified; a certificate counts as handed out, and is not
-    /// added; a verdict stands.
+    /// Replays an entry of this member's record after a restart: a vote is decided again, and its
+    /// notarized proposal counts as verified; a certificate counts as already broadcast, and is not
+    /// added; a verdict is restored.
     ///
-    /// Needs that a vote is this member's own, that nullify and finalize do not meet, and that
-    /// no verdict contradicts another.
+    /// A vote must be this member's own, nullify and finalize must not meet, and no verdict may
+    /// contradict another.
     pub fn replay(&mut self, artifact: &Artifact<S, D>)
         requires { TakesArtifact self.old artifact.now }
         ensures { self.new ≡ after_replay (same_proposal D.eq) self.old artifact.now }

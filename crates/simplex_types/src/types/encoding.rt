@@ -1,4 +1,4 @@
-//! The bytes of certificates, as members keep and exchange them.
+//! The bytes of certificates, as members store and exchange them.
 
 ghost use Rattle.std.specs.Prelude.{◌≡◌, ◌++◌, OnOk, IfOk, IsOkUnless};
 ghost use Rattle.std.specs.Int.{w64, to_be_bytes};
@@ -12,7 +12,7 @@ use crate::types::scheme::{CertificateScheme, Digest};
 use bytes::{BufMut, Bytes, BytesMut};
 use std::alloc::{AllocError, Global};
 
-/// The first byte of an encoded notarization, and of what a vote to notarize signs; likewise below.
+/// The first byte of an encoded notarization, and of what a vote to notarize signs; the same for the two below.
 const NOTARIZATION: u8 = 0;
 /// The first byte of an encoded nullification.
 const NULLIFICATION: u8 = 1;
@@ -20,12 +20,13 @@ const NULLIFICATION: u8 = 1;
 const FINALIZATION: u8 = 2;
 
 impl<S: CertificateScheme, D: Digest> Certificate<S, D> {
-    /// The certificate's bytes: the kind, the round or the whole proposal, and the scheme's own bytes.
+    /// Returns the certificate's bytes: the kind, the round or the whole proposal, and the scheme's own bytes.
     ///
-    /// Two certificates have equal encodings exactly where their kind, round, proposal and scheme's bytes are equal.
-    /// The only fault is `OutOfMemory`. `decode_certificate` of `simplex_codec` is the way back.
+    /// Two certificates have equal encodings exactly if their kind, round, proposal and scheme's bytes are equal. The
+    /// only fault is `OutOfMemory`. `decode_certificate` of `simplex_codec` is the inverse.
     pub fn encode(&self, alloc: Global) -> Result<Bytes, Fault>
-        ensures encoded { IfOk result (λ bytes. bytes ≡ encoding D.bytes (certificate_facts S.certificate_bytes self.now)) }
+        ensures encoded { IfOk result
+            (λ bytes. bytes ≡ encoding D.bytes (certificate_facts S.certificate_bytes self.now)) }
         ensures refused { IsOkUnless result Fault.OutOfMemory }
     {
         let mut out = BytesMut::new(alloc);
@@ -34,7 +35,7 @@ impl<S: CertificateScheme, D: Digest> Certificate<S, D> {
         Ok(out.freeze()?)
     }
 
-    /// What its votes are about.
+    /// The subject of its votes.
     fn subject(&self) -> Subject<D>
         ensures { result ≡ certificate_subject (certificate_facts S.certificate_bytes self.now) }
     {
@@ -58,7 +59,7 @@ impl<S: CertificateScheme, D: Digest> Certificate<S, D> {
 }
 
 impl<D: Digest> Subject<D> {
-    /// The bytes that a vote on the subject signs: what kind of vote it is, then the round or the whole proposal.
+    /// Returns the bytes that a vote on the subject signs: the kind of vote, then the round or the whole proposal.
     pub fn encode(&self, alloc: Global) -> Result<Bytes, AllocError>
         ensures { IfOk result (λ bytes. bytes ≡ subject_bytes D.bytes self.now) }
     {
@@ -68,9 +69,9 @@ impl<D: Digest> Subject<D> {
     }
 }
 
-/// Encodings tell certificates apart: equal ones are of one kind, round and proposal, and have the same scheme's bytes.
+/// Encodings distinguish certificates: equal ones are of one kind, round and proposal, and have the same scheme's bytes.
 ///
-/// It does nothing: its contract is the law.
+/// The function does nothing: its contract is the law.
 pub fn encoding_tells_apart<D: Digest>()
     ensures { EncodingTellsApart D.bytes }
 {}

@@ -7,14 +7,14 @@ use std::fmt;
 /// Why a call was refused, by rising number from 1.
 ///
 /// After `ViewTooLarge` and `TimeOverflow` nothing has changed. After `OutOfMemory` a state that was to be changed has
-/// failed, unless its call says otherwise, and answers `Failed` from then on.
+/// failed, unless its call says otherwise, and returns `Failed` from then on.
 #[derive(Clone, Copy, PartialEq, Eq, Debug)]
 pub enum Fault {
-    /// A growth was refused for want of memory.
+    /// An allocation failed: out of memory.
     OutOfMemory,
     /// The state or the member has failed before.
     Failed,
-    /// A view or a parent that was handed in is above 2^63 - 1.
+    /// A view or a parent that was passed in is above 2^63 - 1.
     ViewTooLarge,
     /// A deadline or a retry moment passes 2^64 - 1 milliseconds.
     TimeOverflow,
@@ -60,7 +60,7 @@ impl From<AllocError> for Fault {
     }
 }
 
-/// There was no memory for the value, which is handed back.
+/// There was no memory for the value, which is returned.
 #[derive(Debug, Drop)]
 pub struct AllocFailed<V> {
     pub value: V,

@@ -1,4 +1,4 @@
-//! The numbers that messages are about: views and their terms, epochs, members and counts of views.
+//! The numbers in messages: views and their terms, epochs, members and counts of views.
 
 ghost use Rattle.std.specs.Range.{range_inclusive_start, range_inclusive_end, range_inclusive_exhausted};
 ghost use Rattle.std.specs.Prelude.{◌≡◌, false, ◌+◌, ◌-◌, ◌^◌, ◌<◌, ◌≤◌, ◌↔◌, IsTrue, IsSome, SomeIff};
@@ -12,7 +12,7 @@ use std::ops::RangeInclusive;
 /// No certificate, proposal or artifact may name a view above this one.
 pub const LARGEST_VIEW: u64 = (1 << 63) - 1;
 
-/// A view: 0 is genesis, and the views from 1 on stand in terms.
+/// A view: 0 is genesis, and the views from 1 on are grouped into terms.
 #[derive(Clone, Copy, PartialEq, Eq, PartialOrd, Ord, Debug)]
 pub struct View {
     number: u64,
@@ -30,7 +30,7 @@ impl Model for View {
     ghost inverse = { λ n. record { number = n } };
 }
 
-/// How many views stand in a term: at least one.
+/// How many views a term has: at least one.
 #[derive(Clone, Copy, PartialEq, Eq, Debug)]
 pub struct TermLength {
     views: u32,
@@ -95,14 +95,14 @@ impl View {
         self.number
     }
 
-    /// Whether this is genesis.
+    /// Returns whether this is genesis.
     pub fn is_zero(self) -> bool
         ensures { IsTrue result ↔ (self ≡ 0) }
     {
         self.number == 0
     }
 
-    /// The view after this one, which is to be below the greatest of 64 bits.
+    /// The view after this one, which must be below 2^64 - 1.
     pub fn next(self) -> View
         requires { self + 1 < 2 ^ 64 }
         ensures { result ≡ self + 1 }
@@ -120,7 +120,7 @@ impl View {
         Some(View { number })
     }
 
-    /// The number of the term that the view stands in, from 0. Genesis counts to the first.
+    /// The number of the view's term, from 0. Genesis counts as part of the first.
     pub fn term_index(self, length: TermLength) -> u64
         ensures { result ≡ term_index length self }
     {
@@ -168,7 +168,7 @@ impl View {
         self.term_start(length)..=self
     }
 
-    /// Whether the view is the first of its term. Genesis is not.
+    /// Returns whether the view is the first of its term. Genesis is not.
     pub fn is_term_start(self, length: TermLength) -> bool
         ensures { IsTrue result ↔ (self ≡ term_start length self) }
     {
@@ -176,7 +176,7 @@ impl View {
     }
 }
 
-/// An epoch: one engine runs in each, and every message names its own.
+/// An epoch: one instance of the protocol runs in each, and every message names its own.
 #[derive(Clone, Copy, PartialEq, Eq, PartialOrd, Ord, Debug)]
 pub struct Epoch {
     number: u64,
@@ -285,9 +285,9 @@ impl ViewDelta {
     }
 }
 
-/// What covering says of a term: a nullification covers its own view and the rest of its term, and nothing below.
+/// The law of covering within a term: a nullification covers its own view and the rest of its term, and nothing below.
 ///
-/// It does nothing: its contract is the law.
+/// The function does nothing: its contract is the law.
 pub fn covering_keeps_to_terms()
     ensures { CoveringLaws }
 {}

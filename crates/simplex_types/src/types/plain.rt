@@ -1,4 +1,4 @@
-//! A digest, keys, a scheme and an elector for tests and the program. No security is meant.
+//! A digest, keys, a scheme and an elector for tests and the program. They are not secure.
 
 ghost use Rattle.std.specs.Prelude.{◌≡◌, ◌<◌, ◌+◌, ◌^◌, ◌%◌, ℕ, true, List, Option, Some, None, length, IfOk, nat_eq, refl, option_map, map};
 ghost use Rattle.std.specs.Option.{ForSome};
@@ -30,7 +30,7 @@ impl PlainDigest {
         }
     }
 
-    /// The number that the bytes are, big-endian.
+    /// The number in the bytes, big-endian.
     pub fn number(&self) -> u64
         ensures { result ≡ from_be_bytes w64 (digest_bytes self.now) }
     {
@@ -66,14 +66,14 @@ pub struct PlainKey(pub u32);
 
 impl PublicKey for PlainKey {}
 
-/// A signature: whose key it was made with, and what was signed.
+/// A signature: the key that made it, and what was signed.
 #[derive(Clone, Copy)]
 pub struct PlainSignature {
     pub key: PlainKey,
     pub subject: Subject<PlainDigest>,
 }
 
-/// A certificate that is good or not.
+/// A certificate that is valid or not.
 #[derive(Drop)]
 pub struct PlainCertificate {
     pub good: bool,
@@ -191,7 +191,7 @@ impl Scheme<PlainDigest> for PlainScheme {
     }
 }
 
-/// Members lead in turn, one each term.
+/// Members lead round-robin, one each term.
 #[derive(Drop)]
 pub struct PlainElector {
     count: u32,

@@ -1,4 +1,4 @@
-//! What the protocol asks of digests, keys, schemes and electors.
+//! The traits that the protocol requires of digests, keys, schemes and electors.
 
 ghost use Rattle.std.specs.Prelude.{◌≡◌, ◌<◌, ◌↔◌, ℕ, Bool, true, List, Option, Some, None, length, IsTrue, IsSome, IfOk, IfSome, is_some, option_map};
 ghost use Rattle.std.specs.Option.{option_copied, ForSome};
@@ -19,7 +19,7 @@ pub trait Digest: Copy + PartialEq {
 
     ghost SIZE: { ℕ };
 
-    /// The bytes of a digest: as many as `SIZE`, and equal exactly where the digests are.
+    /// The bytes of a digest: as many as `SIZE`, and equal exactly if the digests are.
     ghost bytes: { Self → List ℕ };
 
     /// The digest's bytes.
@@ -35,10 +35,10 @@ pub trait Digest: Copy + PartialEq {
     ghost bytes_injective: { (d e : Self) → bytes d ≡ bytes e → d ≡ e };
 }
 
-/// A member's public key. It is carried and handed out; the core compares no keys.
+/// A member's public key. It is stored and returned; the core compares no keys.
 pub trait PublicKey: Copy {}
 
-/// Who signs, for whom, and what its certificates are.
+/// The members and their keys, this member's own key, and the type of certificates.
 pub trait CertificateScheme: Drop {
     type PublicKey: PublicKey;
 
@@ -55,26 +55,26 @@ pub trait CertificateScheme: Drop {
     /// The bytes of a certificate.
     ghost certificate_bytes: { Self.Certificate → List ℕ };
 
-    /// A scheme with the same key and the same participants.
+    /// Returns a scheme with the same key and the same participants.
     fn copy(&self, alloc: Global) -> Result<Self, AllocError>
         ensures signer { IfOk result (λ s. me s ≡ me self.now) }
         ensures members { IfOk result (λ s. participants s ≡ participants self.now) };
 
-    /// An equal signature.
+    /// Returns an equal signature.
     fn copy_signature(
         alloc: Global,
         signature: &Self::Signature,
     ) -> Result<Self::Signature, AllocError>
         ensures { IfOk result (λ s. s ≡ signature.now) };
 
-    /// A certificate with the same bytes.
+    /// Returns a certificate with the same bytes.
     fn copy_certificate(
         alloc: Global,
         certificate: &Self::Certificate,
     ) -> Result<Self::Certificate, AllocError>
         ensures { IfOk result (λ c. certificate_bytes c ≡ certificate_bytes certificate.now) };
 
-    /// The member that the scheme signs for; none without a key.
+    /// The member that the scheme signs for; `None` without a key.
     fn me(&self) -> Option<Participant>
         ensures { result ≡ me self.now };
 
@@ -95,24 +95,26 @@ pub trait Scheme<D: Digest>: CertificateScheme {
     /// The signature is one on the subject, under the key. There may be several of one subject and key.
     ghost IsSignature: { Self.PublicKey → Subject D → Self.Signature → Type 0 };
 
-    /// Whether a certificate is good for a subject.
+    /// True if a certificate is valid for a subject.
     ghost accepts: { Self → Subject D → Self.Certificate → Bool };
 
-    /// A signature on a subject under the key of this scheme's member; none exactly where the scheme signs for no one.
+    /// Returns a signature on a subject under the key of this scheme's member; `None` exactly if the scheme signs for no
+    /// one.
     fn sign(
         &self,
         alloc: Global,
         subject: &Subject<D>,
     ) -> Result<Option<Self::Signature>, AllocError>
         ensures signs { IfOk result (λ s. is_some s ≡ is_some (Self.me self.now)) }
-        ensures signed { IfOk result (λ s. IfSome s (IsSignedAs IsSignature (Self.me self.now) (Self.participants self.now) subject.now)) };
+        ensures signed { IfOk result
+            (λ s. IfSome s (IsSignedAs IsSignature (Self.me self.now) (Self.participants self.now) subject.now)) };
 
-    /// Whether the certificate is good for the subject.
+    /// Returns whether the certificate is valid for the subject.
     fn verify(&self, subject: &Subject<D>, certificate: &Self::Certificate) -> bool
         ensures { result ≡ accepts self.now subject.now certificate.now };
 }
 
-/// Who leads a view.
+/// Chooses the leader of each view.
 pub trait Elector<S: CertificateScheme>: Drop {
     /// The terms of the views.
     ghost terms: { Self → Terms };
@@ -126,7 +128,7 @@ pub trait Elector<S: CertificateScheme>: Drop {
     /// The leader of a round, after a certificate of these bytes.
     ghost elect: { Self → Round → Option (List ℕ) → ℕ };
 
-    /// How the views are parted into terms.
+    /// How the views are divided into terms.
     fn terms(&self) -> Terms
         ensures { result ≡ terms self.now };
 
@@ -134,17 +136,18 @@ pub trait Elector<S: CertificateScheme>: Drop {
     fn members(&self) -> usize
         ensures { result ≡ members self.now };
 
-    /// Whether leaders are known before any certificate.
+    /// Returns whether leaders are known before any certificate.
     fn elects_early(&self) -> bool
         ensures { result ≡ elects_early self.now };
 
-    /// The leader of a view, after the certificate that leads to it where there is one.
+    /// The leader of a view, after the certificate that leads to it if there is one.
     fn elect(&self, round: Round, certificate: Option<&S::Certificate>) -> Participant
         ensures { result ≡ elect self.now round (option_map S.certificate_bytes (option_copied certificate.entry)) };
 
     /// Each leader is a member.
     ghost elected_is_member: { (e : Self) (round : Round) (seed : Option (List ℕ)) → elect e round seed < members e };
 
-    /// Where leaders are known early, the certificate makes no difference.
-    ghost early_needs_no_seed: { (e : Self) (round : Round) (seed : Option (List ℕ)) → elects_early e ≡ true → elect e round seed ≡ elect e round None };
+    /// If leaders are known early, the certificate makes no difference.
+    ghost early_needs_no_seed: { (e : Self) (round : Round) (seed : Option (List ℕ)) → elects_early e ≡ true
+        → elect e round seed ≡ elect e round None };
 }

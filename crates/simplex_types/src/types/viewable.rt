@@ -1,4 +1,4 @@
-//! What has a view.
+//! Types with a view.
 
 ghost use Rattle.std.specs.Prelude.{◌≡◌, ℕ};
 

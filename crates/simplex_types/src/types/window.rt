@@ -1,4 +1,4 @@
-//! Which views may be voted for, and which messages are taken.
+//! Which views may be voted for, and which messages are accepted.
 
 ghost use Rattle.std.specs.Prelude.{◌≡◌, ◌↔◌, ◌≤◌, ◌^◌, ◌-◌, IsTrue};
 ghost use Rattle.simplex_types.specs.Terms.{HasTerm};
@@ -6,14 +6,14 @@ ghost use Rattle.simplex_types.specs.Window.{issuance_floor, AdmitsOutbound, Adm
 
 use crate::types::numbers::{TermLength, View, ViewDelta};
 
-/// How an elector parts the views into terms, and how far members run ahead inside one.
+/// How an elector divides the views into terms, and how far members run ahead inside one.
 #[derive(Clone, Copy, PartialEq, Eq, Debug)]
 pub struct Terms {
     /// How many views one leader leads.
     pub term_length: TermLength,
     /// How many views above the current one may be voted for inside its term.
     pub optimistic_views: u64,
-    /// The milliseconds from the entry of the least unfinalized view of a term until the term counts as stalled.
+    /// The milliseconds from the entry of the lowest unfinalized view of a term until the term counts as stalled.
     pub stall_timeout: Option<u64>,
 }
 
@@ -39,7 +39,7 @@ pub struct Lookahead {
 impl Lookahead {
     /// The lowest view whose certificate opens the window of a view for optimistic votes.
     ///
-    /// None for genesis, for the first view of a term, and where no view is voted for ahead.
+    /// `None` for genesis, for the first view of a term, and if no view is voted for ahead.
     pub fn issuance_floor(&self, view: View) -> Option<View>
         ensures { result ≡ issuance_floor self.now.term_length self.now.optimistic_views view }
     {
@@ -58,10 +58,10 @@ impl Lookahead {
         Some(View::new(before_term.max(before_window)))
     }
 
-    /// Whether a member whose current view is `current` may send a vote for `view`.
+    /// Returns whether a member whose current view is `current` may send a vote for `view`.
     ///
     /// It may at or below the current view, `optimistic_views` ahead inside the current term, and at the next term's
-    /// start where that is one view ahead or no more than `optimistic_views`.
+    /// start if that is one view ahead or no more than `optimistic_views`.
     pub fn admits_outbound(&self, current: View, view: View) -> bool
         ensures { IsTrue result ↔ AdmitsOutbound self.now.term_length self.now.optimistic_views current view }
     {
@@ -80,7 +80,7 @@ impl Lookahead {
     }
 }
 
-/// Which views a member keeps, and which messages it takes, at its current and last finalized view.
+/// Which views a member retains, and which messages it accepts, at its current and last finalized view.
 #[derive(Clone, Copy, PartialEq, Eq, Debug)]
 pub struct Viewport {
     pub finalized: View,
@@ -90,7 +90,7 @@ pub struct Viewport {
 }
 
 impl Viewport {
-    /// The lowest view that is kept: the retention below the last finalized one, and not below 0.
+    /// The lowest retained view: the retention below the last finalized one, and not below 0.
     pub fn floor(&self) -> View
         ensures { result ≡ self.now.finalized - self.now.view_retention }
     {
@@ -101,14 +101,14 @@ impl Viewport {
         )
     }
 
-    /// Whether a certificate of the view is taken: the view is not genesis and is kept.
+    /// Returns whether a certificate of the view is accepted: the view is retained and is not genesis.
     pub fn admits_certificate(&self, view: View) -> bool
         ensures { IsTrue result ↔ AdmitsCertificate self.now view }
     {
         !view.is_zero() && self.floor() <= view
     }
 
-    /// Whether a vote for the view is taken: the view is kept, and not above the next term's start.
+    /// Returns whether a vote for the view is accepted: the view is retained, and not above the next term's start.
     pub fn admits_vote(&self, view: View) -> bool
         requires { HasTerm self.now.current }
         ensures { IsTrue result ↔ AdmitsVote self.now view }

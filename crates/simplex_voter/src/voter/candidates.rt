@@ -1,5 +1,5 @@
-//! The views that wait for certification: what each waits for, what is offered of them and what they have to fetch, and the
-//! certifications that are under way, each known by the token of its request.
+//! Certification candidates: what each waits for, which are offered, which notarizations they need, and the certifications
+//! under way, each known by the token of its request.
 
 ghost use Rattle.std.specs.Prelude.{◌≡◌, ◌||◌, ◌≤◌, IfErr, OnOk, ◌&&◌, is_none, ◌++◌, [], IfSome, IfOk, Err, None, true, false, not};
 ghost use Rattle.std.specs.FinMap as map;
@@ -15,7 +15,7 @@ use simplex_view_maps::by_term::ByTerm;
 use simplex_view_maps::entries::Entries;
 use simplex_view_maps::tracked::Tracked;
 
-/// Notes a view, which may be noted already.
+/// Adds a view to a set of views; adding it twice changes nothing.
 #[tactic(auto, using(crate::proofs::RoundsKept::noted))]
 pub(super) fn insert_view(views: &mut ByTerm<()>, view: View) -> Result<(), Fault>
     requires { 1 ≤ view }
@@ -27,7 +27,7 @@ pub(super) fn insert_view(views: &mut ByTerm<()>, view: View) -> Result<(), Faul
     Ok(())
 }
 
-/// Names a view, which may be named already.
+/// Adds a view to the candidates; adding it twice changes nothing.
 #[tactic(auto, using(crate::proofs::RoundsKept::noted))]
 pub(super) fn add_candidate(views: &mut Tracked<()>, view: View) -> Result<(), Fault>
     ensures named { OnOk result (views.new ≡ map.insert views.old view tt) }
@@ -46,7 +46,7 @@ pub struct CertificateFetch {
     pub view: View,
 }
 
-/// Appends an item, where there is one.
+/// Appends an item, if there is one.
 fn append<T: Drop>(items: &mut Vec<T>, item: Option<T>) -> Result<(), Fault>
     ensures appended { OnOk result (items.new.items ≡ items.old.items ++ cons_option item []) }
     ensures refused { IfErr result (λ fault. fault ≡ OutOfMemory) }
@@ -60,7 +60,7 @@ fn append<T: Drop>(items: &mut Vec<T>, item: Option<T>) -> Result<(), Fault>
     }
 }
 
-/// Whether no verdict of the round's certification stands.
+/// Returns whether the round's certification has no verdict.
 fn has_no_verdict<S: CertificateScheme, D: Digest>(round: &Round<S, D>) -> bool
     ensures { result ≡ not (is_judged true round.now.certification) && not (is_judged false round.now.certification) }
 {
@@ -79,7 +79,7 @@ impl<S: CertificateScheme, L: Elector<S>, D: Digest> State<S, L, D> {
     ghost use Rattle.simplex_voter.specs.Refusals.{HasFailed, plain_refusal, is_started};
     ghost use Rattle.simplex_voter.specs.StateAnswers.{certify_token_of, is_certify_aborted};
 
-    /// The view waits for certification, unless it is at or below the last finalized one.
+    /// Adds the view to the certification candidates, unless it is at or below the last finalized view.
     pub(super) fn name_for_certification(&mut self, view: View) -> Result<(), Fault>
         ensures named { OnOk result (self.new ≡ named_also self.old view) }
         ensures refused { IfErr result (λ fault. fault ≡ OutOfMemory) }
@@ -91,7 +91,8 @@ impl<S: CertificateScheme, L: Elector<S>, D: Digest> State<S, L, D> {
         add_candidate(&mut self.candidates, view)
     }
 
-    /// The proposal of a view that is offered for certification: its parent lies below, and what it requires is certified.
+    /// The proposal of a view, if it can be offered for certification: its parent lies below, and what it requires is
+    /// certified.
     pub(super) fn offer(&self, view: View) -> Option<Proposal<D>>
         ensures { result ≡ offered_of D.eq L.elect self.now view }
     {
@@ -103,7 +104,7 @@ impl<S: CertificateScheme, L: Elector<S>, D: Digest> State<S, L, D> {
         }
     }
 
-    /// Whether what the proposal requires is certified, and its parent may still be built on.
+    /// Returns whether what the proposal requires is certified, and its parent may still be built on.
     fn certification_parent_ready(&self, view: View, proposal: &Proposal<D>) -> bool
         ensures { result ≡ certification_parent_ready L.elect self.now view proposal.now }
     {
@@ -116,7 +117,7 @@ impl<S: CertificateScheme, L: Elector<S>, D: Digest> State<S, L, D> {
         }
     }
 
-    /// What the proposal that a view holds has to fetch.
+    /// The notarization to fetch for the proposal that a view holds.
     pub(super) fn fetch(&self, view: View) -> Option<CertificateFetch>
         ensures { result ≡ fetched_of L.elect self.now view }
     {
@@ -124,11 +125,11 @@ impl<S: CertificateScheme, L: Elector<S>, D: Digest> State<S, L, D> {
         self.certification_fetch(view, proposal)
     }
 
-    /// Returns the notarization to fetch before the proposal can be certified: that of its required parent, while the parent
-    /// may be built on and is neither certified nor notarized here.
+    /// Returns the notarization to fetch before the proposal can be certified: that of its required parent, while the
+    /// parent may be built on and is neither certified nor notarized here.
     ///
-    /// A notarized parent awaits only its verdict. A missing one has to be asked for: each member sends a notarization
-    /// a single time, and votes on a view end with the notarization of the next.
+    /// A notarized parent awaits only its verdict. A missing one must be fetched: each member sends a notarization only
+    /// once, and votes on a view end with the notarization of the next.
     fn certification_fetch(&self, view: View, proposal: &Proposal<D>) -> Option<CertificateFetch>
         ensures { result ≡ certification_fetch L.elect self.now view proposal.now }
     {
@@ -143,25 +144,28 @@ impl<S: CertificateScheme, L: Elector<S>, D: Digest> State<S, L, D> {
         }
     }
 
-    /// Whether the view is neither certified nor notarized.
+    /// Returns whether the view is neither certified nor notarized.
     fn is_unknown(&self, view: View) -> bool
-        ensures { result ≡ (is_none (explicit_ancestry_payload self.now view) && is_none (round_of self.now view).notarization) }
+        ensures { result ≡ (is_none (explicit_ancestry_payload self.now view)
+            && is_none (round_of self.now view).notarization) }
     {
         self.explicit_ancestry_payload(view).is_none() && self.notarization(view).is_none()
     }
 
-    /// What is offered for certification of the views that wait for it, and which notarizations they have to fetch, each
-    /// by rising view. None waits afterwards.
+    /// Returns the proposals offered for certification among the waiting views, and the notarizations that these views must
+    /// fetch, each by rising view. No view waits afterwards.
     ///
-    /// Offered is the proposal that a view holds and that is notarized, unless its certification was asked for, answered
-    /// or given up, once what it requires is certified. A notarization is fetched where what a held proposal requires is
-    /// neither certified nor notarized, and its parent may still be built on. The state has a floor.
+    /// A proposal is offered if its view holds it and is notarized, its certification was not requested, answered or
+    /// abandoned, and what it requires is certified. A notarization is fetched if what a held proposal requires is neither
+    /// certified nor notarized, and its parent may still be built on. The state must have a floor.
     pub fn certify_candidates(&mut self) -> Result<(Vec<Proposal<D>>, Vec<CertificateFetch>), Fault>
         requires { (self.old.failed || is_started self.old) ≡ true }
         ensures refused { IfSome (plain_refusal self.old) (λ fault. (result ≡ Err fault) × (self.new ≡ self.old)) }
-        ensures answer { IfOk result (λ answer. (answer.0.items, answer.1.items) ≡ candidates_answer D.eq L.elect self.old) }
+        ensures answer { IfOk result
+            (λ answer. (answer.0.items, answer.1.items) ≡ candidates_answer D.eq L.elect self.old) }
         ensures after { OnOk result (self.new ≡ after_candidates self.old) }
-        ensures out_of_memory { plain_refusal self.old ≡ None → IfErr result (λ fault. (fault ≡ OutOfMemory) × HasFailed self.old self.new) }
+        ensures out_of_memory { plain_refusal self.old ≡ None
+            → IfErr result (λ fault. (fault ≡ OutOfMemory) × HasFailed self.old self.new) }
     {
         if self.is_failed() {
             return Err(Fault::Failed);
@@ -178,13 +182,15 @@ impl<S: CertificateScheme, L: Elector<S>, D: Digest> State<S, L, D> {
         }
     }
 
-    /// What is offered of these views, and what they have to fetch.
+    /// Returns the proposals offered among these views, and the notarizations that they must fetch.
     fn candidates_of(
         &self,
         mut views: Entries<'_, ()>,
     ) -> Result<(Vec<Proposal<D>>, Vec<CertificateFetch>), Fault>
-        ensures offers { IfOk result (λ answer. answer.0.items ≡ filter_map (λ e. offered_of D.eq L.elect self.now e.0) views.entry) }
-        ensures fetches { IfOk result (λ answer. answer.1.items ≡ filter_map (λ e. fetched_of L.elect self.now e.0) views.entry) }
+        ensures offers { IfOk result
+            (λ answer. answer.0.items ≡ filter_map (λ e. offered_of D.eq L.elect self.now e.0) views.entry) }
+        ensures fetches { IfOk result
+            (λ answer. answer.1.items ≡ filter_map (λ e. fetched_of L.elect self.now e.0) views.entry) }
         ensures refused { IfErr result (λ fault. fault ≡ OutOfMemory) }
     {
         let mut offers = Vec::new(self.alloc);
@@ -196,7 +202,7 @@ impl<S: CertificateScheme, L: Elector<S>, D: Digest> State<S, L, D> {
         Ok((offers, fetches))
     }
 
-    /// Whether the token of a view's certification is taken: a floor was set, and the view has no verdict.
+    /// Returns whether `set_certify_handle` is allowed: a floor was set, and the view has no verdict.
     pub fn takes_certify_handle(&self, view: View) -> bool
         ensures { result ≡ takes_certify_handle self.now view }
     {
@@ -209,10 +215,10 @@ impl<S: CertificateScheme, L: Elector<S>, D: Digest> State<S, L, D> {
         }
     }
 
-    /// The certification of a tracked view is under way under this token, in place of what was known of it; where the
+    /// Marks the certification of a tracked view as under way under this token, in place of what was known of it. If the
     /// view isn't tracked, nothing changes.
     ///
-    /// The state has a floor, and the view has no verdict.
+    /// The state must have a floor, and the view must have no verdict.
     pub fn set_certify_handle(&mut self, view: View, token: u64) -> Result<(), Fault>
         requires { (self.old.failed || takes_certify_handle self.old view) ≡ true }
         ensures refused { IfSome (plain_refusal self.old) (λ fault. (result ≡ Err fault) × (self.new ≡ self.old)) }
@@ -226,14 +232,14 @@ impl<S: CertificateScheme, L: Elector<S>, D: Digest> State<S, L, D> {
         Ok(())
     }
 
-    /// The token of a tracked view's certification, while that is under way.
+    /// Returns the token of a tracked view's certification, while that is under way.
     pub fn certify_token(&self, view: View) -> Option<u64>
         ensures { result ≡ certify_token_of self.now view }
     {
         self.round_at(view)?.certify_token()
     }
 
-    /// Whether the certification of a tracked view was given up, and no verdict came after that.
+    /// Returns whether the certification of a tracked view was abandoned, and no verdict came after that.
     pub fn is_certify_aborted(&self, view: View) -> bool
         ensures { result ≡ is_certify_aborted self.now view }
     {

@@ -17,12 +17,12 @@ impl<S: CertificateScheme, L: Elector<S>, D: Digest> State<S, L, D> {
     ghost use Rattle.simplex_voter.specs.ViewEntry.{at_moment};
     ghost use Rattle.simplex_voter.specs.Certification.{waits_for, with_waiting_candidate, takes_verdict, certified_refusal, certified_answer, with_verdict, verdict_taken, after_certified};
 
-    /// Takes the verdict of a view's certification. A true one enters the next view, where that is ahead, and names the
-    /// view above where that waited for this one; a false one times the view out. Answers the view's notarization; where
-    /// the view isn't tracked, none, and only the moment is noted.
+    /// Records the verdict of a view's certification. A true verdict enters the next view if that is ahead, and makes the
+    /// view above a candidate again if it waited for this one. A false verdict times the view out. Returns the view's
+    /// notarization; if the view isn't tracked, returns `None` and records only the moment.
     ///
-    /// The state has a floor, and a tracked view has its notarization and no other verdict. `TimeOverflow` where a
-    /// deadline of the view that would be entered passes 2^64 - 1 milliseconds.
+    /// The state must have a floor, and a tracked view must have its notarization and no other verdict. Returns
+    /// `TimeOverflow` if a deadline of the view to be entered passes 2^64 - 1 milliseconds.
     pub fn certified(
         &mut self,
         view: View,
@@ -30,8 +30,10 @@ impl<S: CertificateScheme, L: Elector<S>, D: Digest> State<S, L, D> {
         now: u64,
     ) -> Result<Option<Notarization<S, D>>, Fault>
         requires { (self.old.failed || takes_verdict self.old view success) ≡ true }
-        ensures refused { IfSome (certified_refusal self.old view success now) (λ fault. (result ≡ Err fault) × (self.new ≡ self.old)) }
-        ensures answer { IfOk result (λ answer. option_map (notarization_facts S.certificate_bytes) answer ≡ certified_answer self.old view) }
+        ensures refused { IfSome (certified_refusal self.old view success now)
+            (λ fault. (result ≡ Err fault) × (self.new ≡ self.old)) }
+        ensures answer { IfOk result
+            (λ answer. option_map (notarization_facts S.certificate_bytes) answer ≡ certified_answer self.old view) }
         ensures after { OnOk result (self.new ≡ after_certified L.elect self.old view success now) }
         ensures out_of_memory { certified_refusal self.old view success now ≡ None
             → IfErr result (λ fault. (fault ≡ OutOfMemory) × HasFailed self.old self.new) }
@@ -64,8 +66,10 @@ impl<S: CertificateScheme, L: Elector<S>, D: Digest> State<S, L, D> {
     ) -> Result<Option<Notarization<S, D>>, Fault>
         requires taken { takes_verdict self.old view success ≡ true }
         requires tracked { is_tracked self.old view ≡ true }
-        requires deadlines { success ≡ true → nat_lt self.old.current (view + 1) ≡ true → deadlines.now ≡ deadlines_at self.old now }
-        ensures answer { IfOk result (λ answer. option_map (notarization_facts S.certificate_bytes) answer ≡ certified_answer self.old view) }
+        requires deadlines { success ≡ true → nat_lt self.old.current (view + 1) ≡ true
+            → deadlines.now ≡ deadlines_at self.old now }
+        ensures answer { IfOk result
+            (λ answer. option_map (notarization_facts S.certificate_bytes) answer ≡ certified_answer self.old view) }
         ensures taken { OnOk result (self.new ≡ verdict_taken L.elect (at_moment self.old now) view success now) }
         ensures refused { IfErr result (λ fault. fault ≡ OutOfMemory) }
         ensures setup { HasSameSetup self.old self.new }
@@ -75,7 +79,7 @@ impl<S: CertificateScheme, L: Elector<S>, D: Digest> State<S, L, D> {
         Ok(notarization)
     }
 
-    /// Keeps the verdict of a notarized view: it times out, or the next one is entered.
+    /// Records the verdict of a notarized view, and times that view out or enters the next one.
     fn follow_verdict(
         &mut self,
         view: View,
@@ -85,7 +89,8 @@ impl<S: CertificateScheme, L: Elector<S>, D: Digest> State<S, L, D> {
     ) -> Result<(), Fault>
         requires taken { takes_verdict self.old view success ≡ true }
         requires tracked { is_tracked self.old view ≡ true }
-        requires deadlines { success ≡ true → nat_lt self.old.current (view + 1) ≡ true → deadlines.now ≡ deadlines_at self.old now }
+        requires deadlines { success ≡ true → nat_lt self.old.current (view + 1) ≡ true
+            → deadlines.now ≡ deadlines_at self.old now }
         ensures taken { OnOk result (self.new ≡ verdict_taken L.elect (at_moment self.old now) view success now) }
         ensures refused { IfErr result (λ fault. fault ≡ OutOfMemory) }
         ensures setup { HasSameSetup self.old self.new }
@@ -101,7 +106,7 @@ impl<S: CertificateScheme, L: Elector<S>, D: Digest> State<S, L, D> {
         self.wake_certification_child(view)
     }
 
-    /// The deadlines of the view after a notarized one, which a true verdict may enter; none where one is too late.
+    /// The deadlines of the view after a notarized one, which a true verdict may enter; `None` if one is too late.
     fn verdict_deadlines(&self, view: View, success: bool, now: u64) -> Option<Deadlines>
         requires { is_some (certified_answer self.now view) ≡ true }
         ensures late { IsNone result ↔ IsTrue (success && enters_late self.now (view + 1) now) }
@@ -114,9 +119,10 @@ impl<S: CertificateScheme, L: Elector<S>, D: Digest> State<S, L, D> {
         self.deadlines_to(self.rounds.after_notarized(view), now)
     }
 
-    /// A copy of the view's notarization, if it is there.
+    /// Returns a copy of the view's notarization, if there is one.
     fn copy_notarization(&self, view: View) -> Result<Option<Notarization<S, D>>, Fault>
-        ensures copy { IfOk result (λ answer. option_map (notarization_facts S.certificate_bytes) answer ≡ certified_answer self.now view) }
+        ensures copy { IfOk result
+            (λ answer. option_map (notarization_facts S.certificate_bytes) answer ≡ certified_answer self.now view) }
         ensures refused { IfErr result (λ fault. fault ≡ OutOfMemory) }
     {
         match self.notarization(view) {
@@ -125,7 +131,7 @@ impl<S: CertificateScheme, L: Elector<S>, D: Digest> State<S, L, D> {
         }
     }
 
-    /// Keeps the verdict of a tracked view.
+    /// Records the verdict of a tracked view.
     #[tactic(auto, using(crate::proofs::Verdicts::not_contradicted))]
     fn judge(&mut self, view: View, success: bool) -> Result<(), Fault>
         requires taken { takes_verdict self.old view success ≡ true }
@@ -137,8 +143,8 @@ impl<S: CertificateScheme, L: Elector<S>, D: Digest> State<S, L, D> {
         self.rounds.judge(view, success)
     }
 
-    /// Once a view is certified or finalized, the view above it that waited for it is a candidate again.
-    /// Nothing else wakes one that waits: a candidate is named once.
+    /// Once a view is certified or finalized, makes the view above it a candidate again if that waited for it. Nothing else
+    /// wakes a waiting view: each becomes a candidate once.
     pub(super) fn wake_certification_child(&mut self, view: View) -> Result<(), Fault>
         requires { view + 1 < 2 ^ 64 }
         ensures woken { OnOk result (self.new ≡ with_waiting_candidate L.elect self.old view) }
@@ -151,7 +157,7 @@ impl<S: CertificateScheme, L: Elector<S>, D: Digest> State<S, L, D> {
         self.name_for_certification(view.next())
     }
 
-    /// Whether the view above is notarized and its proposal needs this one certified.
+    /// Returns whether the view above is notarized and its proposal needs this one certified.
     fn is_awaited(&self, view: View) -> bool
         requires { view + 1 < 2 ^ 64 }
         ensures { result ≡ option_map_or (waits_for L.elect self.now view) (round_at self.now (view + 1)) false }

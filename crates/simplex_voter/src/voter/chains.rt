@@ -1,4 +1,4 @@
-//! What a view offers to the views that build on it, down the chain of votes that it rests on.
+//! The payload that a view offers to the views that build on it, down the chain of votes below it.
 
 ghost use Rattle.std.specs.Prelude.{◌≡◌, ◌≤◌, ◌+◌, OnSome, true, option_map};
 ghost use Rattle.std.specs.Option.{option_map_or};
@@ -9,7 +9,7 @@ use simplex_round::round::Round;
 use simplex_types::types::{CertificateScheme, Digest, Elector, Proposal, View};
 use std::alloc::AllocError;
 
-/// What a view's payload rests on.
+/// The ground of a view's payload.
 pub enum Basis<D> {
     /// Genesis or a certificate.
     Certain(D),
@@ -43,7 +43,7 @@ impl<D: Digest> Basis<D> {
     }
 }
 
-/// Whether a vote that was bound to a payload of its parent, if to one, still stands on this payload.
+/// Returns whether a vote still holds for this payload: it was bound to this one, or to none.
 fn holds<D: Digest>(bound: Option<D>, payload: D) -> bool
     ensures { result ≡ option_map_or (λ d. D.eq payload d) bound true }
 {
@@ -66,9 +66,9 @@ impl<S: CertificateScheme, L: Elector<S>, D: Digest> State<S, L, D> {
     ghost use Rattle.simplex_voter.specs.Rounds.{largest_tracked};
     ghost use Rattle.simplex_voter.specs.Chains.{unrefused_payload, served_proposal, basis_of, basis_at};
 
-    /// What the view offers before it is certified: the payload of its certificate, where no rejection stands in its term
-    /// up to it; else that of a verified proposal that this member voted for, on a parent that offers what the vote was
-    /// bound to.
+    /// The payload that the view offers before it is certified. That is its certificate's payload, unless its term has a
+    /// rejection up to it; else that of a verified proposal that this member voted for, if the parent still offers what the
+    /// vote was bound to.
     ///
     /// So a chain without certificates rests on votes of this member alone, down to a certificate.
     pub(super) fn optimistic_ancestry_payload(&self, view: View) -> Option<D>
@@ -87,7 +87,7 @@ impl<S: CertificateScheme, L: Elector<S>, D: Digest> State<S, L, D> {
         Some(top.payload())
     }
 
-    /// What the view's payload rests on, if it may offer one.
+    /// The ground of the view's payload, if it may offer one.
     fn basis_at(&self, view: View) -> Option<Basis<D>>
         ensures basis { result ≡ basis_at L.elect self.now view }
         ensures in_range { OnSome result (view ≤ largest_tracked) }
@@ -99,12 +99,12 @@ impl<S: CertificateScheme, L: Elector<S>, D: Digest> State<S, L, D> {
         self.basis_of(view, view.next(), round)
     }
 
-    /// What the payload of a view with this round rests on; with the next view.
+    /// The ground of the payload of a view with this round; `next` is the next view.
     fn basis_of(&self, view: View, next: View, round: &Round<S, D>) -> Option<Basis<D>>
         requires { next ≡ view + 1 }
         ensures { result ≡ basis_of L.elect self.now view round.now }
     {
-        // from the certificate itself, whatever proposal the view holds: that payload is the one that it supports
+        // from the certificate itself, whatever proposal the view holds: the certificate supports that payload
         if round.is_directly_notarized() {
             return self.unrefused_payload(view, round).map(Basis::Certain);
         }
@@ -112,7 +112,7 @@ impl<S: CertificateScheme, L: Elector<S>, D: Digest> State<S, L, D> {
         Some(Basis::Vote(proposal, bound_payload(round)))
     }
 
-    /// The payload of the view's certificate, where no rejection stands in its term up to it.
+    /// The payload of the view's certificate, unless its term has a rejection up to it.
     fn unrefused_payload(&self, view: View, round: &Round<S, D>) -> Option<D>
         ensures { result ≡ unrefused_payload self.now view round.now }
     {
@@ -122,8 +122,8 @@ impl<S: CertificateScheme, L: Elector<S>, D: Digest> State<S, L, D> {
         round.certificate_ancestry_payload().copied()
     }
 
-    /// Whether the view, or one below it in its term, was certified false, and no finalization overrides that.
-    /// Each view inside a term stands on the one before, so a refused one refuses all above it.
+    /// Returns whether the view, or one below it in its term, was certified false, and no finalization overrides that.
+    /// Inside a term each view builds on the one before, so a refused view refuses all above it.
     fn has_failed_optimistic_ancestry(&self, view: View) -> bool
         ensures { result ≡ has_failed_optimistic_ancestry self.now view }
     {
@@ -131,7 +131,7 @@ impl<S: CertificateScheme, L: Elector<S>, D: Digest> State<S, L, D> {
         self.rounds.has_refused_between(self.finalized, start, view)
     }
 
-    /// The proposal that this member voted for, where that may serve and stands on its parent; with the next view.
+    /// The proposal that this member voted for, if it may serve and builds on its parent; `next` is the next view.
     fn served_proposal(&self, view: View, next: View, round: &Round<S, D>) -> Option<Proposal<D>>
         requires { next ≡ view + 1 }
         ensures { result ≡ served_proposal L.elect self.now view round.now }
@@ -146,7 +146,8 @@ impl<S: CertificateScheme, L: Elector<S>, D: Digest> State<S, L, D> {
         Some(proposal)
     }
 
-    /// Whether this member voted for what the view holds, where that may serve before any certificate; with the next view.
+    /// Returns whether this member voted for the held proposal, and it may serve before any certificate; `next` is the next
+    /// view.
     #[tactic(auto, unfolding(crate::specs::Payloads::is_voted_ancestor))]
     fn is_voted_ancestor(&self, view: View, next: View, round: &Round<S, D>) -> bool
         requires { next ≡ view + 1 }
@@ -157,7 +158,7 @@ impl<S: CertificateScheme, L: Elector<S>, D: Digest> State<S, L, D> {
             && round.broadcast_notarize()
     }
 
-    /// Whether a view that was voted for may stand on this parent.
+    /// Returns whether a view that was voted for may build on this parent.
     #[tactic(auto, unfolding(crate::specs::Payloads::can_chain_on))]
     fn can_chain_on(&self, view: View, parent: View) -> bool
         ensures { result ≡ can_chain_on self.now view parent }

@@ -1,5 +1,5 @@
-//! Changes of the round of one view: certificates and proposals as it keeps them, certificates as it hands them out, each once,
-//! and what else is noted. Only what is kept takes memory; where a view isn't tracked, nothing else changes.
+//! Changes of one view's round: storing certificates and proposals, returning each certificate once, and other marks. Only
+//! what is stored takes memory. If a view isn't tracked, all other changes do nothing.
 
 ghost use Rattle.std.specs.Prelude.{◌≡◌, ◌≤◌, ◌<◌, ◌^◌, IfOk, IfErr, OnOk, ◌||◌, OnErr, true, is_some, option_map, option_and_then, ◌&&◌, ◌+◌, false, is_err, not};
 ghost use Rattle.simplex_types.specs.Certificates.{notarization_facts, nullification_facts, finalization_facts};
@@ -24,7 +24,8 @@ impl<S: CertificateScheme, D: Digest> Rounds<S, D> {
     ghost use Rattle.simplex_voter.specs.Refusals.{is_past_u64};
     ghost use Rattle.simplex_voter.specs.ProposalRequests.{build_requested};
 
-    /// Keeps the first notarization of a view. Answers whether it is that, with the key of a leader found to equivocate.
+    /// Stores the first notarization of a view. Returns whether it is the first, and the key of a leader found to
+    /// equivocate.
     pub(super) fn store_notarization(
         &mut self,
         view: View,
@@ -32,7 +33,8 @@ impl<S: CertificateScheme, D: Digest> Rounds<S, D> {
     ) -> Result<(bool, Option<S::PublicKey>), Fault>
         requires { view < 2 ^ 63 }
         ensures added { IfOk result (λ added.
-            added ≡ added_answer D.eq (round_in self.old view).notarization (round_in self.old view) notarization.proposal) }
+            added ≡ added_answer D.eq (round_in self.old view).notarization (round_in self.old view)
+            notarization.proposal) }
         ensures kept { OnOk result (self.new ≡ with_change self.old view (λ r.
             with_notarization (same_proposal D.eq) r (notarization_facts S.certificate_bytes notarization))) }
         ensures refused { IfErr result (λ fault. fault ≡ OutOfMemory) }
@@ -45,14 +47,16 @@ impl<S: CertificateScheme, D: Digest> Rounds<S, D> {
         Ok(round.add_notarization(notarization))
     }
 
-    /// Keeps the first nullification of a view.
+    /// Stores the first nullification of a view.
     pub(super) fn store_nullification(
         &mut self,
         view: View,
         nullification: Nullification<S>,
     ) -> Result<(), Fault>
         requires { view ≤ largest_tracked }
-        ensures kept { OnOk result (self.new ≡ with_change self.old view (λ r. with_nullification r (nullification_facts S.certificate_bytes nullification))) }
+        ensures kept { OnOk result
+            (self.new ≡ with_change self.old view
+            (λ r. with_nullification r (nullification_facts S.certificate_bytes nullification))) }
         ensures refused { IfErr result (λ fault. fault ≡ OutOfMemory) }
         ensures origin { HasSameOrigin self.old self.new }
     {
@@ -64,7 +68,8 @@ impl<S: CertificateScheme, D: Digest> Rounds<S, D> {
         Ok(())
     }
 
-    /// Keeps the first finalization of a view. Answers whether it is that, with the key of a leader found to equivocate.
+    /// Stores the first finalization of a view. Returns whether it is the first, and the key of a leader found to
+    /// equivocate.
     pub(super) fn store_finalization(
         &mut self,
         view: View,
@@ -72,7 +77,8 @@ impl<S: CertificateScheme, D: Digest> Rounds<S, D> {
     ) -> Result<(bool, Option<S::PublicKey>), Fault>
         requires { view ≤ largest_tracked }
         ensures added { IfOk result (λ added.
-            added ≡ added_answer D.eq (round_in self.old view).finalization (round_in self.old view) finalization.proposal) }
+            added ≡ added_answer D.eq (round_in self.old view).finalization (round_in self.old view)
+            finalization.proposal) }
         ensures kept { OnOk result (self.new ≡ with_change self.old view (λ r.
             with_finalization (same_proposal D.eq) r (finalization_facts S.certificate_bytes finalization))) }
         ensures refused { IfErr result (λ fault. fault ≡ OutOfMemory) }
@@ -86,7 +92,7 @@ impl<S: CertificateScheme, D: Digest> Rounds<S, D> {
         Ok(round.add_finalization(finalization))
     }
 
-    /// The round of a view takes a proposal, and answers whether it is to be verified. The view is tracked from then on.
+    /// Gives the round of a view a proposal, tracks the view, and returns whether the proposal is to be verified.
     pub(super) fn take_proposal(
         &mut self,
         view: View,
@@ -105,7 +111,7 @@ impl<S: CertificateScheme, D: Digest> Rounds<S, D> {
         Ok(round.set_proposal(proposal))
     }
 
-    /// Hands out the notarization of a view, once.
+    /// Returns the notarization of a view, once.
     pub(super) fn return_notarization(
         &mut self,
         view: View,
@@ -126,7 +132,7 @@ impl<S: CertificateScheme, D: Digest> Rounds<S, D> {
         round.broadcast_notarization(self.alloc)
     }
 
-    /// Hands out the nullification of a view, once.
+    /// Returns the nullification of a view, once.
     pub(super) fn return_nullification(
         &mut self,
         view: View,
@@ -147,7 +153,7 @@ impl<S: CertificateScheme, D: Digest> Rounds<S, D> {
         round.broadcast_nullification(self.alloc)
     }
 
-    /// Hands out the finalization of a view, once.
+    /// Returns the finalization of a view, once.
     pub(super) fn return_finalization(
         &mut self,
         view: View,
@@ -168,7 +174,7 @@ impl<S: CertificateScheme, D: Digest> Rounds<S, D> {
         round.broadcast_finalization(self.alloc)
     }
 
-    /// Decides the vote to finalize a view, whose round allows that, and answers what is voted for.
+    /// Decides the vote to finalize a view whose round allows it, and returns the proposal voted for.
     pub(super) fn decide_finalize(&mut self, view: View) -> Option<Proposal<D>>
         requires { can_finalize (round_in self.old view) ≡ true }
         ensures vote { result ≡ (round_in self.old view).slot.held }
@@ -181,9 +187,10 @@ impl<S: CertificateScheme, D: Digest> Rounds<S, D> {
         round.construct_finalize()
     }
 
-    /// Keeps the verdict of a view's certification. No contradicting one stands.
+    /// Records the verdict of a view's certification; no other verdict may contradict it.
     pub(super) fn judge(&mut self, view: View, success: bool) -> Result<(), Fault>
-        requires { option_map_or (λ r. is_judged (not success) r.certification) (find_round self.old view) false ≡ false }
+        requires { option_map_or (λ r. is_judged (not success) r.certification)
+            (find_round self.old view) false ≡ false }
         ensures judged { OnOk result (self.new ≡ with_change_in_place self.old view (λ r. certified_round r success)) }
         ensures refused { IfErr result (λ fault. fault ≡ OutOfMemory) }
         ensures origin { HasSameOrigin self.old self.new }
@@ -196,7 +203,7 @@ impl<S: CertificateScheme, D: Digest> Rounds<S, D> {
         Ok(())
     }
 
-    /// Latches an explicit timeout of a view, and answers whether it did: the first one stays.
+    /// Latches an explicit timeout of a view, and returns whether it did: the first one stays.
     pub(super) fn latch(&mut self, view: View, now: u64, reason: TimeoutReason) -> bool
         ensures answer { result ≡ (has_round self.old view && awaits_latch (round_in self.old view)) }
         ensures latched { self.new ≡ with_change_in_place self.old view (λ r. with_latch r now reason) }
@@ -208,8 +215,8 @@ impl<S: CertificateScheme, D: Digest> Rounds<S, D> {
         round.latch_timeout(now, reason)
     }
 
-    /// Answers the next timeout of a view, if it has one. The first poll after a vote to nullify sets the moment of its
-    /// repeat; where that is past 2^64 - 1, nothing changes and `TimeOverflow` is answered.
+    /// Returns the next timeout of a view, if it has one. The first poll after a vote to nullify sets the moment of its
+    /// repeat; if that passes 2^64 - 1, nothing changes and `TimeOverflow` is returned.
     pub(super) fn poll(
         &mut self,
         view: View,
@@ -221,7 +228,8 @@ impl<S: CertificateScheme, D: Digest> Rounds<S, D> {
         ensures refused { IfErr result (λ fault. (fault ≡ TimeOverflow) × (self.new ≡ self.old)) }
         ensures polled { OnOk result (self.new ≡ with_change_in_place self.old view (λ r. with_retry r now retry)) }
         ensures answer { IfOk result (λ timeout.
-            timeout ≡ option_and_then (λ r. round_timeout (with_retry r now retry) allow_latched) (find_round self.old view)) }
+            timeout ≡ option_and_then (λ r. round_timeout (with_retry r now retry) allow_latched)
+            (find_round self.old view)) }
         ensures origin { HasSameOrigin self.old self.new }
     {
         let Some(round) = self.by_view.get_mut(view) else {
@@ -230,9 +238,10 @@ impl<S: CertificateScheme, D: Digest> Rounds<S, D> {
         round.next_timeout(now, retry, allow_latched)
     }
 
-    /// Keeps the token of a view's certification, in place of all before.
+    /// Stores the token of a view's certification, in place of any before.
     pub(super) fn set_certify_handle(&mut self, view: View, token: u64)
-        ensures set { self.new ≡ with_change_in_place self.old view (λ r. record r { certification = Outstanding token }) }
+        ensures set { self.new ≡ with_change_in_place self.old view
+            (λ r. record r { certification = Outstanding token }) }
         ensures origin { HasSameOrigin self.old self.new }
     {
         let Some(round) = self.by_view.get_mut(view) else {
@@ -244,7 +253,8 @@ impl<S: CertificateScheme, D: Digest> Rounds<S, D> {
 
     /// Clears the request to build a proposal in a view.
     pub(super) fn release(&mut self, view: View)
-        ensures released { self.new ≡ with_change_in_place self.old view (λ r. record r { slot = build_requested false r.slot }) }
+        ensures released { self.new ≡ with_change_in_place self.old view
+            (λ r. record r { slot = build_requested false r.slot }) }
         ensures origin { HasSameOrigin self.old self.new }
     {
         let Some(round) = self.by_view.get_mut(view) else {

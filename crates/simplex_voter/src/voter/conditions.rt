@@ -1,5 +1,5 @@
-//! What a caller may test before a call that asks for it, and which views a message may name. Nothing changes and none takes
-//! memory.
+//! Tests that a host may make before a call that requires them, and which views a message may name. They change nothing and
+//! take no memory.
 
 ghost use Rattle.std.specs.Prelude.{◌≡◌, ◌↔◌, IsTrue};
 ghost use Rattle.simplex_voter.specs.Refusals.{names_too_large};
@@ -14,14 +14,14 @@ use simplex_types::types::{
     Artifact, CertificateScheme, Digest, Elector, LARGEST_VIEW, Proposal, View, Viewable,
 };
 
-/// Whether a proposal's view or its parent's is above 2^63 - 1.
+/// Returns whether a proposal's view or its parent's is above 2^63 - 1.
 pub(super) fn names_too_large<D: Digest>(proposal: &Proposal<D>) -> bool
     ensures { result ≡ names_too_large proposal.now }
 {
     proposal.round.view.get() > LARGEST_VIEW || proposal.parent.get() > LARGEST_VIEW
 }
 
-/// Whether this verdict of the round's certification stands.
+/// Returns whether the round's certification has this verdict.
 fn is_judged<S: CertificateScheme, D: Digest>(round: &Round<S, D>, verdict: bool) -> bool
     ensures { result ≡ is_judged verdict round.now.certification }
 {
@@ -31,8 +31,8 @@ fn is_judged<S: CertificateScheme, D: Digest>(round: &Round<S, D>, verdict: bool
     }
 }
 
-/// Whether a round takes an entry of the record: a vote is this member's own and doesn't meet its opposite, and no other
-/// verdict stands.
+/// Returns whether a round accepts an entry of the record: a vote is this member's own and doesn't meet its opposite, and
+/// there is no other verdict.
 fn takes_artifact<S: CertificateScheme, D: Digest>(
     round: &Round<S, D>,
     artifact: &Artifact<S, D>,
@@ -52,7 +52,7 @@ fn takes_artifact<S: CertificateScheme, D: Digest>(
     }
 }
 
-/// The round that an entry of the record is of.
+/// The round of an entry of the record.
 fn round_of_artifact<S: CertificateScheme, D: Digest>(artifact: &Artifact<S, D>) -> types::Round
     ensures { result ≡ artifact_round artifact.now }
 {
@@ -74,22 +74,22 @@ impl<S: CertificateScheme, L: Elector<S>, D: Digest> State<S, L, D> {
     ghost use Rattle.simplex_voter.specs.Refusals.{is_started, takes_round};
     ghost use Rattle.simplex_voter.specs.Certification.{takes_verdict, is_first_verdict};
 
-    /// Whether a floor was set.
+    /// Returns whether a floor was set.
     pub fn is_started(&self) -> bool
         ensures { result ≡ is_started self.now }
     {
         self.current > View::zero()
     }
 
-    /// Whether a certificate, a proposal or an artifact of the round is taken: a floor was set, and it is of this epoch
-    /// and of a view that is kept.
+    /// Returns whether a certificate, proposal or artifact of the round is accepted: a floor was set, and the round is of
+    /// this epoch and of a retained view.
     pub fn takes_round(&self, round: &types::Round) -> bool
         ensures { result ≡ takes_round self.now round.now }
     {
         self.is_started() && round.epoch == self.epoch() && self.admits_certificate(round.view)
     }
 
-    /// Whether the verdict of a view's certification is taken: a floor was set, and where the view is tracked it has its
+    /// Returns whether the verdict of a view's certification is accepted: a floor was set, and a tracked view has its
     /// notarization and no other verdict.
     pub fn takes_verdict(&self, view: View, success: bool) -> bool
         ensures { result ≡ takes_verdict self.now view success }
@@ -103,7 +103,7 @@ impl<S: CertificateScheme, L: Elector<S>, D: Digest> State<S, L, D> {
         }
     }
 
-    /// Whether a verdict would be the first of its view, which is tracked.
+    /// Returns whether a verdict would be the first of its view, which is tracked.
     pub fn is_first_verdict(&self, view: View) -> bool
         ensures { result ≡ is_first_verdict self.now view }
     {
@@ -113,15 +113,15 @@ impl<S: CertificateScheme, L: Elector<S>, D: Digest> State<S, L, D> {
         }
     }
 
-    /// Whether an entry of the record is taken: its round is, a vote is this member's own and doesn't meet its opposite,
-    /// and no other verdict stands.
+    /// Returns whether an entry of the record is accepted: its round is, a vote is this member's own and doesn't meet its
+    /// opposite, and there is no other verdict.
     pub fn takes_replay(&self, artifact: &Artifact<S, D>) -> bool
         ensures { IsTrue result ↔ TakesReplay self.now artifact.now }
     {
         self.takes_round(&round_of_artifact(artifact)) && self.takes_artifact(artifact)
     }
 
-    /// Whether the view's round takes an entry of the record.
+    /// Returns whether the view's round accepts an entry of the record.
     fn takes_artifact(&self, artifact: &Artifact<S, D>) -> bool
         ensures { IsTrue result ↔ TakesArtifact (round_of self.now (artifact_view artifact.now)) artifact.now }
     {
@@ -131,9 +131,10 @@ impl<S: CertificateScheme, L: Elector<S>, D: Digest> State<S, L, D> {
         }
     }
 
-    /// Whether a round of which nothing is known takes an entry of the record: a vote is this member's own.
+    /// Returns whether an empty round accepts an entry of the record: a vote is this member's own.
     fn takes_first_artifact(&self, artifact: &Artifact<S, D>) -> bool
-        ensures { IsTrue result ↔ TakesArtifact (new_round self.now.me self.now.members (artifact_round artifact.now)) artifact.now }
+        ensures { IsTrue result ↔ TakesArtifact
+            (new_round self.now.me self.now.members (artifact_round artifact.now)) artifact.now }
     {
         match artifact {
             Artifact::Notarize(vote) => self.is_me(vote.signer),

@@ -1,4 +1,4 @@
-//! What is due of a state by itself, whatever comes in.
+//! Work that a state has due, independent of any input.
 
 ghost use Rattle.std.specs.Prelude.{◌≡◌, ◌≤◌, false, true, option_map, IsNone};
 ghost use Rattle.std.specs.List.{find};
@@ -14,11 +14,12 @@ impl<S: CertificateScheme, L: Elector<S>, D: Digest> State<S, L, D> {
     ghost use Rattle.simplex_voter.specs.Rules.{may_notarize, may_finalize};
     ghost use Rattle.simplex_voter.specs.DueVotes.{is_due, first_due, AreRoundsOf};
 
-    /// The lowest tracked view, from one on, where something is due: a vote of this member that its rule allows, or a certificate
-    /// that was not handed out.
+    /// Returns the lowest tracked view, from one on, where something is due: a vote of this member that its rule allows, or
+    /// a certificate that was not returned for broadcast.
     ///
-    /// The state has a floor. What comes in of one view may allow a vote on another: a finalization ends what a vote to nullify
-    /// forbids in its term, and a verdict allows votes on what was built on it. Whoever asks until none is due loses no vote.
+    /// The state must have a floor. Input about one view may allow a vote on another: a finalization ends what a vote to
+    /// nullify forbids in its term, and a verdict allows votes on what was built on it. A host that asks until nothing is
+    /// due loses no vote.
     pub fn first_due(&self, from: View) -> Option<View>
         requires { is_started self.now ≡ true }
         ensures first { result ≡ first_due D.eq L.elect self.now from }
@@ -41,7 +42,7 @@ impl<S: CertificateScheme, L: Elector<S>, D: Digest> State<S, L, D> {
         None
     }
 
-    /// Whether something is due in a view, whose round is this.
+    /// Returns whether something is due in a view with this round.
     fn is_due(&self, view: View, round: &Round<S, D>) -> bool
         requires started { is_started self.now ≡ true }
         requires round { round_of self.now view ≡ round.now }
@@ -52,7 +53,8 @@ impl<S: CertificateScheme, L: Elector<S>, D: Digest> State<S, L, D> {
             || round.has_unsent_certificate()
     }
 
-    /// Whether this member may vote to notarize the view. What its round tells is tested first: the rule looks up other views too.
+    /// Returns whether this member may vote to notarize the view. It tests the round first: the rule looks up other views
+    /// too.
     #[tactic(auto, unfolding(crate::specs::Rules::may_notarize))]
     fn is_notarize_due(&self, view: View, round: &Round<S, D>) -> bool
         requires started { is_started self.now ≡ true }
@@ -62,7 +64,7 @@ impl<S: CertificateScheme, L: Elector<S>, D: Digest> State<S, L, D> {
         round.can_construct_notarize() && self.may_notarize(view)
     }
 
-    /// Whether this member may vote to finalize the view, as `is_notarize_due`.
+    /// Returns whether this member may vote to finalize the view, as `is_notarize_due`.
     #[tactic(auto, unfolding(crate::specs::Rules::may_finalize))]
     fn is_finalize_due(&self, view: View, round: &Round<S, D>) -> bool
         requires { round_of self.now view ≡ round.now }

@@ -1,4 +1,4 @@
-//! Finalizations of proposals, and what each ends: the work at its view and below.
+//! Finalizations of proposals, and the work that each ends at its view and below.
 
 ghost use Rattle.std.specs.Prelude.{◌≡◌, ◌||◌, ◌<◌, ◌^◌, ◌+◌, IfSome, IfOk, IfErr, OnOk, Err, Some, None, true, nat_lt};
 ghost use Rattle.simplex_types.specs.Terms.{IsVotable};
@@ -18,8 +18,8 @@ impl<S: CertificateScheme, L: Elector<S>, D: Digest> State<S, L, D> {
     ghost use Rattle.simplex_voter.specs.Refusals.{HasFailed};
     ghost use Rattle.simplex_voter.specs.Acceptance.{takes_proposal_certificate, finalization_refusal, finalization_added, after_add_finalization, with_finalization_at};
 
-    /// The last finalized view is this one, where that is above the one before: nothing at or below it waits for
-    /// certification any more, and no certification is under way there.
+    /// Makes this view the last finalized one if it is above the one before: nothing at or below it waits for certification
+    /// any more, and no certification is under way there.
     pub(super) fn raise(&mut self, view: View)
         requires { view < 2 ^ 63 }
         ensures { self.new ≡ with_finalized_view self.old view }
@@ -33,23 +33,29 @@ impl<S: CertificateScheme, L: Elector<S>, D: Digest> State<S, L, D> {
         self.rounds.end_certifications(view);
     }
 
-    /// Takes a finalization: its view is the last finalized one where that is above the one before, and then nothing at
-    /// or below it waits for certification; the next view is entered where that is ahead, and led by the elector's choice
-    /// after this certificate. The first of its view is kept, the view that waited for its own is a candidate for
-    /// certification again, and the views whose window it opens take the leader of the view before them. Answers whether
-    /// it is the first of its view, with the key of a leader found to equivocate.
+    /// Accepts a finalization. Its view becomes the last finalized one if it is above the one before; then nothing at or
+    /// below it waits for certification. The next view is entered if it is ahead, led by the elector's choice after this
+    /// certificate. The first finalization of a view is stored, the view that waited for it is a certification candidate
+    /// again, and the views whose window it opens take the leader of the view before them. Returns whether it is the first
+    /// of its view, and the key of a leader found to equivocate.
     ///
-    /// It is of this epoch, and of a view that is kept. `ViewTooLarge` where its view or its parent's is above 2^63 - 1,
-    /// `TimeOverflow` where a deadline of the view that would be entered passes 2^64 - 1 milliseconds.
+    /// It must be of this epoch and of a retained view. Returns `ViewTooLarge` if its view or its parent's is
+    /// above 2^63 - 1, `TimeOverflow` if a deadline of the view to be entered passes 2^64 - 1 milliseconds.
     pub fn add_finalization(
         &mut self,
         finalization: Finalization<S, D>,
         now: u64,
     ) -> Result<(bool, Option<S::PublicKey>), Fault>
-        requires { (self.old.failed || takes_proposal_certificate self.old (finalization_facts S.certificate_bytes finalization)) ≡ true }
-        ensures refused { IfSome (finalization_refusal self.old finalization.proposal now) (λ fault. (result ≡ Err fault) × (self.new ≡ self.old)) }
-        ensures added { IfOk result (λ added. added ≡ finalization_added D.eq L.elect self.old (finalization_facts S.certificate_bytes finalization)) }
-        ensures after { OnOk result (self.new ≡ after_add_finalization D.eq L.elect self.old (finalization_facts S.certificate_bytes finalization) now) }
+        requires { (self.old.failed
+            || takes_proposal_certificate self.old (finalization_facts S.certificate_bytes finalization)) ≡ true }
+        ensures refused { IfSome (finalization_refusal self.old finalization.proposal now)
+            (λ fault. (result ≡ Err fault) × (self.new ≡ self.old)) }
+        ensures added { IfOk result
+            (λ added. added ≡ finalization_added D.eq L.elect self.old
+            (finalization_facts S.certificate_bytes finalization)) }
+        ensures after { OnOk result
+            (self.new ≡ after_add_finalization D.eq L.elect self.old
+            (finalization_facts S.certificate_bytes finalization) now) }
         ensures out_of_memory { finalization_refusal self.old finalization.proposal now ≡ None
             → IfErr result (λ fault. (fault ≡ OutOfMemory) × HasFailed self.old self.new) }
     {
@@ -63,17 +69,19 @@ impl<S: CertificateScheme, L: Elector<S>, D: Digest> State<S, L, D> {
         }
     }
 
-    /// The deadlines of the view above a finalization, or why that is refused.
+    /// The deadlines of the view above a finalization, or the reason to refuse it.
     pub(super) fn deadlines_above(
         &self,
         finalization: &Finalization<S, D>,
         now: u64,
     ) -> Result<Deadlines, Fault>
-        ensures refused { IfErr result (λ fault. finalization_refusal self.now finalization.now.proposal now ≡ Some fault) }
+        ensures refused { IfErr result
+            (λ fault. finalization_refusal self.now finalization.now.proposal now ≡ Some fault) }
         ensures taken { OnOk result ((finalization_refusal self.now finalization.now.proposal now ≡ None)
             × (finalization.now.proposal.round.view < 2 ^ 63)) }
         ensures moments { IfOk result (λ deadlines.
-            nat_lt self.now.current (finalization.now.proposal.round.view + 1) ≡ true → deadlines ≡ deadlines_at self.now now) }
+            nat_lt self.now.current (finalization.now.proposal.round.view + 1) ≡ true
+            → deadlines ≡ deadlines_at self.now now) }
     {
         if self.is_failed() {
             return Err(Fault::Failed);
@@ -87,7 +95,7 @@ impl<S: CertificateScheme, L: Elector<S>, D: Digest> State<S, L, D> {
         }
     }
 
-    /// Keeps a finalization that is not refused, with all that it does.
+    /// Stores a finalization that is not refused, with all its effects.
     pub(super) fn accept_finalization(
         &mut self,
         finalization: Finalization<S, D>,
@@ -95,9 +103,14 @@ impl<S: CertificateScheme, L: Elector<S>, D: Digest> State<S, L, D> {
         deadlines: &Deadlines,
     ) -> Result<(bool, Option<S::PublicKey>), Fault>
         requires votable { IsVotable finalization.proposal.round.view }
-        requires deadlines { nat_lt self.old.current (finalization.proposal.round.view + 1) ≡ true → deadlines.now ≡ deadlines_at self.old now }
-        ensures added { IfOk result (λ added. added ≡ finalization_added D.eq L.elect self.old (finalization_facts S.certificate_bytes finalization)) }
-        ensures accepted { OnOk result (self.new ≡ after_add_finalization D.eq L.elect self.old (finalization_facts S.certificate_bytes finalization) now) }
+        requires deadlines { nat_lt self.old.current (finalization.proposal.round.view + 1) ≡ true
+            → deadlines.now ≡ deadlines_at self.old now }
+        ensures added { IfOk result
+            (λ added. added ≡ finalization_added D.eq L.elect self.old
+            (finalization_facts S.certificate_bytes finalization)) }
+        ensures accepted { OnOk result
+            (self.new ≡ after_add_finalization D.eq L.elect self.old
+            (finalization_facts S.certificate_bytes finalization) now) }
         ensures refused { IfErr result (λ fault. fault ≡ OutOfMemory) }
         ensures setup { HasSameSetup self.old self.new }
     {
@@ -117,8 +130,12 @@ impl<S: CertificateScheme, L: Elector<S>, D: Digest> State<S, L, D> {
         finalization: Finalization<S, D>,
     ) -> Result<(bool, Option<S::PublicKey>), Fault>
         requires { IsVotable finalization.proposal.round.view }
-        ensures added { IfOk result (λ added. added ≡ finalization_added D.eq L.elect self.old (finalization_facts S.certificate_bytes finalization)) }
-        ensures kept { OnOk result (self.new ≡ with_finalization_at D.eq L.elect self.old (finalization_facts S.certificate_bytes finalization)) }
+        ensures added { IfOk result
+            (λ added. added ≡ finalization_added D.eq L.elect self.old
+            (finalization_facts S.certificate_bytes finalization)) }
+        ensures kept { OnOk result
+            (self.new ≡ with_finalization_at D.eq L.elect self.old
+            (finalization_facts S.certificate_bytes finalization)) }
         ensures refused { IfErr result (λ fault. fault ≡ OutOfMemory) }
         ensures setup { HasSameSetup self.old self.new }
     {

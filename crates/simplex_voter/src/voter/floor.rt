@@ -19,14 +19,14 @@ impl<S: CertificateScheme, L: Elector<S>, D: Digest> State<S, L, D> {
     ghost use Rattle.simplex_types.specs.Config.{Genesis, floor_facts};
     ghost use Rattle.simplex_voter.specs.Acceptance.{takes_floor, floor_refusal, floor_answer, after_set_floor, after_set_genesis, finalization_refusal, after_add_finalization, with_finalization_broadcast};
 
-    /// Starts at genesis: its payload is known, and view 1 is entered at the moment `now`, in milliseconds, and led by
-    /// the elector's choice.
+    /// Starts at genesis: stores its payload, and enters view 1 at the moment `now`, in milliseconds, led by the elector's
+    /// choice.
     ///
-    /// It is for a state without a floor, or one that has failed. `TimeOverflow` where a deadline of view 1 passes
-    /// 2^64 - 1.
+    /// The state must have no floor, or have failed. Returns `TimeOverflow` if a deadline of view 1 passes 2^64 - 1.
     pub fn set_genesis(&mut self, payload: D, now: u64) -> Result<(), Fault>
         requires { (self.old.failed || self.old.current == 0) ≡ true }
-        ensures refused { IfSome (floor_refusal self.old (Genesis payload) now) (λ fault. (result ≡ Err fault) × (self.new ≡ self.old)) }
+        ensures refused { IfSome (floor_refusal self.old (Genesis payload) now)
+            (λ fault. (result ≡ Err fault) × (self.new ≡ self.old)) }
         ensures after { OnOk result (self.new ≡ after_set_genesis L.elect self.old payload now) }
         ensures out_of_memory { floor_refusal self.old (Genesis payload) now ≡ None
             → IfErr result (λ fault. (fault ≡ OutOfMemory) × HasFailed self.old self.new) }
@@ -60,12 +60,12 @@ impl<S: CertificateScheme, L: Elector<S>, D: Digest> State<S, L, D> {
         self.set_leader(first, leader)
     }
 
-    /// Starts at a floor: at genesis as `set_genesis` does; above a finalization as `add_finalization` takes it, where it
-    /// counts as handed out. Answers that finalization; none for genesis.
+    /// Starts at a floor: at genesis as `set_genesis` does; above a finalization as `add_finalization` accepts it, which
+    /// then counts as already broadcast. Returns that finalization; `None` for genesis.
     ///
-    /// It is for a state without a floor, or one that has failed. A finalization is of this epoch, and not of view 0.
-    /// `ViewTooLarge` where its view or its parent's is above 2^63 - 1, `TimeOverflow` where a deadline of the view that
-    /// would be entered passes 2^64 - 1 milliseconds.
+    /// The state must have no floor, or have failed. A finalization must be of this epoch, and not of view 0. Returns
+    /// `ViewTooLarge` if its view or its parent's is above 2^63 - 1, `TimeOverflow` if a deadline of the view to be entered
+    /// passes 2^64 - 1 milliseconds.
     pub fn set_floor(
         &mut self,
         floor: Floor<S, D>,
@@ -75,8 +75,10 @@ impl<S: CertificateScheme, L: Elector<S>, D: Digest> State<S, L, D> {
         ensures refused { IfSome (floor_refusal self.old (floor_facts S.certificate_bytes floor) now)
             (λ fault. (result ≡ Err fault) × (self.new ≡ self.old)) }
         ensures answer { IfOk result (λ answer.
-            option_map (finalization_facts S.certificate_bytes) answer ≡ floor_answer (floor_facts S.certificate_bytes floor)) }
-        ensures after { OnOk result (self.new ≡ after_set_floor D.eq L.elect self.old (floor_facts S.certificate_bytes floor) now) }
+            option_map (finalization_facts S.certificate_bytes) answer ≡ floor_answer
+            (floor_facts S.certificate_bytes floor)) }
+        ensures after { OnOk result
+            (self.new ≡ after_set_floor D.eq L.elect self.old (floor_facts S.certificate_bytes floor) now) }
         ensures out_of_memory { floor_refusal self.old (floor_facts S.certificate_bytes floor) now ≡ None
             → IfErr result (λ fault. (fault ≡ OutOfMemory) × HasFailed self.old self.new) }
     {
@@ -95,9 +97,11 @@ impl<S: CertificateScheme, L: Elector<S>, D: Digest> State<S, L, D> {
         now: u64,
     ) -> Result<Option<Finalization<S, D>>, Fault>
         requires { (self.old.failed || nat_le 1 finalization.proposal.round.view) ≡ true }
-        ensures refused { IfSome (finalization_refusal self.old finalization.proposal now) (λ fault. (result ≡ Err fault) × (self.new ≡ self.old)) }
+        ensures refused { IfSome (finalization_refusal self.old finalization.proposal now)
+            (λ fault. (result ≡ Err fault) × (self.new ≡ self.old)) }
         ensures answer { IfOk result (λ answer.
-            option_map (finalization_facts S.certificate_bytes) answer ≡ Some (finalization_facts S.certificate_bytes finalization)) }
+            option_map (finalization_facts S.certificate_bytes) answer ≡ Some
+            (finalization_facts S.certificate_bytes finalization)) }
         ensures after { OnOk result (self.new ≡ with_finalization_broadcast
             (after_add_finalization D.eq L.elect self.old (finalization_facts S.certificate_bytes finalization) now)
             finalization.proposal.round.view) }
@@ -121,9 +125,11 @@ impl<S: CertificateScheme, L: Elector<S>, D: Digest> State<S, L, D> {
         deadlines: &Deadlines,
     ) -> Result<Option<Finalization<S, D>>, Fault>
         requires votable { IsVotable finalization.proposal.round.view }
-        requires deadlines { nat_lt self.old.current (finalization.proposal.round.view + 1) ≡ true → deadlines.now ≡ deadlines_at self.old now }
+        requires deadlines { nat_lt self.old.current (finalization.proposal.round.view + 1) ≡ true
+            → deadlines.now ≡ deadlines_at self.old now }
         ensures answer { IfOk result (λ answer.
-            option_map (finalization_facts S.certificate_bytes) answer ≡ Some (finalization_facts S.certificate_bytes finalization)) }
+            option_map (finalization_facts S.certificate_bytes) answer ≡ Some
+            (finalization_facts S.certificate_bytes finalization)) }
         ensures started { OnOk result (self.new ≡ with_finalization_broadcast
             (after_add_finalization D.eq L.elect self.old (finalization_facts S.certificate_bytes finalization) now)
             finalization.proposal.round.view) }
@@ -137,15 +143,17 @@ impl<S: CertificateScheme, L: Elector<S>, D: Digest> State<S, L, D> {
         }
     }
 
-    /// A finalization that is kept counts as handed out. Answers it.
+    /// Marks a stored finalization as already broadcast, and returns it.
     fn return_floor(
         &mut self,
         finalization: Finalization<S, D>,
     ) -> Result<Option<Finalization<S, D>>, Fault>
         requires { IsVotable finalization.proposal.round.view }
         ensures answer { IfOk result (λ answer.
-            option_map (finalization_facts S.certificate_bytes) answer ≡ Some (finalization_facts S.certificate_bytes finalization)) }
-        ensures counted { OnOk result (self.new ≡ with_finalization_broadcast self.old finalization.proposal.round.view) }
+            option_map (finalization_facts S.certificate_bytes) answer ≡ Some
+            (finalization_facts S.certificate_bytes finalization)) }
+        ensures counted { OnOk result
+            (self.new ≡ with_finalization_broadcast self.old finalization.proposal.round.view) }
         ensures refused { IfErr result (λ fault. fault ≡ OutOfMemory) }
         ensures setup { HasSameSetup self.old self.new }
     {
@@ -158,7 +166,7 @@ impl<S: CertificateScheme, L: Elector<S>, D: Digest> State<S, L, D> {
     }
 }
 
-/// The finalization that an entry of the record is.
+/// The finalization in an entry of the record, if it is one.
 fn finalization_in<S: CertificateScheme, D: Digest>(
     entry: Artifact<S, D>,
 ) -> Option<Finalization<S, D>>

@@ -1,4 +1,4 @@
-//! What a state shows: plain getters, which change nothing and take no memory.
+//! Plain getters of a state: they change nothing and take no memory.
 
 ghost use Rattle.std.specs.Prelude.{◌≡◌, ◌↔◌, IsTrue, true, ◌&&◌, option_map, is_some};
 ghost use Rattle.std.specs.Option.{option_copied, option_map_or};
@@ -16,7 +16,7 @@ impl<S: CertificateScheme, L: Elector<S>, D: Digest> State<S, L, D> {
     ghost use Rattle.simplex_voter.specs.Refusals.{is_started};
     ghost use Rattle.simplex_voter.specs.StateAnswers.{notarization_of, nullification_of, finalization_of, leader_of, forwardable_of, elapsed_since_start, elapsed_since_entry};
 
-    /// The epoch. It keeps its promise also after the state has failed.
+    /// The epoch. This also holds after the state has failed.
     pub fn epoch(&self) -> Epoch
         ensures { result ≡ self.now.settings.epoch }
     {
@@ -37,29 +37,29 @@ impl<S: CertificateScheme, L: Elector<S>, D: Digest> State<S, L, D> {
         self.finalized
     }
 
-    /// Whether a call found no memory.
+    /// Returns whether the state has failed: a call that changes it ran out of memory.
     pub fn is_failed(&self) -> bool
         ensures { result ≡ self.now.failed }
     {
         self.failed
     }
 
-    /// The lowest view that is kept: the retention below the last finalized one, and not below 0.
+    /// The lowest retained view: the retention below the last finalized one, and not below 0.
     pub fn min_active(&self) -> View
         ensures { result ≡ min_active self.now }
     {
         self.viewport().floor()
     }
 
-    /// Whether a certificate of the view is taken: the view is not genesis and is kept.
+    /// Returns whether a certificate of the view is accepted: the view is retained and is not genesis.
     pub fn admits_certificate(&self, view: View) -> bool
         ensures { IsTrue result ↔ IsTrue (admits_certificate self.now view) }
     {
         self.viewport().admits_certificate(view)
     }
 
-    /// Whether a vote of the view is taken: a floor was set, and the view is not genesis, is kept, and is not above the
-    /// next term's start.
+    /// Returns whether a vote of the view is accepted: a floor was set, and the view is retained, is not genesis, and is
+    /// not above the next term's start.
     pub fn admits_vote(&self, view: View) -> bool
         ensures { IsTrue result ↔ IsTrue (is_started self.now && admits_vote self.now view) }
     {
@@ -83,7 +83,7 @@ impl<S: CertificateScheme, L: Elector<S>, D: Digest> State<S, L, D> {
         }
     }
 
-    /// Whether the state's scheme signs as this member. Without a key it signs as no one.
+    /// Returns whether the state's scheme signs as this member. Without a key it signs as no one.
     pub fn is_me(&self, member: Participant) -> bool
         ensures { result ≡ is_me self.now member }
     {
@@ -98,7 +98,7 @@ impl<S: CertificateScheme, L: Elector<S>, D: Digest> State<S, L, D> {
         Some(leader.idx)
     }
 
-    /// Whether the view is tracked.
+    /// Returns whether the view is tracked.
     pub fn is_tracked(&self, view: View) -> bool
         ensures { result ≡ is_tracked self.now view }
     {
@@ -107,41 +107,44 @@ impl<S: CertificateScheme, L: Elector<S>, D: Digest> State<S, L, D> {
 
     /// The notarization of a tracked view, if it is there.
     pub fn notarization(&self, view: View) -> Option<&Notarization<S, D>>
-        ensures { option_map (notarization_facts S.certificate_bytes) (option_copied result) ≡ notarization_of self.now view }
+        ensures { option_map (notarization_facts S.certificate_bytes) (option_copied result) ≡
+            notarization_of self.now view }
     {
         self.round_at(view)?.notarization()
     }
 
     /// The nullification of a tracked view, if it is there.
     pub fn nullification(&self, view: View) -> Option<&Nullification<S>>
-        ensures { option_map (nullification_facts S.certificate_bytes) (option_copied result) ≡ nullification_of self.now view }
+        ensures { option_map (nullification_facts S.certificate_bytes) (option_copied result) ≡
+            nullification_of self.now view }
     {
         self.round_at(view)?.nullification()
     }
 
     /// The finalization of a tracked view, if it is there.
     pub fn finalization(&self, view: View) -> Option<&Finalization<S, D>>
-        ensures { option_map (finalization_facts S.certificate_bytes) (option_copied result) ≡ finalization_of self.now view }
+        ensures { option_map (finalization_facts S.certificate_bytes) (option_copied result) ≡
+            finalization_of self.now view }
     {
         self.round_at(view)?.finalization()
     }
 
-    /// The proposal of a tracked view that may be forwarded: the held one, where the view is finalized, or notarized and
-    /// not found bad.
+    /// The proposal of a tracked view that may be forwarded: the held one, if the view is finalized, or notarized and not
+    /// found bad.
     pub fn forwardable_proposal(&self, view: View) -> Option<&Proposal<D>>
         ensures { option_copied result ≡ forwardable_of self.now view }
     {
         self.round_at(view)?.forwardable_proposal()
     }
 
-    /// The milliseconds since work on a tracked view began; 0 where the moment lies before.
+    /// The milliseconds since work on a tracked view began; 0 if the moment lies before.
     pub fn elapsed_since_start(&self, view: View, now: u64) -> Option<u64>
         ensures { result ≡ elapsed_since_start self.now view now }
     {
         self.round_at(view)?.elapsed_since_start(now)
     }
 
-    /// The milliseconds since a tracked view was entered; 0 where the moment lies before.
+    /// The milliseconds since a tracked view was entered; 0 if the moment lies before.
     pub fn elapsed_since_entry(&self, view: View, now: u64) -> Option<u64>
         ensures { result ≡ elapsed_since_entry self.now view now }
     {

@@ -1,4 +1,4 @@
-//! Leaders that go on from view to view, within a window and at a handoff.
+//! Leaders that carry over from view to view, within a window and at a handoff.
 
 ghost use Rattle.std.specs.Prelude.{◌≡◌, ◌-◌, ◌≤◌, Some, ◌+◌, IfErr, OnOk, ◌<◌};
 ghost use Rattle.std.specs.List.{range_with_len};
@@ -21,7 +21,7 @@ impl<S: CertificateScheme, L: Elector<S>, D: Digest> State<S, L, D> {
     ghost use Rattle.simplex_voter.specs.Rounds.{largest_tracked};
     ghost use Rattle.simplex_voter.specs.Leaders.{with_leader_of, opened_views, with_window_leaders, with_next_view_ready};
 
-    /// Whether the view may build on a parent that is not certified yet.
+    /// Returns whether the view may build on a parent that is not certified yet.
     #[tactic(auto, unfolding(crate::specs::Windows::in_issuance_window))]
     pub(super) fn in_issuance_window(&self, view: View) -> bool
         ensures { result ≡ in_issuance_window self.now view }
@@ -32,7 +32,7 @@ impl<S: CertificateScheme, L: Elector<S>, D: Digest> State<S, L, D> {
         }
     }
 
-    /// Whether genesis or a notarized or finalized view stands below the view, from the floor on.
+    /// Returns whether, from the floor on and below the view, there is genesis or a notarized or finalized view.
     fn is_open(&self, view: View, floor: View) -> bool
         requires { floor ≤ view }
         ensures { result ≡ is_open self.now view (Some floor) }
@@ -43,7 +43,7 @@ impl<S: CertificateScheme, L: Elector<S>, D: Digest> State<S, L, D> {
         self.rounds.has_notarized_between(floor, view)
     }
 
-    /// The leader of one view, where it is known, goes on to another that has none.
+    /// Gives a view without a leader the leader of another view, if that is known.
     pub(super) fn inherit_leader(&mut self, from: View, to: View) -> Result<(), Fault>
         requires { to ≤ largest_tracked }
         ensures inherited { OnOk result (self.new ≡ with_leader_of self.old from to) }
@@ -53,7 +53,7 @@ impl<S: CertificateScheme, L: Elector<S>, D: Digest> State<S, L, D> {
         self.rounds.inherit_leader(from, to)
     }
 
-    /// Each view whose window a certificate of this view opens takes the leader of the view before it, in turn.
+    /// Gives each view whose window a certificate of this view opens the leader of the view before it, one after the other.
     pub(super) fn slide_optimistic_frontier(&mut self, view: View) -> Result<(), Fault>
         requires { IsVotable view }
         ensures slid { OnOk result (self.new ≡ with_window_leaders self.old view) }
@@ -70,7 +70,7 @@ impl<S: CertificateScheme, L: Elector<S>, D: Digest> State<S, L, D> {
         Ok(())
     }
 
-    /// The last view whose window a certificate of this view opens; this view itself where it opens none.
+    /// The last view whose window a certificate of this view opens; this view itself if it opens none.
     fn last_opened(&self, view: View) -> View
         requires { IsVotable view }
         ensures above { view ≤ result }
@@ -88,11 +88,11 @@ impl<S: CertificateScheme, L: Elector<S>, D: Digest> State<S, L, D> {
         View::new(near.min(view.term_end(terms.term_length).get()))
     }
 
-    /// The next view takes the leader of this one in its window; at a term's start, after a vote here, this member leads
-    /// it where it is elected early.
+    /// Gives the next view the leader of this one in its window; at a term's start, after a vote here, this member leads it
+    /// if it is elected early.
     ///
-    /// Before the view is notarized a handoff can rest on this member's own vote alone, so it waits for that. Other members learn
-    /// the next leader from the certificate.
+    /// Before the view is notarized a handoff can rest on this member's own vote alone, so it waits for that. Other members
+    /// learn the next leader from the certificate.
     pub(super) fn prepare_optimistic_successor(&mut self, view: View) -> Result<(), Fault>
         requires { view < largest_tracked }
         ensures prepared { OnOk result (self.new ≡ with_next_view_ready L.elect self.old view) }

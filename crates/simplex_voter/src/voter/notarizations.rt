@@ -14,21 +14,28 @@ impl<S: CertificateScheme, L: Elector<S>, D: Digest> State<S, L, D> {
     ghost use Rattle.simplex_voter.specs.Refusals.{HasFailed};
     ghost use Rattle.simplex_voter.specs.Acceptance.{takes_proposal_certificate, notarization_refusal, notarization_added, after_add_notarization, with_notarization_at};
 
-    /// Takes a notarization: the next view is led by the elector's choice after this certificate. The first of its view
-    /// is kept, its view waits for certification, and the views whose window it opens take the leader of the view before
-    /// them. Answers whether it is the first of its view, with the key of a leader found to equivocate.
+    /// Accepts a notarization: the next view is led by the elector's choice after this certificate. The first of its view
+    /// is stored, its view waits for certification, and the views whose window it opens take the leader of the view before
+    /// them. Returns whether it is the first of its view, and the key of a leader found to equivocate.
     ///
-    /// It is of this epoch, and of a view that is kept. `ViewTooLarge` where its view or its parent's is above 2^63 - 1.
+    /// It must be of this epoch and of a retained view. Returns `ViewTooLarge` if its view or its parent's is
+    /// above 2^63 - 1.
     pub fn add_notarization(
         &mut self,
         notarization: Notarization<S, D>,
     ) -> Result<(bool, Option<S::PublicKey>), Fault>
-        requires { (self.old.failed || takes_proposal_certificate self.old (notarization_facts S.certificate_bytes notarization)) ≡ true }
+        requires { (self.old.failed
+            || takes_proposal_certificate self.old (notarization_facts S.certificate_bytes notarization)) ≡ true }
         ensures refused { IfSome (notarization_refusal self.old (notarization_facts S.certificate_bytes notarization))
             (λ fault. (result ≡ Err fault) × (self.new ≡ self.old)) }
-        ensures added { IfOk result (λ added. added ≡ notarization_added D.eq L.elect self.old (notarization_facts S.certificate_bytes notarization)) }
-        ensures after { OnOk result (self.new ≡ after_add_notarization D.eq L.elect self.old (notarization_facts S.certificate_bytes notarization)) }
-        ensures out_of_memory { notarization_refusal self.old (notarization_facts S.certificate_bytes notarization) ≡ None
+        ensures added { IfOk result
+            (λ added. added ≡ notarization_added D.eq L.elect self.old
+            (notarization_facts S.certificate_bytes notarization)) }
+        ensures after { OnOk result
+            (self.new ≡ after_add_notarization D.eq L.elect self.old
+            (notarization_facts S.certificate_bytes notarization)) }
+        ensures out_of_memory { notarization_refusal self.old
+            (notarization_facts S.certificate_bytes notarization) ≡ None
             → IfErr result (λ fault. (fault ≡ OutOfMemory) × HasFailed self.old self.new) }
     {
         if self.is_failed() {
@@ -51,8 +58,12 @@ impl<S: CertificateScheme, L: Elector<S>, D: Digest> State<S, L, D> {
         notarization: Notarization<S, D>,
     ) -> Result<(bool, Option<S::PublicKey>), Fault>
         requires { IsVotable notarization.proposal.round.view }
-        ensures added { IfOk result (λ added. added ≡ notarization_added D.eq L.elect self.old (notarization_facts S.certificate_bytes notarization)) }
-        ensures accepted { OnOk result (self.new ≡ after_add_notarization D.eq L.elect self.old (notarization_facts S.certificate_bytes notarization)) }
+        ensures added { IfOk result
+            (λ added. added ≡ notarization_added D.eq L.elect self.old
+            (notarization_facts S.certificate_bytes notarization)) }
+        ensures accepted { OnOk result
+            (self.new ≡ after_add_notarization D.eq L.elect self.old
+            (notarization_facts S.certificate_bytes notarization)) }
         ensures refused { IfErr result (λ fault. fault ≡ OutOfMemory) }
         ensures setup { HasSameSetup self.old self.new }
     {
@@ -73,8 +84,12 @@ impl<S: CertificateScheme, L: Elector<S>, D: Digest> State<S, L, D> {
         notarization: Notarization<S, D>,
     ) -> Result<(bool, Option<S::PublicKey>), Fault>
         requires { IsVotable notarization.proposal.round.view }
-        ensures added { IfOk result (λ added. added ≡ notarization_added D.eq L.elect self.old (notarization_facts S.certificate_bytes notarization)) }
-        ensures kept { OnOk result (self.new ≡ with_notarization_at D.eq L.elect self.old (notarization_facts S.certificate_bytes notarization)) }
+        ensures added { IfOk result
+            (λ added. added ≡ notarization_added D.eq L.elect self.old
+            (notarization_facts S.certificate_bytes notarization)) }
+        ensures kept { OnOk result
+            (self.new ≡ with_notarization_at D.eq L.elect self.old
+            (notarization_facts S.certificate_bytes notarization)) }
         ensures refused { IfErr result (λ fault. fault ≡ OutOfMemory) }
         ensures setup { HasSameSetup self.old self.new }
     {

@@ -19,20 +19,22 @@ impl<S: CertificateScheme, L: Elector<S>, D: Digest> State<S, L, D> {
     ghost use Rattle.simplex_voter.specs.Rules.{has_ancestry, may_notarize};
     ghost use Rattle.simplex_voter.specs.Votes.{notarize_answer, signed_proposal, notarize_cast, after_construct_notarize, IsSignedNotarize};
 
-    /// Votes to notarize what a view holds, where the rule allows it: the vote is decided, also without a key, and the
-    /// next view is readied as after a proposal; the vote is answered where the scheme has a key. Else nothing changes, so
-    /// the vote is cast once.
+    /// Votes to notarize the held proposal of a view if the rule allows it. The vote is decided, also without a key, and
+    /// the next view is prepared as after a proposal. Returns the vote if the scheme has a key. Otherwise nothing changes,
+    /// so the vote is cast once.
     ///
-    /// The state has a floor.
+    /// The state must have a floor.
     pub fn construct_notarize(&mut self, view: View) -> Result<Option<Notarize<S, D>>, Fault>
     where
         S: Scheme<D>,
         requires { (self.old.failed || is_started self.old) ≡ true }
         ensures refused { IfSome (plain_refusal self.old) (λ fault. (result ≡ Err fault) × (self.new ≡ self.old)) }
-        ensures vote { IfOk result (λ vote. option_map (λ v. v.proposal) vote ≡ notarize_answer D.eq L.elect self.old view) }
+        ensures vote { IfOk result
+            (λ vote. option_map (λ v. v.proposal) vote ≡ notarize_answer D.eq L.elect self.old view) }
         ensures signed { IfOk result (λ vote. IfSome vote (IsSignedNotarize S.IsSignature self.old)) }
         ensures after { OnOk result (self.new ≡ after_construct_notarize D.eq L.elect self.old view) }
-        ensures out_of_memory { plain_refusal self.old ≡ None → IfErr result (λ fault. (fault ≡ OutOfMemory) × HasFailed self.old self.new) }
+        ensures out_of_memory { plain_refusal self.old ≡ None
+            → IfErr result (λ fault. (fault ≡ OutOfMemory) × HasFailed self.old self.new) }
     {
         if self.is_failed() {
             return Err(Fault::Failed);
@@ -49,7 +51,7 @@ impl<S: CertificateScheme, L: Elector<S>, D: Digest> State<S, L, D> {
         }
     }
 
-    /// Decides the vote to notarize a view, readies the next one, and signs the vote where there is a key.
+    /// Decides the vote to notarize a view, prepares the next view, and signs the vote if there is a key.
     fn cast_notarize(&mut self, view: View) -> Result<Option<Notarize<S, D>>, Fault>
     where
         S: Scheme<D>,
@@ -77,11 +79,11 @@ impl<S: CertificateScheme, L: Elector<S>, D: Digest> State<S, L, D> {
         }
     }
 
-    /// Whether this member may vote to notarize the view: once, so that no other proposal is certified there too, and only
-    /// what was verified, on the payload of the parent that it was verified on.
+    /// Returns whether this member may vote to notarize the view: once, so that no other proposal is certified there too,
+    /// and only what was verified, on the payload of the parent that it was verified on.
     ///
-    /// The view's own facts come first, since its ancestry is looked up along the chain, at each event. The binding is tested
-    /// again at the vote, so that none stands on a parent that was replaced since the proposal was given out.
+    /// The view's own facts come first, since its ancestry is looked up along the chain, at each event. The binding is
+    /// tested again at the vote: the parent may have been replaced since the proposal was returned for verification.
     #[tactic(auto, unfolding(crate::specs::Rules::may_notarize))]
     pub(super) fn may_notarize(&self, view: View) -> bool
         requires { 1 ≤ self.now.current }
@@ -91,11 +93,12 @@ impl<S: CertificateScheme, L: Elector<S>, D: Digest> State<S, L, D> {
         if !self.is_admitted(view) {
             return false;
         }
+        // proof only: exposes that the term length is positive
         let _length = self.elector.terms().term_length.get();
         self.can_notarize(view) && self.has_ancestry(view) && self.verification_matches(view)
     }
 
-    /// Whether the view's own facts let this member vote to notarize it.
+    /// Returns whether the view's own facts let this member vote to notarize it.
     fn can_notarize(&self, view: View) -> bool
         ensures { result ≡ can_notarize (round_of self.now view) }
     {
@@ -105,11 +108,11 @@ impl<S: CertificateScheme, L: Elector<S>, D: Digest> State<S, L, D> {
         }
     }
 
-    /// Whether the view before offers a payload, where the view may build on one that is not certified yet: once a vote below
-    /// is refused, nothing above it may be voted for.
+    /// Returns whether the view before offers a payload, if the view may build on one that is not certified yet: once a
+    /// vote below is refused, nothing above it may be voted for.
     ///
-    /// It is the rule by which this member builds. A stricter one could lose a vote that is cast once; a looser one could vote
-    /// for what stands on a view that its own application refused.
+    /// It is the rule by which this member builds. A stricter one could lose a vote that is cast once; a looser one could
+    /// vote for what builds on a view that its own application refused.
     pub(super) fn has_ancestry(&self, view: View) -> bool
         ensures { result ≡ has_ancestry D.eq L.elect self.now view }
     {

@@ -18,24 +18,30 @@ impl<S: CertificateScheme, L: Elector<S>, D: Digest> State<S, L, D> {
     ghost use Rattle.simplex_voter.specs.Refusals.{HasFailed};
     ghost use Rattle.simplex_voter.specs.Acceptance.{takes_nullification, nullification_refusal, nullification_added, after_add_nullification, nullified_also, with_nullification_at};
 
-    /// Takes a nullification: the rest of its term is passed over, and the next term's start is entered where that is
-    /// ahead, and led by the elector's choice after this certificate. Answers whether it is the first of its view.
-    /// A certification that is under way goes on, since the next leader may build on a notarized view that this member has not
-    /// judged yet: members that stopped there could disagree on valid parents for good.
+    /// Accepts a nullification: the rest of its term is skipped, and the next term's start is entered if it is ahead, led
+    /// by the elector's choice after this certificate. Returns whether it is the first of its view. A certification that is
+    /// under way continues, since the next leader may build on a notarized view that this member has not judged yet:
+    /// members that stopped there could disagree on valid parents for good.
     ///
-    /// It is of this epoch, and of a view that is kept. `ViewTooLarge` where its view is above 2^63 - 1, `TimeOverflow`
-    /// where a deadline of the view that would be entered passes 2^64 - 1 milliseconds.
+    /// It must be of this epoch and of a retained view. Returns `ViewTooLarge` if its view is above 2^63 - 1,
+    /// `TimeOverflow` if a deadline of the view to be entered passes 2^64 - 1 milliseconds.
     pub fn add_nullification(
         &mut self,
         nullification: Nullification<S>,
         now: u64,
     ) -> Result<bool, Fault>
-        requires { (self.old.failed || takes_nullification self.old (nullification_facts S.certificate_bytes nullification)) ≡ true }
-        ensures refused { IfSome (nullification_refusal self.old (nullification_facts S.certificate_bytes nullification) now)
+        requires { (self.old.failed
+            || takes_nullification self.old (nullification_facts S.certificate_bytes nullification)) ≡ true }
+        ensures refused { IfSome
+            (nullification_refusal self.old (nullification_facts S.certificate_bytes nullification) now)
             (λ fault. (result ≡ Err fault) × (self.new ≡ self.old)) }
-        ensures added { IfOk result (λ added. added ≡ nullification_added self.old (nullification_facts S.certificate_bytes nullification)) }
-        ensures after { OnOk result (self.new ≡ after_add_nullification L.elect self.old (nullification_facts S.certificate_bytes nullification) now) }
-        ensures out_of_memory { nullification_refusal self.old (nullification_facts S.certificate_bytes nullification) now ≡ None
+        ensures added { IfOk result
+            (λ added. added ≡ nullification_added self.old (nullification_facts S.certificate_bytes nullification)) }
+        ensures after { OnOk result
+            (self.new ≡ after_add_nullification L.elect self.old
+            (nullification_facts S.certificate_bytes nullification) now) }
+        ensures out_of_memory { nullification_refusal self.old
+            (nullification_facts S.certificate_bytes nullification) now ≡ None
             → IfErr result (λ fault. (fault ≡ OutOfMemory) × HasFailed self.old self.new) }
     {
         if self.is_failed() {
@@ -66,6 +72,7 @@ impl<S: CertificateScheme, L: Elector<S>, D: Digest> State<S, L, D> {
         ensures in_range { result ≤ largest_current }
     {
         let length = self.elector.terms().term_length;
+        // proof only: exposes that the term length is positive
         let _views = length.get();
         view.next_term_start(length)
     }
@@ -81,19 +88,21 @@ impl<S: CertificateScheme, L: Elector<S>, D: Digest> State<S, L, D> {
         requires next { next ≡ next_term_start self.old.terms.term_length nullification.round.view }
         requires in_range { next ≤ largest_current }
         requires deadlines { nat_lt self.old.current next ≡ true → deadlines.now ≡ deadlines_at self.old now }
-        ensures accepted { OnOk result (self.new ≡ after_add_nullification L.elect self.old (nullification_facts S.certificate_bytes nullification) now) }
+        ensures accepted { OnOk result
+            (self.new ≡ after_add_nullification L.elect self.old
+            (nullification_facts S.certificate_bytes nullification) now) }
         ensures refused { IfErr result (λ fault. fault ≡ OutOfMemory) }
         ensures setup { HasSameSetup self.old self.new }
     {
         let view = nullification.view();
         self.note_moment(now);
-        // needs no look at what is finalized: a view above the current one alone is entered
+        // no test of what is finalized is needed: only a view above the current one is entered
         self.enter_led(next, now, deadlines, &nullification.certificate)?;
         self.store_nullification(nullification)?;
         self.nullify_view(view)
     }
 
-    /// The nullification's view and those behind it in its term are nullified.
+    /// Marks the nullification's view and the later ones of its term as nullified.
     pub(super) fn nullify_view(&mut self, view: View) -> Result<(), Fault>
         requires { 1 ≤ view }
         ensures noted { OnOk result (self.new ≡ nullified_also self.old view) }
@@ -105,7 +114,8 @@ impl<S: CertificateScheme, L: Elector<S>, D: Digest> State<S, L, D> {
 
     fn store_nullification(&mut self, nullification: Nullification<S>) -> Result<(), Fault>
         requires { IsVotable nullification.round.view }
-        ensures kept { OnOk result (self.new ≡ with_nullification_at self.old (nullification_facts S.certificate_bytes nullification)) }
+        ensures kept { OnOk result
+            (self.new ≡ with_nullification_at self.old (nullification_facts S.certificate_bytes nullification)) }
         ensures refused { IfErr result (λ fault. fault ≡ OutOfMemory) }
         ensures setup { HasSameSetup self.old self.new }
     {

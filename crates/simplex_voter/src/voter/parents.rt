@@ -1,5 +1,4 @@
-//! On which views a view may build, and on which of their payloads; which views nullifications cover, and where they leave a
-//! gap.
+//! The views and payloads that a view may build on; which views nullifications cover, and where they leave a gap.
 
 ghost use Rattle.std.specs.Prelude.{◌≡◌, ◌+◌, None};
 ghost use Rattle.std.specs.List.{filter_map, last_or};
@@ -11,14 +10,14 @@ use simplex_round::round::Round;
 use simplex_types::types::{CertificateScheme, Digest, Elector, Proposal, View};
 use simplex_view_maps::entries::Entries;
 
-/// A view with its payload, where it has one.
+/// A view with its payload, if it has one.
 fn at_view<D: Digest>(view: View, payload: Option<D>) -> Option<(View, D)>
     ensures { result ≡ at_view view payload }
 {
     Some((view, payload?))
 }
 
-/// Whether this payload was found.
+/// Returns whether this payload was found.
 fn is_payload<D: Digest>(found: Option<D>, payload: D) -> bool
     ensures { result ≡ is_payload D.eq found payload }
 {
@@ -28,7 +27,7 @@ fn is_payload<D: Digest>(found: Option<D>, payload: D) -> bool
     }
 }
 
-/// Whether this view was found, with this payload.
+/// Returns whether this view was found, with this payload.
 fn is_parent<D: Digest>(found: Option<(View, D)>, parent: View, payload: D) -> bool
     ensures { result ≡ is_parent D.eq found parent payload }
 {
@@ -43,7 +42,7 @@ impl<S: CertificateScheme, L: Elector<S>, D: Digest> State<S, L, D> {
     ghost use Rattle.simplex_voter.specs.Payloads.{is_handoff_parent, explicit_ancestry_payload};
     ghost use Rattle.simplex_voter.specs.Parents.{ancestry_payload_for_child, has_valid_parent_span, leads, parent_payload_for, explicit_at, highest_explicit, handoff, preferred_at_start, find_parent, captured_parent_valid, holds_binding, verification_matches};
 
-    /// Whether a nullification stands in the view's term, at the view or below.
+    /// Returns whether the view's term has a nullification, at the view or below.
     pub(super) fn is_covered(&self, view: View) -> bool
         ensures { result ≡ is_covered self.now view }
     {
@@ -54,19 +53,20 @@ impl<S: CertificateScheme, L: Elector<S>, D: Digest> State<S, L, D> {
     pub(super) fn first_unnullified_view(&self, parent: View, view: View) -> Option<View>
         ensures { result ≡ first_unnullified_view self.now parent view }
     {
+        // proof only: exposes that the term length is positive
         let _length = self.elector.terms().term_length.get();
         self.nullified.first_uncovered(parent, view)
     }
 
-    /// Whether nullifications cover each view strictly between two others.
+    /// Returns whether nullifications cover each view strictly between two others.
     pub(super) fn is_gapless(&self, parent: View, view: View) -> bool
         ensures { result ≡ is_gapless self.now parent view }
     {
         self.first_unnullified_view(parent, view).is_none()
     }
 
-    /// Whether the term that the view ends may be handed over to this member; with the next view.
-    /// A nullification in that term says that others have left it, and the next leader would build on what they skip.
+    /// Returns whether the term that the view ends may be handed over to this member; `next` is the next view. A
+    /// nullification in that term shows that others have left it, and the next leader would build on what they skip.
     #[tactic(auto, unfolding(crate::specs::Payloads::is_handoff_parent))]
     pub(super) fn is_handoff_parent(&self, view: View, next: View) -> bool
         requires { next ≡ view + 1 }
@@ -75,7 +75,7 @@ impl<S: CertificateScheme, L: Elector<S>, D: Digest> State<S, L, D> {
         self.is_elected_early(next) && !self.is_covered(view)
     }
 
-    /// The kind of payload that the view may build on: inside its window what the parent offers, else what is certified.
+    /// The payload that the view may build on: inside its window what the parent offers, else what is certified.
     #[tactic(auto, unfolding(crate::specs::Parents::ancestry_payload_for_child))]
     pub(super) fn ancestry_payload_for_child(&self, view: View, parent: View) -> Option<D>
         ensures { result ≡ ancestry_payload_for_child D.eq L.elect self.now view parent }
@@ -87,8 +87,8 @@ impl<S: CertificateScheme, L: Elector<S>, D: Digest> State<S, L, D> {
         }
     }
 
-    /// Whether the parent is below the view, not under the last finalized one, and inside a term just below. Where not,
-    /// that can't change for the better.
+    /// Returns whether the parent is below the view, not below the last finalized one, and inside a term exactly one below.
+    /// If not, that can't change for the better.
     #[tactic(auto, unfolding(crate::specs::Parents::has_valid_parent_span))]
     pub(super) fn has_valid_parent_span(&self, view: View, parent: View) -> bool
         ensures { result ≡ has_valid_parent_span self.now view parent }
@@ -112,7 +112,7 @@ impl<S: CertificateScheme, L: Elector<S>, D: Digest> State<S, L, D> {
         self.ancestry_payload_for_child(view, parent)
     }
 
-    /// The view before a term's start, with what it offers, where its term may be handed over to this member.
+    /// The view before a term's start, with the payload that it offers, if its term may be handed over to this member.
     fn handoff(&self, view: View) -> Option<(View, D)>
         ensures { result ≡ handoff D.eq L.elect self.now view }
     {
@@ -123,8 +123,8 @@ impl<S: CertificateScheme, L: Elector<S>, D: Digest> State<S, L, D> {
         Some((view, payload))
     }
 
-    /// At a term's start the highest explicit view below; where a gap lies above that, the view before.
-    /// Any lower explicit view has the same gap above it.
+    /// At a term's start the highest explicit view below; if a gap lies above that, the view before. Any lower explicit
+    /// view has the same gap above it.
     fn preferred_at_start(&self, view: View) -> Option<(View, D)>
         ensures { result ≡ preferred_at_start D.eq L.elect self.now view }
     {
@@ -147,7 +147,7 @@ impl<S: CertificateScheme, L: Elector<S>, D: Digest> State<S, L, D> {
         at_view(parent, self.ancestry_payload_for_child(view, parent))
     }
 
-    /// Whether the parent is allowed, or preferred, with this payload.
+    /// Returns whether the parent is allowed, or preferred, with this payload.
     #[tactic(auto, unfolding(crate::specs::Parents::captured_parent_valid))]
     pub(super) fn captured_parent_valid(&self, view: View, parent: View, payload: D) -> bool
         ensures { result ≡ captured_parent_valid D.eq L.elect self.now view parent payload }
@@ -179,14 +179,14 @@ impl<S: CertificateScheme, L: Elector<S>, D: Digest> State<S, L, D> {
         None
     }
 
-    /// The view with its explicit payload, where it has one.
+    /// The view with its explicit payload, if it has one.
     fn explicit_at(&self, view: View) -> Option<(View, D)>
         ensures { result ≡ at_view view (explicit_ancestry_payload self.now view) }
     {
         Some((view, *self.explicit_ancestry_payload(view)?))
     }
 
-    /// Whether this member leads the round's view.
+    /// Returns whether this member leads the round's view.
     fn leads(&self, round: &Round<S, D>) -> bool
         ensures { result ≡ leads self.now round.now }
     {
@@ -196,9 +196,8 @@ impl<S: CertificateScheme, L: Elector<S>, D: Digest> State<S, L, D> {
         }
     }
 
-    /// Whether the bound proposal is held, and its parent is allowed with the bound payload, or preferred where this
-    /// member leads.
-    /// Its own handoff stands on a parent that is not allowed before it is certified, but preferred.
+    /// Returns whether the bound proposal is held, and its parent is allowed with the bound payload, or preferred if this
+    /// member leads. Its own handoff builds on a parent that is preferred, but not allowed before it is certified.
     fn holds_binding(&self, view: View, round: &Round<S, D>, bound: &(Proposal<D>, D)) -> bool
         ensures { result ≡ holds_binding D.eq L.elect self.now view round.now bound.now }
     {
@@ -213,7 +212,7 @@ impl<S: CertificateScheme, L: Elector<S>, D: Digest> State<S, L, D> {
             || (self.leads(round) && is_parent(self.find_parent(view), parent, bound.1))
     }
 
-    /// Whether nothing is bound at the view, or what is still holds.
+    /// Returns whether nothing is bound at the view, or its binding still holds.
     #[tactic(auto, unfolding(crate::specs::Parents::verification_matches))]
     pub(super) fn verification_matches(&self, view: View) -> bool
         ensures { result ≡ verification_matches D.eq L.elect self.now view }

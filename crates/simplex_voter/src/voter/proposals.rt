@@ -1,4 +1,4 @@
-//! Proposals, as their views take them: of leaders, and those that this member builds, recorded, superseded or given up.
+//! Proposals of leaders, and those that this member builds: recorded, superseded or abandoned.
 
 ghost use Rattle.std.specs.Prelude.{◌≡◌, ◌||◌, ◌≤◌, IfSome, IfOk, IfErr, OnOk, Err, None, true, ◌&&◌, not, false, if◌then◌else◌};
 ghost use Rattle.simplex_types.specs.Terms.{IsVotable};
@@ -23,23 +23,25 @@ impl<S: CertificateScheme, L: Elector<S>, D: Digest> State<S, L, D> {
     ghost use Rattle.simplex_voter.specs.Verification.{takes_proposal, set_proposal_answer, after_set_proposal, with_proposal};
     ghost use Rattle.simplex_voter.specs.ProposalRequests.{context_stands, proposed_answer, after_proposed, supersede_answer, after_supersede, abandonment_answer};
 
-    /// Whether a proposal of the view is taken: a floor was set, and it is of this epoch and of this view, which is kept.
+    /// Returns whether a proposal of the view is accepted: a floor was set, and it is of this epoch and of this view, which
+    /// is retained.
     pub fn takes_proposal(&self, view: View, proposal: &Proposal<D>) -> bool
         ensures { result ≡ takes_proposal self.now view proposal.now }
     {
         self.takes_round(&proposal.round) && proposal.round.view == view
     }
 
-    /// Takes a proposal of the view's leader. The next view takes the leader of this one in its window; at a term's
-    /// start, after a vote here, this member leads it where it is elected early. Answers whether the proposal is to be
-    /// verified: it is the first of its view, and nullify was not decided there. One that differs from the first is kept
-    /// out, and the view counts as equivocated; after a decision to nullify nothing is kept.
+    /// Accepts a proposal of the view's leader. The next view takes the leader of this one in its window; at a term's
+    /// start, after a vote here, this member leads it if it is elected early. Returns whether the proposal is to be
+    /// verified: it is the first of its view, and nullify was not decided there. One that differs from the first is not
+    /// stored, and the view counts as equivocated; after a decision to nullify nothing is stored.
     ///
-    /// It is of this epoch and of this view, which is kept. `ViewTooLarge` where its view or its parent's is above
-    /// 2^63 - 1.
+    /// It must be of this epoch and of this view, which must be retained. Returns `ViewTooLarge` if its view or its
+    /// parent's is above 2^63 - 1.
     pub fn set_proposal(&mut self, view: View, proposal: &Proposal<D>) -> Result<bool, Fault>
         requires { (self.old.failed || takes_proposal self.old view proposal.now) ≡ true }
-        ensures refused { IfSome (proposal_refusal self.old proposal.now) (λ fault. (result ≡ Err fault) × (self.new ≡ self.old)) }
+        ensures refused { IfSome (proposal_refusal self.old proposal.now)
+            (λ fault. (result ≡ Err fault) × (self.new ≡ self.old)) }
         ensures answer { IfOk result (λ answer. answer ≡ set_proposal_answer self.old view) }
         ensures after { OnOk result (self.new ≡ after_set_proposal D.eq L.elect self.old view proposal.now) }
         ensures out_of_memory { proposal_refusal self.old proposal.now ≡ None
@@ -71,11 +73,12 @@ impl<S: CertificateScheme, L: Elector<S>, D: Digest> State<S, L, D> {
         self.take_proposal(view, proposal)
     }
 
-    /// The round of a view takes a proposal, and answers whether it is to be verified.
+    /// Gives the round of a view a proposal, and returns whether the proposal is to be verified.
     fn take_proposal(&mut self, view: View, proposal: &Proposal<D>) -> Result<bool, Fault>
         requires { view ≤ largest_tracked }
         ensures answer { IfOk result (λ answer. answer ≡ set_proposal_answer self.old view) }
-        ensures taken { OnOk result (self.new ≡ with_round self.old view (with_proposal D.eq (round_of self.old view) proposal.now)) }
+        ensures taken { OnOk result
+            (self.new ≡ with_round self.old view (with_proposal D.eq (round_of self.old view) proposal.now)) }
         ensures refused { IfErr result (λ fault. fault ≡ OutOfMemory) }
         ensures setup { HasSameSetup self.old self.new }
     {
@@ -83,11 +86,11 @@ impl<S: CertificateScheme, L: Elector<S>, D: Digest> State<S, L, D> {
     }
 
     /// Records the proposal that was built for a context, at a moment in milliseconds, as this member's own and verified,
-    /// bound to its parent's payload; answers whether it did. It does not where the captured parent no longer stands, the
-    /// view isn't tracked, nullify was decided there or another proposal is held. The moment is noted always.
+    /// bound to its parent's payload. Returns whether it did. It does not if the captured parent may no longer be built on,
+    /// the view isn't tracked, nullify was decided there, or another proposal is held. The moment is recorded always.
     ///
-    /// The state has a floor.
-    #[tactic(auto, unfolding(crate::specs::Proposing::proposed_answer))]
+    /// The state must have a floor.
+    #[tactic(auto, unfolding(crate::specs::ProposalRequests::proposed_answer))]
     pub fn proposed(
         &mut self,
         context: &Context<D, S::PublicKey>,
@@ -96,7 +99,8 @@ impl<S: CertificateScheme, L: Elector<S>, D: Digest> State<S, L, D> {
     ) -> Result<bool, Fault>
         requires { (self.old.failed || is_started self.old) ≡ true }
         ensures refused { IfSome (plain_refusal self.old) (λ fault. (result ≡ Err fault) × (self.new ≡ self.old)) }
-        ensures answer { IfOk result (λ recorded. recorded ≡ proposed_answer D.eq L.elect self.old context.now payload) }
+        ensures answer { IfOk result
+            (λ recorded. recorded ≡ proposed_answer D.eq L.elect self.old context.now payload) }
         ensures after { OnOk result (self.new ≡ after_proposed D.eq L.elect self.old context.now payload now) }
         ensures taken { plain_refusal self.old ≡ None → IsOk result }
     {
@@ -112,11 +116,12 @@ impl<S: CertificateScheme, L: Elector<S>, D: Digest> State<S, L, D> {
         Ok(self.record_proposed(context, payload, now))
     }
 
-    /// Records what was built in a tracked view, where nullify was not decided and no other proposal is held.
-    /// It is bound to its parent's payload, as a replay binds it, so that a certificate of another payload takes it out of use.
+    /// Records what was built in a tracked view, unless nullify was decided or another proposal is held. It is bound to its
+    /// parent's payload, as a replay binds it, so that a certificate of another payload invalidates it.
     fn record_proposed(&mut self, context: &Context<D, S::PublicKey>, payload: D, now: u64) -> bool
         ensures recorded { result ≡ option_map_or
-            (λ r. not (is_nullify r.decision) && holds_or_empty (same_proposal D.eq) r.slot (proposal_of context.now payload))
+            (λ r. not (is_nullify r.decision)
+            && holds_or_empty (same_proposal D.eq) r.slot (proposal_of context.now payload))
             (round_at self.old context.now.round.view) false }
         ensures after { self.new ≡ (if result
             then with_round self.old context.now.round.view
@@ -126,17 +131,17 @@ impl<S: CertificateScheme, L: Elector<S>, D: Digest> State<S, L, D> {
         self.rounds.record_proposed(context, payload, now)
     }
 
-    /// Whether the parent that a context captured may still be built on.
+    /// Returns whether the parent that a context captured may still be built on.
     fn context_stands(&self, context: &Context<D, S::PublicKey>) -> bool
         ensures { result ≡ context_stands D.eq L.elect self.now context.now }
     {
         self.captured_parent_valid(context.round.view, context.parent.0, context.parent.1)
     }
 
-    /// Whether another parent can be built on and the captured one no longer: then the request to build is cleared, so
-    /// that it can be asked for again.
+    /// Returns whether another parent can be built on and the captured one no longer. If so, clears the request to build,
+    /// so that it can be made again.
     ///
-    /// The state has a floor.
+    /// The state must have a floor.
     pub fn supersede_proposal_request(
         &mut self,
         context: &Context<D, S::PublicKey>,
@@ -157,18 +162,19 @@ impl<S: CertificateScheme, L: Elector<S>, D: Digest> State<S, L, D> {
         Ok(true)
     }
 
-    /// Whether another parent can be built on and the captured one no longer.
-    /// While there is no other parent the request stays: nothing could be asked for in its place.
+    /// Returns whether another parent can be built on and the captured one no longer. Without another parent the request
+    /// stays: nothing could be asked for in its place.
     fn is_superseded(&self, context: &Context<D, S::PublicKey>) -> bool
         ensures { result ≡ supersede_answer D.eq L.elect self.now context.now }
     {
         self.find_parent(context.round.view).is_some() && !self.context_stands(context)
     }
 
-    /// Why a handoff that is being built is to be given up, unless it may go on: its parent is certified with the captured
-    /// payload, or this member has not voted to nullify the current view and the captured parent may still be built on.
+    /// Returns why a handoff that is being built must be abandoned. `None` if it may continue: its parent is certified with
+    /// the captured payload, or this member has not voted to nullify the current view and the captured parent may still be
+    /// built on.
     ///
-    /// The state has a floor.
+    /// The state must have a floor.
     pub fn pending_handoff_abandonment(
         &self,
         context: &Context<D, S::PublicKey>,
@@ -185,8 +191,8 @@ impl<S: CertificateScheme, L: Elector<S>, D: Digest> State<S, L, D> {
         if self.parent_certified(context.parent) {
             return Ok(None);
         }
-        // an application that builds one block at a time would go on with this one, while verdicts are needed to leave the
-        // nullified view
+        // an application that builds one block at a time would continue with this one, while verdicts are needed to leave
+        // the nullified view
         if self.voted_nullify(self.current) {
             return Ok(Some(HandoffAbandonedReason::ParentNullify));
         }

@@ -1,4 +1,4 @@
-//! When this member builds a proposal, and on what; what it is asked to build.
+//! When this member builds a proposal, and on which parent; the requests to build.
 
 ghost use Rattle.std.specs.Prelude.{◌≡◌, ◌||◌, IfSome, OnOk, Err, None, true, IsOk, ◌≤◌, ◌<◌, ◌+◌, ◌^◌, IfOk, slice_get, if◌then◌else◌};
 ghost use Rattle.simplex_voter.specs.ProposalRequests.{is_handoff, request_context};
@@ -12,10 +12,10 @@ use simplex_types::types::{CertificateScheme, Context, Digest, Elector, Fault, V
 use simplex_view_maps::entries::Entries;
 use std::alloc::AllocError;
 
-/// A proposal that this member is asked to build.
+/// A request to this member to build a proposal.
 #[derive(PartialEq, Eq)]
 pub enum ProposalRequest<D, P: Copy> {
-    /// A handoff: the first proposal of a term, on a parent that is not certified yet. It may have to be given up.
+    /// A handoff: the first proposal of a term, on a parent that is not certified yet. It may have to be abandoned.
     Prepare(Context<D, P>),
     /// A proposal on a certified parent, or on one that its window allows.
     Propose(Context<D, P>),
@@ -36,7 +36,7 @@ impl<D: Copy, P: Copy> Clone for ProposalRequest<D, P> {
 }
 
 impl<D: Digest, P: Copy> ProposalRequest<D, P> {
-    /// Whether the parent may still fail to be certified, at a term's start.
+    /// Returns whether this is a handoff, whose parent may still fail to be certified.
     pub fn is_handoff(&self) -> bool
         ensures { result ≡ is_handoff self.now }
     {
@@ -53,7 +53,7 @@ impl<D: Digest, P: Copy> ProposalRequest<D, P> {
         }
     }
 
-    /// The context, taken out.
+    /// Returns the context by value.
     pub fn into_context(self) -> Context<D, P>
         ensures { result ≡ request_context self }
     {
@@ -80,10 +80,10 @@ impl<S: CertificateScheme, L: Elector<S>, D: Digest> State<S, L, D> {
     ghost use Rattle.simplex_types.specs.Terms.{next_term_start};
     ghost use Rattle.simplex_voter.specs.Facts.{round_of};
 
-    /// Clears the request to build a proposal in a view, so that it can be asked for again while none is held there.
-    /// Nothing changes where the view isn't tracked.
+    /// Clears the request to build a proposal in a view, so that it can be made again while no proposal is held there. If
+    /// the view isn't tracked, nothing changes.
     ///
-    /// The state has a floor.
+    /// The state must have a floor.
     pub fn release_proposal_request(&mut self, view: View) -> Result<(), Fault>
         requires { (self.old.failed || is_started self.old) ≡ true }
         ensures refused { IfSome (plain_refusal self.old) (λ fault. (result ≡ Err fault) × (self.new ≡ self.old)) }
@@ -104,14 +104,14 @@ impl<S: CertificateScheme, L: Elector<S>, D: Digest> State<S, L, D> {
         self.rounds.release(view);
     }
 
-    /// Whether this member's vote to nullify the view is out.
+    /// Returns whether this member has cast its vote to nullify the view.
     pub fn voted_nullify(&self, view: View) -> bool
         ensures { result ≡ voted_nullify self.now view }
     {
         self.nullify_votes.get(view).is_some()
     }
 
-    /// Whether the view is certified or finalized with just this payload; genesis has its own.
+    /// Returns whether the view is certified or finalized with exactly this payload; genesis has its own.
     pub fn parent_certified(&self, parent: (View, D)) -> bool
         ensures { result ≡ parent_certified D.eq self.now parent }
     {
@@ -121,12 +121,17 @@ impl<S: CertificateScheme, L: Elector<S>, D: Digest> State<S, L, D> {
         }
     }
 
-    /// What this member is to build next: in the lowest view from the current one to the next term's start that it leads
-    /// and may work in, where it has not voted to nullify, neither holds a proposal nor is building one, and has a parent
-    /// to build on. A term's first proposal on a parent that is not certified is only prepared, and not while this member
-    /// gives up the current view. The request stands until it is cleared.
+    /// Returns what this member must build next. The view is the lowest one, from the current one to the next term's start,
+    /// where this member
+    /// - leads and may work,
+    /// - has not voted to nullify,
+    /// - neither holds a proposal nor is building one,
+    /// - has a parent to build on.
     ///
-    /// The state has a floor.
+    /// A term's first proposal on an uncertified parent is only prepared, and not after this member's vote to nullify the
+    /// current view. The request remains until it is cleared.
+    ///
+    /// The state must have a floor.
     pub fn try_propose(&mut self) -> Result<Option<ProposalRequest<D, S::PublicKey>>, Fault>
         requires { (self.old.failed || is_started self.old) ≡ true }
         ensures refused { IfSome (plain_refusal self.old) (λ fault. (result ≡ Err fault) × (self.new ≡ self.old)) }
@@ -144,11 +149,12 @@ impl<S: CertificateScheme, L: Elector<S>, D: Digest> State<S, L, D> {
         Ok(Some(request))
     }
 
-    /// The request of the lowest view ahead that has one.
+    /// The request of the lowest view, from the current one on, that has one.
     fn next_request(&self) -> Option<ProposalRequest<D, S::PublicKey>>
         requires { 1 ≤ self.now.current }
         ensures answer { result ≡ propose_answer D.eq L.elect self.now }
-        ensures ready { IfSome result (λ request. should_propose (round_of self.now (request_context request).round.view) ≡ true) }
+        ensures ready { IfSome result
+            (λ request. should_propose (round_of self.now (request_context request).round.view) ≡ true) }
     {
         let near = self.last_near();
         let last = self.last_ahead();
@@ -170,13 +176,14 @@ impl<S: CertificateScheme, L: Elector<S>, D: Digest> State<S, L, D> {
         self.rounds.within(low, high)
     }
 
-    /// The last view that a search for work comes to: the next term's start.
+    /// The last view that a search for work visits: the next term's start.
     pub(super) fn last_ahead(&self) -> View
         requires { 1 ≤ self.now.current }
         ensures last { result ≡ next_term_start self.now.terms.term_length self.now.current }
         ensures room { (self.now.current ≤ result) × (result + 1 < 2 ^ 64) }
     {
         let length = self.elector.terms().term_length;
+        // proof only: exposes that the term length is positive
         let _views = length.get();
         self.current.next_term_start(length)
     }
@@ -197,7 +204,7 @@ impl<S: CertificateScheme, L: Elector<S>, D: Digest> State<S, L, D> {
         None
     }
 
-    /// What this member may build in a view, if anything.
+    /// The request to build in a view, if there is one.
     fn request_in(
         &self,
         view: View,
@@ -216,7 +223,7 @@ impl<S: CertificateScheme, L: Elector<S>, D: Digest> State<S, L, D> {
         self.request_on(view, round, parent)
     }
 
-    /// What this member may build in a view that it leads, on this parent.
+    /// The request to build in a view that this member leads, on this parent.
     fn request_on(
         &self,
         view: View,
@@ -229,8 +236,9 @@ impl<S: CertificateScheme, L: Elector<S>, D: Digest> State<S, L, D> {
         if !self.is_term_start(view) || self.parent_certified(parent) {
             return Some(ProposalRequest::Propose(context));
         }
-        // not even claimed while this member gives up the view in which it waits: what is ready at once could be taken before
-        // the driver asks whether to go on. Where the parent is certified after all, this is an ordinary request
+        // not even claimed after a vote to nullify the view in which it waits: an application that is ready at once could
+        // take it before the host asks whether to continue. If the parent is certified after all, this is an ordinary
+        // request
         if self.voted_nullify(self.current) {
             return None;
         }

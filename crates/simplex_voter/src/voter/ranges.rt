@@ -1,4 +1,4 @@
-//! The tracked views of a range: what some of them hold, and which are dropped.
+//! The tracked views of a range: searches over them, and dropping them.
 
 ghost use Rattle.std.specs.Prelude.{◌≡◌, ◌≤◌, ◌<◌, ◌+◌, ◌^◌, ◌&&◌, IfErr, IfOk, true, false, max, filter, nat_le, nat_lt, map as map_list, if◌then◌else◌};
 ghost use Rattle.std.specs.List.{list_any};
@@ -16,7 +16,7 @@ use simplex_types::types::{CertificateScheme, Digest, Fault, View};
 use simplex_view_maps::entries::Entries;
 use simplex_view_maps::tracked::Tracked;
 
-/// Whether one of the rounds is notarized or finalized.
+/// Returns whether one of the rounds is notarized or finalized.
 fn has_notarized<S: CertificateScheme, D: Digest>(mut entries: Entries<'_, Round<S, D>>) -> bool
     ensures { result ≡ list_any (λ e. is_notarized e.1) entries.entry }
 {
@@ -28,7 +28,7 @@ fn has_notarized<S: CertificateScheme, D: Digest>(mut entries: Entries<'_, Round
     false
 }
 
-/// Whether the round was certified false.
+/// Returns whether the round was certified false.
 fn was_refused<S: CertificateScheme, D: Digest>(round: &Round<S, D>) -> bool
     ensures { result ≡ is_judged false round.now.certification }
 {
@@ -38,7 +38,7 @@ fn was_refused<S: CertificateScheme, D: Digest>(round: &Round<S, D>) -> bool
     }
 }
 
-/// Whether the view is above another, and tracked with a round that was certified false.
+/// Returns whether the view is above another, and tracked with a round that was certified false.
 fn was_refused_above<S: CertificateScheme, D: Digest>(
     rounds: &Tracked<Round<S, D>>,
     view: View,
@@ -62,7 +62,7 @@ fn later(view: View, other: View) -> View
     view.max(other)
 }
 
-/// Whether a round of one of the views, above another, was certified false.
+/// Returns whether a round of one of the views, above another, was certified false.
 fn has_refused<S: CertificateScheme, D: Digest>(
     rounds: &Tracked<Round<S, D>>,
     mut views: Entries<'_, ()>,
@@ -78,7 +78,7 @@ fn has_refused<S: CertificateScheme, D: Digest>(
     false
 }
 
-/// Ends the certifications that are under way at or below a view. None is below another one.
+/// Ends the certifications that are under way at or below a view; `from` is a view below which none is.
 fn end_certifications<S: CertificateScheme, D: Digest>(
     rounds: &mut Tracked<Round<S, D>>,
     from: View,
@@ -86,7 +86,8 @@ fn end_certifications<S: CertificateScheme, D: Digest>(
 )
     requires in_range { view < 2 ^ 63 }
     requires quiet { IsQuietBelow rounds.old from }
-    ensures { map.entries rounds.new ≡ map_list (λ e. (e.0, if nat_le e.0 view then without_token e.1 else e.1)) (map.entries rounds.old) }
+    ensures { map.entries rounds.new ≡ map_list (λ e. (e.0, if nat_le e.0 view then without_token e.1 else e.1))
+        (map.entries rounds.old) }
 {
     let mut next = from.min(view);
     while let Some(entry) = rounds.first_at(next) {
@@ -101,7 +102,8 @@ fn end_certifications<S: CertificateScheme, D: Digest>(
 
 /// Ends the certification of a tracked view, if it is under way.
 fn end_certification<S: CertificateScheme, D: Digest>(rounds: &mut Tracked<Round<S, D>>, view: View)
-    ensures { rounds.new ≡ option_map_or (λ r. map.insert rounds.old view (without_token r)) (map.get rounds.old view) rounds.old }
+    ensures { rounds.new ≡ option_map_or (λ r. map.insert rounds.old view (without_token r))
+        (map.get rounds.old view) rounds.old }
 {
     let Some(round) = rounds.get_mut(view) else {
         return;
@@ -117,7 +119,7 @@ impl<S: CertificateScheme, D: Digest> Rounds<S, D> {
     ghost use Rattle.std.specs.FinMap.Entries.{is_sorted};
     ghost use Rattle.simplex_voter.specs.Rounds.{is_refused_between, AreDownFrom};
 
-    /// The rounds of the tracked views below a view, by rising view, but for those above each one that is finalized or was
+    /// The rounds of the tracked views below a view, by rising view, without those above each one that is finalized or was
     /// certified true.
     pub(super) fn down_from(&self, view: View) -> Entries<'_, Round<S, D>>
         ensures { AreDownFrom self.now view result }
@@ -146,7 +148,7 @@ impl<S: CertificateScheme, D: Digest> Rounds<S, D> {
         self.by_view.between(low, high.next())
     }
 
-    /// Whether a view from one on and below another is notarized or finalized.
+    /// Returns whether a view at or above `from` and below `to` is notarized or finalized.
     pub(super) fn has_notarized_between(&self, from: View, to: View) -> bool
         requires { from ≤ to }
         ensures { result ≡ list_any (λ e. nat_le from e.0 && nat_lt e.0 to && is_notarized e.1) self.now.by_view }
@@ -154,7 +156,7 @@ impl<S: CertificateScheme, D: Digest> Rounds<S, D> {
         has_notarized(self.by_view.between(from, to))
     }
 
-    /// Whether a view above one, from another on and up to a third was certified false.
+    /// Returns whether a view above `above`, from `from` on and up to `last`, was certified false.
     pub(super) fn has_refused_between(&self, above: View, from: View, last: View) -> bool
         requires { from ≤ last + 1 }
         ensures { result ≡ list_any (is_refused_between above from last) self.now.by_view }
@@ -169,7 +171,11 @@ impl<S: CertificateScheme, D: Digest> Rounds<S, D> {
     /// Ends the certifications that are under way at or below a view.
     pub(super) fn end_certifications(&mut self, view: View)
         requires { view < 2 ^ 63 }
-        ensures { self.new ≡ record self.old { by_view = map_list (λ e. (e.0, if nat_le e.0 view then without_token e.1 else e.1)) self.old.by_view } }
+        ensures { self.new ≡ record
+            self.old {
+              by_view = map_list (λ e. (e.0, if nat_le e.0 view then without_token e.1 else e.1))
+                  self.old.by_view;
+            } }
     {
         end_certifications(&mut self.by_view, self.bounds.under_way, view);
         self.bounds.end_certifications(view);
@@ -177,7 +183,8 @@ impl<S: CertificateScheme, D: Digest> Rounds<S, D> {
 
     /// The tracked views below a view, rising.
     pub(super) fn views_below(&self, view: View) -> Result<Vec<View>, Fault>
-        ensures views { IfOk result (λ views. views.items ≡ map_list (λ e. e.0) (filter (λ e. nat_lt e.0 view) self.now.by_view)) }
+        ensures views { IfOk result
+            (λ views. views.items ≡ map_list (λ e. e.0) (filter (λ e. nat_lt e.0 view) self.now.by_view)) }
         ensures refused { IfErr result (λ fault. fault ≡ OutOfMemory) }
     {
         Ok(self.by_view.views_below(self.alloc, view)?)

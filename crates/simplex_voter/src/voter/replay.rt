@@ -1,4 +1,4 @@
-//! What the entries of this member's record restore after a restart.
+//! Restoring the entries of this member's record after a restart.
 
 ghost use Rattle.std.specs.Prelude.{◌≡◌, ◌≤◌, IfErr, OnOk, IfSome, Err, None, option_and_then, false};
 ghost use Rattle.simplex_types.specs.Proposal.{same_proposal};
@@ -17,7 +17,7 @@ use simplex_types::types::{
     Artifact, CertificateScheme, Digest, Elector, Fault, LARGEST_VIEW, Proposal, View, Viewable,
 };
 
-/// The view may have the verdict that the entry of the record is.
+/// Widens the bounds by the verdict in an entry of the record, if it is one.
 fn allow_recalled<S: CertificateScheme, D: Digest>(
     bounds: &mut Bounds,
     view: View,
@@ -33,8 +33,8 @@ fn allow_recalled<S: CertificateScheme, D: Digest>(
     }
 }
 
-/// A round takes an entry of the record: a vote is decided again, a certificate counts as handed out, and a verdict
-/// stands. It is bound again where there is a binding.
+/// Restores an entry of the record in a round: a vote is decided again, a certificate counts as already broadcast, and a
+/// verdict is set. It is bound again if there is a binding.
 fn recall_round<S: CertificateScheme, D: Digest>(
     round: &mut Round<S, D>,
     artifact: &Artifact<S, D>,
@@ -49,7 +49,7 @@ fn recall_round<S: CertificateScheme, D: Digest>(
     }
 }
 
-/// Whether the artifact's view or its proposal's parent is above 2^63 - 1.
+/// Returns whether the artifact's view or its proposal's parent is above 2^63 - 1.
 fn is_too_large<S: CertificateScheme, D: Digest>(artifact: &Artifact<S, D>) -> bool
     ensures { result ≡ artifact_too_large artifact.now }
 {
@@ -68,8 +68,7 @@ fn is_too_large<S: CertificateScheme, D: Digest>(artifact: &Artifact<S, D>) -> b
 impl<S: CertificateScheme, D: Digest> Rounds<S, D> {
     ghost use Rattle.simplex_voter.specs.Rounds.{round_in, with_change, largest_tracked, HasSameOrigin};
 
-    /// The round of a view takes an entry of the record, with a binding where there is one. The view is tracked from then
-    /// on.
+    /// Restores an entry of the record in the round of a view, with a binding if there is one, and tracks the view.
     pub(super) fn recall(
         &mut self,
         view: View,
@@ -78,7 +77,9 @@ impl<S: CertificateScheme, D: Digest> Rounds<S, D> {
     ) -> Result<(), Fault>
         requires in_range { view ≤ largest_tracked }
         requires taken { TakesArtifact (round_in self.old view) artifact.now }
-        ensures recalled { OnOk result (self.new ≡ with_change self.old view (λ r. bound_again (after_replay (same_proposal D.eq) r artifact.now) binding)) }
+        ensures recalled { OnOk result
+            (self.new ≡ with_change self.old view
+            (λ r. bound_again (after_replay (same_proposal D.eq) r artifact.now) binding)) }
         ensures refused { IfErr result (λ fault. fault ≡ OutOfMemory) }
         ensures origin { HasSameOrigin self.old self.new }
     {
@@ -99,7 +100,7 @@ impl<S: CertificateScheme, L: Elector<S>, D: Digest> State<S, L, D> {
     ghost use Rattle.simplex_voter.specs.Refusals.{HasFailed};
     ghost use Rattle.simplex_voter.specs.Replay.{TakesReplay, replay_refusal, restored_binding, replayed_sets, replayed_round, after_replayed};
 
-    /// The round of a view takes an entry of the record, with a binding where there is one.
+    /// Restores an entry of the record in the round of a view, with a binding if there is one.
     pub(super) fn recall(
         &mut self,
         view: View,
@@ -116,15 +117,16 @@ impl<S: CertificateScheme, L: Elector<S>, D: Digest> State<S, L, D> {
         self.rounds.recall(view, artifact, binding)
     }
 
-    /// Restores what an entry of this member's record says: a vote is decided again, a certificate counts as handed out
-    /// and is not added, a verdict stands. The current view stays.
+    /// Restores an entry of this member's record: a vote is decided again, a certificate counts as already broadcast and is
+    /// not added, a verdict is set. The current view stays.
     ///
-    /// The state has a floor. The artifact is of this epoch and of a view that is kept, a vote is this member's own and
-    /// doesn't meet its opposite, and no verdict contradicts another. `ViewTooLarge` where its view or its proposal's
-    /// parent is above 2^63 - 1.
+    /// The state must have a floor. The artifact must be of this epoch and of a retained view, a vote must be this member's
+    /// own and not meet its opposite, and no verdict may contradict another. Returns `ViewTooLarge` if its view or its
+    /// proposal's parent is above 2^63 - 1.
     pub fn replay(&mut self, artifact: &Artifact<S, D>) -> Result<(), Fault>
         requires { self.old.failed ≡ false → TakesReplay self.old artifact.now }
-        ensures refused { IfSome (replay_refusal self.old artifact.now) (λ fault. (result ≡ Err fault) × (self.new ≡ self.old)) }
+        ensures refused { IfSome (replay_refusal self.old artifact.now)
+            (λ fault. (result ≡ Err fault) × (self.new ≡ self.old)) }
         ensures after { OnOk result (self.new ≡ after_replayed D.eq L.elect self.old artifact.now) }
         ensures out_of_memory { replay_refusal self.old artifact.now ≡ None
             → IfErr result (λ fault. (fault ≡ OutOfMemory) × HasFailed self.old self.new) }
@@ -159,11 +161,12 @@ impl<S: CertificateScheme, L: Elector<S>, D: Digest> State<S, L, D> {
         }
     }
 
-    /// Restores what the artifact says of its view's round.
+    /// Restores the artifact in its view's round.
     fn restore_round(&mut self, artifact: &Artifact<S, D>) -> Result<(), Fault>
         requires taken { TakesArtifact (round_of self.old (artifact_view artifact.now)) artifact.now }
         requires votable { IsVotable (artifact_view artifact.now) }
-        ensures restored { OnOk result (self.new ≡ with_round self.old (artifact_view artifact.now) (replayed_round D.eq self.old artifact.now)) }
+        ensures restored { OnOk result
+            (self.new ≡ with_round self.old (artifact_view artifact.now) (replayed_round D.eq self.old artifact.now)) }
         ensures refused { IfErr result (λ fault. fault ≡ OutOfMemory) }
         ensures setup { HasSameSetup self.old self.new }
     {
@@ -185,7 +188,7 @@ impl<S: CertificateScheme, L: Elector<S>, D: Digest> State<S, L, D> {
         }
     }
 
-    /// What a replayed notarize vote is bound to: its proposal, on what the parent holds.
+    /// The binding of a replayed notarize vote: its proposal, on the payload that the parent holds.
     fn binding_of(&self, artifact: &Artifact<S, D>) -> Option<(Proposal<D>, D)>
         ensures { result ≡ option_and_then (restored_binding self.now) (voted_proposal artifact.now) }
     {
@@ -195,10 +198,10 @@ impl<S: CertificateScheme, L: Elector<S>, D: Digest> State<S, L, D> {
         }
     }
 
-    /// The proposal with its parent's held payload, where no certificate decides that.
+    /// The proposal with its parent's held payload, unless a certificate decides that payload.
     ///
-    /// Parents are replayed before their children. A parent with a certificate holds the certified payload alone, which need not
-    /// be the one that the vote was cast on, so nothing is bound there.
+    /// Parents are replayed before their children. A parent with a certificate holds the certified payload alone, which
+    /// need not be the one that the vote was cast on, so nothing is bound there.
     fn restored_binding(&self, proposal: &Proposal<D>) -> Option<(Proposal<D>, D)>
         ensures { result ≡ restored_binding self.now proposal.now }
     {

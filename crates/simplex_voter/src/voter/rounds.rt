@@ -13,7 +13,7 @@ use simplex_view_maps::tracked::Tracked;
 use std::alloc::Global;
 use std::marker::Model;
 
-/// The moments, in milliseconds, at which a view that is entered times out.
+/// The moments, in milliseconds, at which an entered view times out.
 #[derive(Clone, Copy)]
 pub struct Deadlines {
     pub leader: u64,
@@ -34,7 +34,7 @@ impl Deadlines {
     }
 }
 
-/// Where tracked views may stand that are searched for. So a search needn't go over the others.
+/// Bounds on where a search may find tracked views of certain kinds, so that it need not visit the others.
 #[derive(Drop)]
 pub struct Bounds {
     // no view above it is finalized or was certified true
@@ -48,7 +48,7 @@ pub struct Bounds {
 impl Bounds {
     ghost use Rattle.simplex_voter.specs.Rounds.{IsWider, MayBeJudged};
 
-    /// Nothing is there to be searched for.
+    /// Bounds for no tracked view: a search finds nothing.
     pub(super) fn none(alloc: Global) -> Bounds {
         Bounds {
             explicit: View::zero(),
@@ -57,7 +57,7 @@ impl Bounds {
         }
     }
 
-    /// The view may be finalized.
+    /// Widens the bounds: the view may be finalized.
     pub(super) fn raise_finalized_bound(&mut self, view: View)
         ensures wider { IsWider self.old self.new }
         ensures explicit { view ≤ self.new.explicit }
@@ -65,7 +65,7 @@ impl Bounds {
         self.explicit = self.explicit.max(view);
     }
 
-    /// The view may have this verdict.
+    /// Widens the bounds: the view may have this verdict.
     pub(super) fn allow_verdict(&mut self, view: View, success: bool) -> Result<(), Fault>
         ensures wider { IsWider self.old self.new }
         ensures judged { OnOk result (MayBeJudged self.new view success) }
@@ -79,7 +79,7 @@ impl Bounds {
         Ok(())
     }
 
-    /// A certification may be under way at the view.
+    /// Widens the bounds: a certification may be under way at the view.
     pub(super) fn allow_certification(&mut self, view: View)
         ensures wider { IsWider self.old self.new }
         ensures under_way { self.new.under_way ≤ view }
@@ -87,7 +87,7 @@ impl Bounds {
         self.under_way = self.under_way.min(view);
     }
 
-    /// No certification is under way at or below the view.
+    /// Narrows the bounds: no certification is under way at or below the view.
     pub(super) fn end_certifications(&mut self, view: View)
         requires { view < 2 ^ 63 }
         ensures { self.new ≡ record self.old { under_way = max self.old.under_way (view + 1) } }
@@ -95,7 +95,7 @@ impl Bounds {
         self.under_way = self.under_way.max(view.next());
     }
 
-    /// No view below this one is searched for any more.
+    /// Narrows the bounds: no view below this one is searched for any more.
     pub(super) fn drop_below(&mut self, view: View)
         ensures { self.new ≡ record self.old { refused = at_or_above self.old.refused view } }
     {
@@ -103,10 +103,11 @@ impl Bounds {
     }
 }
 
-/// The rounds of the tracked views, each of this member, among its members and in its epoch.
+/// The rounds of the tracked views: each is this member's, among its members and in its epoch.
 ///
 /// Contracts see them as the record `RoundsFacts`. No view above 2^63 + 2^33 is tracked, only views up to 2^63 - 1 are
-/// notarized, and each leader is a member. So that a search needn't go over all of them, bounds are kept of what it may find.
+/// notarized, and each leader is a member. Bounds are stored of what a search may find, so that it need not visit all
+/// rounds.
 #[derive(Drop)]
 pub struct Rounds<S: CertificateScheme, D> {
     pub(super) alloc: Global,
@@ -145,7 +146,7 @@ impl<S: CertificateScheme, D: Digest> Rounds<S, D> {
         }
     }
 
-    /// What this member signs by.
+    /// The scheme by which this member signs.
     pub(super) fn scheme(&self) -> &S
         ensures me { S.me result.now ≡ self.now.me }
         ensures members { S.participants result.now ≡ self.now.members }
@@ -153,7 +154,7 @@ impl<S: CertificateScheme, D: Digest> Rounds<S, D> {
         &self.scheme
     }
 
-    /// The epoch that all rounds are of.
+    /// The epoch of all rounds.
     pub(super) fn epoch(&self) -> Epoch
         ensures { result ≡ self.now.epoch }
     {
@@ -206,7 +207,7 @@ impl<S: CertificateScheme, D: Digest> Rounds<S, D> {
         Ok(())
     }
 
-    /// The leader of one view, where it is known, goes on to another that has none.
+    /// Gives a view without a leader the leader of another view, if that is known.
     pub(super) fn inherit_leader(&mut self, from: View, to: View) -> Result<(), Fault>
         requires { to ≤ largest_tracked }
         ensures inherited { OnOk result (self.new ≡ rounds_with_leader_of self.old from to) }
@@ -227,7 +228,7 @@ impl<S: CertificateScheme, D: Digest> Rounds<S, D> {
         ensures leader { result ≡ option_map (λ l. l.idx) (round_in self.now view).leader }
         ensures member { IfSome result (λ leader. leader < length self.now.members) }
     {
-        // that leaders are members is known of the fields
+        // proof only: exposes that leaders are members
         let _rounds = &self.by_view;
         let leader = self.get(view)?.leader()?;
         Some(leader.idx)
@@ -245,7 +246,7 @@ impl<S: CertificateScheme, D: Digest> Rounds<S, D> {
         }
     }
 
-    /// Whether a leader of the view is set.
+    /// Returns whether the leader of the view is set.
     fn has_leader(&self, view: View) -> bool
         ensures { result ≡ is_some (round_in self.now view).leader }
     {
@@ -255,7 +256,7 @@ impl<S: CertificateScheme, D: Digest> Rounds<S, D> {
         }
     }
 
-    /// Notes the entry of a view, the first one, and arms its deadlines.
+    /// Records the first entry of a view, and arms its deadlines.
     pub(super) fn enter_view(
         &mut self,
         view: View,

@@ -1,4 +1,4 @@
-//! The parts of the rules that say when this member votes. Each method answers one of them.
+//! The parts of the rules that say when this member votes. Each method tests one of them.
 
 ghost use Rattle.std.specs.Prelude.{◌≡◌};
 ghost use Rattle.std.specs.Option.{option_copied};
@@ -14,8 +14,8 @@ impl<S: CertificateScheme, L: Elector<S>, D: Digest> State<S, L, D> {
     ghost use Rattle.simplex_voter.specs.Payloads.{explicit_ancestry_payload, is_elected_early};
     ghost use Rattle.simplex_voter.specs.Rules.{has_conflicting_nullify, was_handed_over, required_certification_parent, explicit_parent_ready, has_required_parent, may_finalize};
 
-    /// Whether a vote of this member for the view may go out.
-    /// Certificates make rounds arbitrarily far ahead. A vote there would promise what this member can't check yet.
+    /// Returns whether this member may vote in the view. Certificates create rounds arbitrarily far ahead. A vote there
+    /// would promise what this member can't check yet.
     #[tactic(auto, unfolding(crate::specs::Windows::is_admitted))]
     pub(super) fn is_admitted(&self, view: View) -> bool
         ensures { result ≡ is_admitted self.now view }
@@ -24,14 +24,14 @@ impl<S: CertificateScheme, L: Elector<S>, D: Digest> State<S, L, D> {
         lookahead.admits_outbound(self.current, view)
     }
 
-    /// Whether the view starts a term.
+    /// Returns whether the view starts a term.
     pub(super) fn is_term_start(&self, view: View) -> bool
         ensures { result ≡ is_term_start self.now view }
     {
         view.is_term_start(self.elector.terms().term_length)
     }
 
-    /// Whether this member voted to nullify a view below in the term, above the last finalized view: its vote to finalize
+    /// Returns whether this member voted to nullify a view below in the term, above the last finalized view: its vote to finalize
     /// could help to finalize a view that the other vote helps to skip.
     /// A finalization at or above that view ends this: it proves that the nullification can never form.
     #[tactic(auto, unfolding(crate::specs::Rules::has_conflicting_nullify))]
@@ -55,7 +55,7 @@ impl<S: CertificateScheme, L: Elector<S>, D: Digest> State<S, L, D> {
         self.round_at(view)?.certified_payload()
     }
 
-    /// Whether this member is elected, before any certificate, for the term that the view starts.
+    /// Returns whether this member is elected, before any certificate, for the term that the view starts.
     /// Others learn who leads from the certificate that unlocks the term.
     pub(super) fn is_elected_early(&self, view: View) -> bool
         ensures { result ≡ is_elected_early L.elect self.now view }
@@ -65,14 +65,14 @@ impl<S: CertificateScheme, L: Elector<S>, D: Digest> State<S, L, D> {
             && self.is_me(self.early_leader(view))
     }
 
-    /// Whether this member was elected early for the term that the view starts, and voted for a proposal there.
+    /// Returns whether this member was elected early for the term that the view starts, and voted for a proposal there.
     fn was_handed_over(&self, view: View) -> bool
         ensures { result ≡ was_handed_over L.elect self.now view }
     {
         self.is_elected_early(view) && self.has_voted_to_notarize(view)
     }
 
-    /// Whether the vote to notarize was decided.
+    /// Returns whether the vote to notarize was decided.
     pub(super) fn has_voted_to_notarize(&self, view: View) -> bool
         ensures { result ≡ (round_of self.now view).notarize_decided }
     {
@@ -85,8 +85,8 @@ impl<S: CertificateScheme, L: Elector<S>, D: Digest> State<S, L, D> {
     /// Returns the view that this member must certify before the proposal: the previous view, if the proposal was voted for
     /// while that view could still be refused.
     ///
-    /// Inside a term each proposal is voted for that early, at a term's start only by a leader that was elected early and
-    /// proposed it. This member's vote there tells which proposal that was, since it signs one as leader. The vote of
+    /// Inside a term each proposal is voted for that early; at a term's start only by a leader that was elected early and
+    /// proposed it. This member's vote there shows which proposal that was, since it signs one as leader. The vote of
     /// another member may be for a second proposal of a faulty leader, and its parent may never arrive: it must not wait.
     #[tactic(auto, unfolding(crate::specs::Rules::required_certification_parent))]
     pub(super) fn required_certification_parent(
@@ -109,7 +109,7 @@ impl<S: CertificateScheme, L: Elector<S>, D: Digest> State<S, L, D> {
         }
     }
 
-    /// Whether what has to be certified before the proposal is.
+    /// Returns whether the view that must be certified before the proposal is certified.
     fn explicit_parent_ready(&self, view: View, proposal: &Proposal<D>) -> bool
         ensures { result ≡ explicit_parent_ready L.elect self.now view proposal.now }
     {
@@ -126,7 +126,7 @@ impl<S: CertificateScheme, L: Elector<S>, D: Digest> State<S, L, D> {
         self.round_at(view)?.proposal()
     }
 
-    /// Whether the view's held proposal, if there is one, has what it requires.
+    /// Returns whether the view's held proposal, if there is one, has the parent that it requires.
     pub(super) fn has_required_parent(&self, view: View) -> bool
         ensures { result ≡ has_required_parent L.elect self.now view }
     {
@@ -136,7 +136,7 @@ impl<S: CertificateScheme, L: Elector<S>, D: Digest> State<S, L, D> {
         }
     }
 
-    /// Whether the view's own facts let this member vote to finalize it.
+    /// Returns whether the view's own facts let this member vote to finalize it.
     fn can_finalize(&self, view: View) -> bool
         ensures { result ≡ can_finalize (round_of self.now view) }
     {
@@ -146,10 +146,11 @@ impl<S: CertificateScheme, L: Elector<S>, D: Digest> State<S, L, D> {
         }
     }
 
-    /// Whether this member may vote to finalize the view. Without the notarization another proposal may still win it.
+    /// Returns whether this member may vote to finalize the view. Without the notarization another proposal may still win
+    /// it.
     ///
-    /// A finalized view needs no vote. That the parent is ready was tested before the certification, and is tested again, since
-    /// a replayed record restores a certified view without it.
+    /// A finalized view needs no vote. That the parent is ready was tested before the certification, and is tested again,
+    /// since a replayed record restores a certified view without it.
     #[tactic(auto, unfolding(crate::specs::Rules::may_finalize))]
     pub(super) fn may_finalize(&self, view: View) -> bool
         ensures { result ≡ may_finalize L.elect self.now view }

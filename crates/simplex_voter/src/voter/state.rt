@@ -15,20 +15,20 @@ use simplex_view_maps::tracked::Tracked;
 use std::alloc::Global;
 use std::marker::Model;
 
-/// How a state is set up. Times are milliseconds.
+/// The setup of a state. Times are milliseconds.
 #[derive(Drop)]
 pub struct Config<S: CertificateScheme, L: Elector<S>> {
-    /// Who signs, for whom.
+    /// The scheme of this member.
     pub scheme: S,
-    /// Who leads each view. Its members are the scheme's participants.
+    /// Chooses each view's leader. Its members are the scheme's participants.
     pub elector: L,
-    /// The epoch that every message is of.
+    /// The epoch of every message.
     pub epoch: Epoch,
-    /// How many views below the last finalized one are kept.
+    /// How many views below the last finalized one are retained.
     pub view_retention: ViewDelta,
-    /// From the entry of a view until it times out for want of a proposal.
+    /// From the entry of a view until it times out without a proposal.
     pub leader_timeout: u64,
-    /// From the entry of a view until it times out for want of its certification.
+    /// From the entry of a view until it times out without its certification.
     pub certification_timeout: u64,
     /// From the first poll after a vote to nullify until the vote is repeated.
     pub timeout_retry: u64,
@@ -38,8 +38,9 @@ pub struct Config<S: CertificateScheme, L: Elector<S>> {
 
 /// A member's state over all views.
 ///
-/// Contracts see it as the record `StateFacts`. After a call that found no memory it has failed: whatever a call asks of a
-/// state that has not, it may be made then, and each one with a result answers `Failed`. So no vote is answered.
+/// Contracts see it as the record `StateFacts`. A call that changes the state and runs out of memory leaves it failed. A failed
+/// state may be called whatever a call requires of others, and each call with a result then returns `Failed`. So it returns no
+/// vote.
 #[derive(Drop)]
 pub struct State<S: CertificateScheme, L: Elector<S>, D> {
     pub(super) alloc: Global,
@@ -51,23 +52,23 @@ pub struct State<S: CertificateScheme, L: Elector<S>, D> {
     certification_timeout: u64,
     pub(super) timeout_retry: u64,
     pub(super) skip_budget: u64,
-    // the payload of genesis, where the state starts there
+    // the payload of genesis, if the state starts there
     pub(super) genesis: Option<D>,
     // the view that was entered last; 0 before the floor is set
     pub(super) current: View,
-    // the highest view whose finalization was handed in
+    // the highest view whose finalization was passed to this state
     pub(super) finalized: View,
     // the moment that the last call carried, in milliseconds
     pub(super) last_moment: u64,
     // the views that wait to be offered for certification
     pub(super) candidates: Tracked<()>,
-    // the views with a nullification, handed in or replayed
+    // the views with a nullification, passed in or replayed
     pub(super) nullified: ByTerm<()>,
-    // the views that this member cast a vote to nullify
+    // the views that this member voted to nullify
     pub(super) nullify_votes: ByTerm<()>,
-    // what is known of each tracked view, with the scheme and the epoch
+    // the rounds of the tracked views, with the scheme and the epoch
     pub(super) rounds: Rounds<S, D>,
-    // a call found no memory
+    // a call ran out of memory
     pub(super) failed: bool,
 }
 
@@ -92,7 +93,7 @@ impl<S: CertificateScheme, L: Elector<S>, D: Digest> State<S, L, D> {
     ghost use Rattle.simplex_voter.specs.ViewEntry.{at_moment, with_view_entered};
     ghost use Rattle.simplex_voter.specs.Leaders.{with_leader_at, with_elected_leader};
 
-    /// A state that has no floor yet: nothing is known, and no view is entered.
+    /// Returns a state without a floor: nothing is known, and no view is entered.
     pub fn new(alloc: Global, config: Config<S, L>) -> State<S, L, D>
         requires { L.members config.elector ≡ length (S.participants config.scheme) }
         ensures { result ≡ new_facts (settings_of config) (S.me config.scheme) (S.participants config.scheme)
@@ -137,7 +138,7 @@ impl<S: CertificateScheme, L: Elector<S>, D: Digest> State<S, L, D> {
         self.rounds.get(view)
     }
 
-    /// The deadlines of a view that is entered at a moment; none where one passes 2^64 - 1.
+    /// The deadlines of a view that is entered at a moment; `None` if one passes 2^64 - 1.
     pub(super) fn deadlines(&self, now: u64) -> Option<Deadlines>
         ensures late { IsNone result ↔ IsTrue (has_late_deadline self.now now) }
         ensures moments { IfSome result (λ deadlines. deadlines ≡ deadlines_at self.now now) }
@@ -159,10 +160,11 @@ impl<S: CertificateScheme, L: Elector<S>, D: Digest> State<S, L, D> {
         })
     }
 
-    /// The deadlines of a view that may be entered at a moment; none where it is ahead and one passes 2^64 - 1.
+    /// The deadlines of a view that may be entered at a moment; `None` if it is ahead and one passes 2^64 - 1.
     pub(super) fn deadlines_to(&self, view: View, now: u64) -> Option<Deadlines>
         ensures late { IsNone result ↔ IsTrue (enters_late self.now view now) }
-        ensures moments { IfSome result (λ deadlines. nat_lt self.now.current view ≡ true → deadlines ≡ deadlines_at self.now now) }
+        ensures moments { IfSome result
+            (λ deadlines. nat_lt self.now.current view ≡ true → deadlines ≡ deadlines_at self.now now) }
     {
         if view <= self.current {
             return Some(Deadlines::none());
@@ -170,7 +172,7 @@ impl<S: CertificateScheme, L: Elector<S>, D: Digest> State<S, L, D> {
         self.deadlines(now)
     }
 
-    /// The elector's choice, after this certificate where there is one, leads a view that has no leader.
+    /// Gives a view without a leader the elector's choice, after this certificate if there is one.
     pub(super) fn elect(
         &mut self,
         view: View,
@@ -178,7 +180,8 @@ impl<S: CertificateScheme, L: Elector<S>, D: Digest> State<S, L, D> {
     ) -> Result<(), Fault>
         requires { view ≤ largest_tracked }
         ensures elected { OnOk result (self.new
-            ≡ with_elected_leader L.elect self.old view (option_map S.certificate_bytes (option_copied certificate.entry))) }
+            ≡ with_elected_leader L.elect self.old view
+            (option_map S.certificate_bytes (option_copied certificate.entry))) }
         ensures refused { IfErr result (λ fault. fault ≡ OutOfMemory) }
         ensures setup { HasSameSetup self.old self.new }
     {
@@ -201,7 +204,7 @@ impl<S: CertificateScheme, L: Elector<S>, D: Digest> State<S, L, D> {
         None
     }
 
-    /// The last moment that a call carried is this one.
+    /// Records this moment as the last one that a call carried.
     pub(super) fn note_moment(&mut self, now: u64)
         ensures { self.new ≡ at_moment self.old now }
     {
@@ -214,7 +217,7 @@ impl<S: CertificateScheme, L: Elector<S>, D: Digest> State<S, L, D> {
         self.genesis = Some(payload);
     }
 
-    /// A call found no memory.
+    /// Records that a call ran out of memory.
     pub(super) fn fail(&mut self)
         ensures { self.new ≡ record self.old { failed = true } }
     {

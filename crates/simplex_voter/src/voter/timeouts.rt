@@ -1,5 +1,5 @@
-//! Timeouts of views: the first explicit one, how many terms may be skipped before it counts no more, when a term counts as
-//! stalled, and the next timeout of the current view.
+//! Timeouts of views: the first explicit one, how many terms may be skipped before it no longer counts, when a term counts
+//! as stalled, and the next timeout of the current view.
 
 ghost use Rattle.std.specs.Prelude.{◌≡◌, ◌&&◌, IfOk, IfSome, IsOk, OnOk, Err, None, true, ◌+◌, is_some, option_and_then, filter, slice_get, ◌||◌, IfErr, Some, is_err};
 ghost use Rattle.simplex_types.specs.Terms.{term_index};
@@ -13,7 +13,7 @@ use simplex_types::reasons::TimeoutReason;
 use simplex_types::types::{CertificateScheme, Digest, Elector, Fault, TermLength, View};
 use simplex_view_maps::entries::Entries;
 
-/// The number of the term of a view, from 0. Genesis counts to the first term.
+/// The number of the term of a view, from 0. Genesis counts as part of the first term.
 fn index_of(view: View, length: TermLength) -> u64
     ensures { result ≡ term_index length view }
 {
@@ -27,13 +27,14 @@ fn index_after(view: View, length: TermLength) -> u64
     view.get() / u64::from(length.get().get())
 }
 
-/// The stall deadline of the first of the rounds that was entered, above one view and not above another.
+/// The stall deadline of the first of the rounds that was entered, with a view above `finalized` and not above `current`.
 fn first_deadline<S: CertificateScheme, D: Digest>(
     mut entries: Entries<'_, Round<S, D>>,
     finalized: View,
     current: View,
 ) -> Option<u64>
-    ensures { result ≡ option_and_then (λ e. standing_deadline e.1) (slice_get (filter (is_entered_between finalized current) entries.entry) 0) }
+    ensures { result ≡ option_and_then (λ e. standing_deadline e.1)
+        (slice_get (filter (is_entered_between finalized current) entries.entry) 0) }
 {
     while let Some(entry) = entries.pop_first() {
         if is_entered_between(entry.0, entry.1, finalized, current) {
@@ -43,7 +44,7 @@ fn first_deadline<S: CertificateScheme, D: Digest>(
     None
 }
 
-/// Whether a view was entered, above one view and not above another.
+/// Returns whether a view was entered, above `finalized` and not above `current`.
 fn is_entered_between<S: CertificateScheme, D: Digest>(
     view: View,
     round: &Round<S, D>,
@@ -55,14 +56,14 @@ fn is_entered_between<S: CertificateScheme, D: Digest>(
     view > finalized && view <= current && is_entered(round)
 }
 
-/// Whether the view was entered.
+/// Returns whether the view was entered.
 fn is_entered<S: CertificateScheme, D: Digest>(round: &Round<S, D>) -> bool
     ensures { result ≡ is_some round.now.entered_at }
 {
     round.elapsed_since_entry(0).is_some()
 }
 
-/// Whether a round has a timeout, where a vote to nullify that waits for the moment of its repeat counts too.
+/// Returns whether a round has a timeout; a vote to nullify that waits for the moment of its repeat counts too.
 fn can_time_out<S: CertificateScheme, D: Digest>(round: &Round<S, D>, allow_latched: bool) -> bool
     ensures { result ≡ (awaits_retry round.now || is_some (round_timeout round.now allow_latched)) }
 {
@@ -84,7 +85,7 @@ fn can_time_out<S: CertificateScheme, D: Digest>(round: &Round<S, D>, allow_latc
     }
 }
 
-/// A round's timeout, or a stall deadline at or below it, as long as the round's is ahead. A repeat stands always.
+/// A round's timeout, or a stall deadline at or below it while the round's timeout is ahead. A repeat is never replaced.
 fn or_stalled(stall: Option<u64>, now: u64, timeout: (u64, TimeoutReason)) -> (u64, TimeoutReason)
     ensures { result ≡ or_stalled stall now timeout }
 {
@@ -93,7 +94,7 @@ fn or_stalled(stall: Option<u64>, now: u64, timeout: (u64, TimeoutReason)) -> (u
         return timeout;
     }
     match stall {
-        // where both are due the round's own reason tells more
+        // where both are due the round's own reason says more
         Some(deadline) if deadline <= timeout.0 && now < timeout.0 => {
             (deadline, TimeoutReason::StallTimeout)
         }
@@ -107,12 +108,12 @@ impl<S: CertificateScheme, L: Elector<S>, D: Digest> State<S, L, D> {
     ghost use Rattle.simplex_voter.specs.Refusals.{is_started, plain_refusal, is_past_u64};
     ghost use Rattle.simplex_voter.specs.Timeouts.{after_trigger_timeout, is_contradicted, trigger_answer, with_timeout, has_skip_budget, stall_deadline, after_next_timeout, has_timeout, next_timeout_answer, next_timeout_refusal, round_with_retry};
 
-    /// Times a view out at its next poll, for a reason and at a moment in milliseconds: the first such timeout of a view
-    /// stays, and none comes once either vote was decided. A view that is passed or isn't tracked stays as it is, and so
-    /// does one that times out for `Inactivity` while a proposal without conflict is held. The moment is noted always.
-    /// Answers whether this timeout is the one that counts from now on.
+    /// Times a view out at its next poll, for a reason and at a moment in milliseconds. The first such timeout of a view
+    /// stays, and none is set once either vote was decided. A view that is passed or isn't tracked stays as it is; so does
+    /// one that times out for `Inactivity` while a proposal without conflict is held. The moment is recorded always.
+    /// Returns whether this timeout is the one that counts from now on.
     ///
-    /// The state has a floor.
+    /// The state must have a floor.
     pub fn trigger_timeout(
         &mut self,
         view: View,
@@ -132,25 +133,26 @@ impl<S: CertificateScheme, L: Elector<S>, D: Digest> State<S, L, D> {
         Ok(self.trigger(view, reason, now))
     }
 
-    /// The view times out at its next poll, unless it is passed, or not tracked, or the reason is contradicted. Answers
+    /// Times the view out at its next poll, unless it is passed, not tracked, or the reason is contradicted. Returns
     /// whether this timeout was latched.
     pub(super) fn trigger(&mut self, view: View, reason: TimeoutReason, now: u64) -> bool
         ensures answer { result ≡ trigger_answer self.old view reason }
         ensures triggered { self.new ≡ with_timeout self.old view reason now }
     {
-        // the current view alone is polled, so nobody would read it. One ahead is kept: its proposal is held and was given out
-        // already, so once it is current no other timeout would come before that of the certification
+        // only the current view is polled, so nobody would read it. One ahead is stored: its proposal is held and was
+        // already returned for verification, so once it is current no other timeout would come before that of the
+        // certification
         if view < self.current {
             return false;
         }
-        // that a leader is silent is a guess, and a proposal of his proves it wrong; other reasons stand
+        // a leader's silence is a guess, and a proposal of that leader proves it wrong; other reasons remain
         if self.is_contradicted(view, reason) {
             return false;
         }
         self.latch(view, reason, now)
     }
 
-    /// Whether the leader is known to be active, where the reason is that it isn't.
+    /// Returns whether the reason is an inactive leader, and the leader is known to be active.
     fn is_contradicted(&self, view: View, reason: TimeoutReason) -> bool
         ensures { result ≡ is_contradicted reason (round_of self.now view) }
     {
@@ -170,7 +172,7 @@ impl<S: CertificateScheme, L: Elector<S>, D: Digest> State<S, L, D> {
         self.rounds.latch(view, now, reason)
     }
 
-    /// Whether few enough terms lie between the first one that isn't finalized and the current one.
+    /// Returns whether few enough terms lie between the first one that isn't finalized and the current one.
     pub(super) fn has_skip_budget(&self) -> bool
         ensures { result ≡ has_skip_budget self.now }
     {
@@ -180,8 +182,8 @@ impl<S: CertificateScheme, L: Elector<S>, D: Digest> State<S, L, D> {
         current.saturating_sub(first) < self.skip_budget
     }
 
-    /// The stall deadline of the least entered view of the current term above the last finalized one.
-    /// A view that was jumped over was never entered and has none.
+    /// The stall deadline of the lowest entered view of the current term above the last finalized one. A view that was
+    /// skipped was never entered and has none.
     pub(super) fn stall_deadline(&self) -> Option<u64>
         ensures { result ≡ stall_deadline self.now }
     {
@@ -190,7 +192,7 @@ impl<S: CertificateScheme, L: Elector<S>, D: Digest> State<S, L, D> {
         first_deadline(entries, self.finalized, self.current)
     }
 
-    /// Whether the current view has a timeout. Once a floor is set, it lacks one only where it is finalized, or this
+    /// Returns whether the current view has a timeout. Once a floor is set, it has none only if it is finalized, or this
     /// member voted to finalize it, or its held proposal is certified and no latched timeout counts.
     pub fn has_timeout(&self) -> bool
         ensures { result ≡ has_timeout self.now }
@@ -201,18 +203,19 @@ impl<S: CertificateScheme, L: Elector<S>, D: Digest> State<S, L, D> {
         }
     }
 
-    /// The moment of the current view's next timeout, in milliseconds, and its reason.
+    /// Returns the moment of the current view's next timeout, in milliseconds, and its reason.
     ///
-    /// It is the round's own: a latched timeout while few enough terms were skipped, else that for want of a proposal,
-    /// else that for want of the certification; after a vote to nullify only the vote's repeat, whose moment the first
-    /// poll sets. In place of the round's comes the stall deadline of the least entered view of the current term above
-    /// the last finalized one, where that is at or below the round's and the round's is ahead; a repeat stands always.
+    /// It is the round's own: a latched timeout while few enough terms were skipped; else that for a missing proposal; else
+    /// that for a missing certification. After a vote to nullify it is only the vote's repeat, whose moment the first poll
+    /// sets. The stall deadline of the lowest entered view of the current term above the last finalized one replaces the
+    /// round's, if it is at or below the round's and the round's is ahead; it never replaces a repeat.
     ///
-    /// The state has a floor and `has_timeout`. `TimeOverflow` where the moment of a repeat passes 2^64 - 1.
+    /// The state must have a floor and `has_timeout`. Returns `TimeOverflow` if the moment of a repeat passes 2^64 - 1.
     pub fn next_timeout(&mut self, now: u64) -> Result<(u64, TimeoutReason), Fault>
         requires started { (self.old.failed || is_started self.old) ≡ true }
         requires timeout { (self.old.failed || has_timeout self.old) ≡ true }
-        ensures refused { IfSome (next_timeout_refusal self.old now) (λ fault. (result ≡ Err fault) × (self.new ≡ self.old)) }
+        ensures refused { IfSome (next_timeout_refusal self.old now)
+            (λ fault. (result ≡ Err fault) × (self.new ≡ self.old)) }
         ensures answer { IfOk result (λ timeout. next_timeout_answer self.old now ≡ Some timeout) }
         ensures after { OnOk result (self.new ≡ after_next_timeout self.old now) }
         ensures taken { next_timeout_refusal self.old now ≡ None → IsOk result }
@@ -230,10 +233,13 @@ impl<S: CertificateScheme, L: Elector<S>, D: Digest> State<S, L, D> {
 
     /// The next timeout of the current view's round, if it has one.
     fn poll(&mut self, now: u64) -> Result<Option<(u64, TimeoutReason)>, Fault>
-        ensures late { is_err result ≡ (awaits_retry (round_of self.old self.old.current) && is_past_u64 (now + self.old.settings.timeout_retry)) }
+        ensures late { is_err result ≡
+            (awaits_retry (round_of self.old self.old.current) && is_past_u64 (now + self.old.settings.timeout_retry)) }
         ensures refused { IfErr result (λ fault. (fault ≡ TimeOverflow) × (self.new ≡ self.old)) }
-        ensures polled { OnOk result (self.new ≡ with_tracked self.old self.old.current (round_with_retry self.old now)) }
-        ensures answer { IfOk result (λ timeout. timeout ≡ round_timeout (round_with_retry self.old now) (has_skip_budget self.old)) }
+        ensures polled { OnOk result
+            (self.new ≡ with_tracked self.old self.old.current (round_with_retry self.old now)) }
+        ensures answer { IfOk result
+            (λ timeout. timeout ≡ round_timeout (round_with_retry self.old now) (has_skip_budget self.old)) }
     {
         let allow_latched = self.has_skip_budget();
         self.rounds

@@ -1,5 +1,5 @@
-//! The proposals of other leaders: how each stands, which one is verified next or what is lacking, and what came of those that
-//! were given out.
+//! The proposals of other leaders: how each stands, which one to verify next or which certificate is missing, and the
+//! results of verifications.
 
 ghost use Rattle.std.specs.Prelude.{◌≡◌, ◌||◌, ◌≤◌, ◌+◌, ◌<◌, ◌^◌, IfSome, IfOk, OnOk, Err, None, true, is_some, option_map, slice_get, if◌then◌else◌, ◌-◌, ◌&&◌, min, nat_lt};
 ghost use Rattle.simplex_voter.specs.Verification.{fetch_once, with_request, verifying_round};
@@ -12,22 +12,22 @@ use simplex_types::reasons::{Kind, TimeoutReason};
 use simplex_types::types::{CertificateScheme, Context, Digest, Elector, Fault, Proposal, View};
 use std::alloc::AllocError;
 
-/// What comes next in verifying the proposals of other leaders.
+/// The next step in verifying the proposals of other leaders.
 #[derive(PartialEq, Eq)]
 pub enum Verify<D, P: Copy> {
     /// The proposal is to be verified, in this context.
     Ready(Context<D, P>, Proposal<D>),
-    /// A proposal can't be verified before a certificate is there.
+    /// A proposal can't be verified before a certificate arrives.
     Resolve {
         /// The proposal's view.
         proposal: View,
-        /// The view whose certificate is lacking, and which kind of certificate.
+        /// The view whose certificate is missing, and which kind of certificate.
         view: View,
         kind: Kind,
         /// The proposal's leader, who can be asked for it.
         target: P,
     },
-    /// No proposal can be verified now, and nothing is to be asked for.
+    /// No proposal can be verified now, and nothing is to be fetched.
     Wait,
 }
 
@@ -45,13 +45,13 @@ impl<D: Copy, P: Copy> Clone for Verify<D, P> {
     }
 }
 
-/// How the proposal of a view stands.
+/// The state of a view's proposal.
 pub enum Standing<D> {
     /// Nothing is to be done now.
     NothingToDo,
     /// Its parent is invalid for good.
     Invalid,
-    /// A certificate of this view and kind is to be asked for first.
+    /// A certificate of this view and kind must be fetched first.
     Lacks(View, Kind),
     /// It can be verified, on a parent with this payload.
     Ready(D),
@@ -71,7 +71,7 @@ impl<D: Copy> Clone for Standing<D> {
     }
 }
 
-/// A certificate of a view is to be asked for, unless its view was the last one asked for.
+/// Fetch a certificate of a view, unless its view was the last one asked for.
 fn fetch_once<S: CertificateScheme, D: Digest>(
     round: &Round<S, D>,
     view: View,
@@ -86,7 +86,8 @@ fn fetch_once<S: CertificateScheme, D: Digest>(
     }
 }
 
-/// Where a search for work goes on: from a view past the near ones at once with the last one.
+/// The next view to scan: past the near views and before the last one nothing is admitted, so the scan skips to the last
+/// one.
 fn next_scanned(next: View, near: View, last: View) -> View
     ensures { result ≡ (if nat_lt near next && nat_lt next last then last else next) }
 {
@@ -106,9 +107,9 @@ impl<S: CertificateScheme, L: Elector<S>, D: Digest> State<S, L, D> {
     ghost use Rattle.simplex_voter.specs.Refusals.{plain_refusal, is_started};
     ghost use Rattle.simplex_voter.specs.ProposalRequests.{views_within};
 
-    /// How the proposal of a view stands: another leads the view, this member may work there, and it was not given out to
-    /// be verified yet.
-    #[tactic(auto, unfolding(crate::specs::Verifying::standing))]
+    /// The standing of a view's proposal: there is something to do if another member leads the view, this member may work
+    /// there, and the proposal was not returned for verification before.
+    #[tactic(auto, unfolding(crate::specs::Verification::standing))]
     pub(super) fn standing(&self, view: View, round: &Round<S, D>) -> Standing<D>
         ensures { result ≡ standing D.eq L.elect self.now (view, round.now) }
     {
@@ -121,8 +122,8 @@ impl<S: CertificateScheme, L: Elector<S>, D: Digest> State<S, L, D> {
         }
     }
 
-    /// How a proposal stands by its parent: the first gap is to be closed first.
-    /// Its place below is tested before the request is claimed: what is wrong there is so for good, and what is lacking comes.
+    /// The standing of a proposal by its parent: the first gap must be closed first. Its place below is tested before the
+    /// request is claimed: a wrong place is wrong for good, and a missing certificate will come.
     fn parent_standing(&self, view: View, round: &Round<S, D>, parent: View) -> Standing<D>
         ensures { result ≡ parent_standing D.eq L.elect self.now view round.now parent }
     {
@@ -135,7 +136,8 @@ impl<S: CertificateScheme, L: Elector<S>, D: Digest> State<S, L, D> {
         }
     }
 
-    /// Above no gap the parent's payload is ready, or inside the window still forming, or its notarization is lacking.
+    /// With no gap above it, the parent's payload is ready; or still forming, inside the window; or its notarization is
+    /// missing.
     fn payload_standing(&self, view: View, round: &Round<S, D>, parent: View) -> Standing<D>
         ensures { result ≡ payload_standing D.eq L.elect self.now view round.now parent }
     {
@@ -149,15 +151,15 @@ impl<S: CertificateScheme, L: Elector<S>, D: Digest> State<S, L, D> {
         fetch_once(round, parent, Kind::Notarization)
     }
 
-    /// What comes next in verifying the proposals of other leaders.
+    /// Returns the next step in verifying the proposals of other leaders.
     ///
-    /// It goes over the tracked views from the current one to the next term's start, up to the first with an answer. A
-    /// proposal whose parent is invalid for good times its view out, at the last moment that a call carried. Where
-    /// nullifications leave a gap above the parent, that of the first uncovered view is asked for; outside its window a
-    /// parent that isn't certified is asked for; each unless it was the last one asked for that view. Else the proposal is
-    /// given out, once, and bound to its parent's payload.
+    /// It visits the tracked views from the current one to the next term's start, up to the first with a step. A proposal
+    /// whose parent is invalid for good times its view out, at the last moment that a call carried. If nullifications leave
+    /// a gap above the parent, the nullification of the first uncovered view is fetched; outside its window an uncertified
+    /// parent is fetched; each unless it was the last one asked for in that view. Else the proposal is returned, once, and
+    /// bound to its parent's payload.
     ///
-    /// The state has a floor.
+    /// The state must have a floor.
     pub fn try_verify(&mut self) -> Result<Verify<D, S::PublicKey>, Fault>
         requires { (self.old.failed || is_started self.old) ≡ true }
         ensures refused { IfSome (plain_refusal self.old) (λ fault. (result ≡ Err fault) × (self.new ≡ self.old)) }
@@ -171,7 +173,7 @@ impl<S: CertificateScheme, L: Elector<S>, D: Digest> State<S, L, D> {
         Ok(self.scan())
     }
 
-    /// Goes over the tracked views ahead, up to the first that has an answer.
+    /// Visits the tracked views ahead, up to the first that has a step.
     fn scan(&mut self) -> Verify<D, S::PublicKey>
         requires { 1 ≤ self.old.current }
         ensures answer { result ≡ verify_answer D.eq L.elect self.old }
@@ -179,7 +181,7 @@ impl<S: CertificateScheme, L: Elector<S>, D: Digest> State<S, L, D> {
     {
         let near = self.last_near();
         let last = self.last_ahead();
-        // brings that the rounds stand in order
+        // proof only: exposes that the rounds are sorted by view
         let _ahead = self.views_within(self.current, last);
         let mut from = self.current;
         while let Some(view) = self.first_within(from, last) {
@@ -191,7 +193,7 @@ impl<S: CertificateScheme, L: Elector<S>, D: Digest> State<S, L, D> {
         Verify::Wait
     }
 
-    /// The last view that stands so near to the current one that this member may work there inside the term.
+    /// The last view so near to the current one that this member may work there inside the term.
     pub(super) fn last_near(&self) -> View
         ensures { result ≡ min (self.now.current + self.now.terms.optimistic_views) (2 ^ 64 - 1) }
     {
@@ -211,11 +213,12 @@ impl<S: CertificateScheme, L: Elector<S>, D: Digest> State<S, L, D> {
         }
     }
 
-    /// A tracked view is left by how its proposal stands, and its answer is given, if it has one.
+    /// Handles a tracked view by the standing of its proposal, and returns its step, if it has one.
     fn visit(&mut self, view: View) -> Option<Verify<D, S::PublicKey>>
         requires { is_tracked self.old view ≡ true }
         ensures answer { result ≡ answer_in D.eq L.elect self.old (view, round_of self.old view) }
-        ensures left { self.new ≡ left_at self.old (view, round_of self.old view) (standing D.eq L.elect self.old (view, round_of self.old view)) }
+        ensures left { self.new ≡ left_at self.old (view, round_of self.old view)
+            (standing D.eq L.elect self.old (view, round_of self.old view)) }
     {
         let round = self.round_at(view)?;
         let (leader, proposal) = round.pending_verification()?;
@@ -252,7 +255,7 @@ impl<S: CertificateScheme, L: Elector<S>, D: Digest> State<S, L, D> {
         self.rounds.note_request(view, wanted);
     }
 
-    /// Gives the proposal of a view out to be verified, bound to its parent's payload.
+    /// Marks the proposal of a view as returned for verification, bound to its parent's payload.
     fn give_out(&mut self, view: View, payload: D)
         requires { is_some (pending_proposal (round_of self.old view)) ≡ true }
         ensures { self.new ≡ with_tracked self.old view (verifying_round (round_of self.old view) payload) }
@@ -260,11 +263,11 @@ impl<S: CertificateScheme, L: Elector<S>, D: Digest> State<S, L, D> {
         self.rounds.give_out(view, payload);
     }
 
-    /// The application verified the proposal that was given out for a view: the held one is marked, unless nullify was
-    /// decided there, and the answer says whether it was; it is not where it was marked before or another proposal was
-    /// seen. Where the view's binding no longer holds, it is taken away and nothing is marked.
+    /// Records that the application verified the proposal returned for a view. Marks the held proposal, unless nullify was
+    /// decided there, and returns whether it did; it did not if the proposal was marked before or another proposal was
+    /// seen. If the view's binding no longer holds, it is removed and nothing is marked.
     ///
-    /// The state has a floor.
+    /// The state must have a floor.
     pub fn verified(&mut self, view: View) -> Result<bool, Fault>
         requires { (self.old.failed || is_started self.old) ≡ true }
         ensures refused { IfSome (plain_refusal self.old) (λ fault. (result ≡ Err fault) × (self.new ≡ self.old)) }
@@ -275,8 +278,8 @@ impl<S: CertificateScheme, L: Elector<S>, D: Digest> State<S, L, D> {
         if self.is_failed() {
             return Err(Fault::Failed);
         }
-        // the answer is about a proposal, or on a parent, that was replaced since, and says nothing about what is held now. The
-        // replaced one can't be verified on another parent: it commits to its own
+        // the answer is about a proposal, or on a parent, that was replaced since, and says nothing about what is held now.
+        // The replaced one can't be verified on another parent: it commits to its own
         if !self.verification_matches(view) {
             self.clear_verifying(view);
             return Ok(false);
@@ -284,11 +287,11 @@ impl<S: CertificateScheme, L: Elector<S>, D: Digest> State<S, L, D> {
         Ok(self.rounds.mark(view))
     }
 
-    /// The application refused the proposal that was given out for a view, or could not verify it: the view times out at
-    /// its next poll, for this reason and at this moment in milliseconds, as `trigger_timeout` has it. Where the view's
-    /// binding no longer holds, it is taken away instead. The moment is noted always.
+    /// Records that the application refused the proposal returned for a view, or could not verify it. The view times out at
+    /// its next poll, for this reason and at this moment in milliseconds, as in `trigger_timeout`. If the view's binding no
+    /// longer holds, it is removed instead. The moment is recorded always.
     ///
-    /// The state has a floor.
+    /// The state must have a floor.
     pub fn verification_failed(
         &mut self,
         view: View,
@@ -303,7 +306,7 @@ impl<S: CertificateScheme, L: Elector<S>, D: Digest> State<S, L, D> {
         if self.is_failed() {
             return Err(Fault::Failed);
         }
-        // a refusal of what was replaced must not give up the view: the certificate that replaced it goes its own way
+        // a refusal of what was replaced must not abandon the view: the certificate that replaced it is handled by itself
         let holds = self.verification_matches(view);
         self.note_moment(now);
         if holds {

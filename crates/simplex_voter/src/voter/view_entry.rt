@@ -36,7 +36,7 @@ impl<S: CertificateScheme, L: Elector<S>, D: Digest> State<S, L, D> {
         Ok(())
     }
 
-    /// Enters a view that is above the current one, and has the elector's choice, after this certificate, lead it.
+    /// Enters a view that is above the current one, led by the elector's choice after this certificate.
     pub(super) fn enter_led(
         &mut self,
         view: View,
@@ -47,7 +47,8 @@ impl<S: CertificateScheme, L: Elector<S>, D: Digest> State<S, L, D> {
         requires in_range { view ≤ largest_current }
         requires deadlines { nat_lt self.old.current view ≡ true → deadlines.now ≡ deadlines_at self.old now }
         ensures entered { OnOk result (self.new
-            ≡ with_elected_leader L.elect (with_view_entered self.old view now) view (Some (S.certificate_bytes certificate.now))) }
+            ≡ with_elected_leader L.elect (with_view_entered self.old view now) view
+            (Some (S.certificate_bytes certificate.now))) }
         ensures refused { IfErr result (λ fault. fault ≡ OutOfMemory) }
         ensures setup { HasSameSetup self.old self.new }
     {
@@ -55,8 +56,8 @@ impl<S: CertificateScheme, L: Elector<S>, D: Digest> State<S, L, D> {
         self.elect(view, Some(certificate))
     }
 
-    /// The last finalized view is this one, where that is above the one before; the next one is entered, where that is
-    /// ahead, and led by the elector's choice after this certificate.
+    /// Makes this view the last finalized one if it is above the one before, and enters the next view if that is ahead, led
+    /// by the elector's choice after this certificate.
     pub(super) fn pass(
         &mut self,
         view: View,
@@ -67,7 +68,8 @@ impl<S: CertificateScheme, L: Elector<S>, D: Digest> State<S, L, D> {
         requires in_range { view < 2 ^ 63 }
         requires deadlines { nat_lt self.old.current (view + 1) ≡ true → deadlines.now ≡ deadlines_at self.old now }
         ensures passed { OnOk result (self.new
-            ≡ with_elected_leader L.elect (with_view_entered (with_finalized_view (at_moment self.old now) view) (view + 1) now) (view + 1)
+            ≡ with_elected_leader L.elect
+            (with_view_entered (with_finalized_view (at_moment self.old now) view) (view + 1) now) (view + 1)
             (Some (S.certificate_bytes certificate.now))) }
         ensures refused { IfErr result (λ fault. fault ≡ OutOfMemory) }
         ensures setup { HasSameSetup self.old self.new }

@@ -25,10 +25,10 @@ impl<S: CertificateScheme, L: Elector<S>, D: Digest> State<S, L, D> {
     ghost use Rattle.std.specs.BTreeSet.{insert_key};
     ghost use Rattle.simplex_round.specs.Round.{is_nullify, after_nullify, can_finalize};
 
-    /// Votes to nullify the current view, unless it was voted to finalize it: the decision is set, also without a key,
-    /// and the vote is answered, with whether it is a repeat, where the scheme has a key. Else nothing changes.
+    /// Votes to nullify the current view, unless this member voted to finalize it. The decision is set, also without a key.
+    /// Returns the vote, and whether it is a repeat, if the scheme has a key. Otherwise nothing changes.
     ///
-    /// The reason has no effect. The state has a floor.
+    /// The reason has no effect. The state must have a floor.
     pub fn construct_nullify(
         &mut self,
         view: View,
@@ -41,7 +41,8 @@ impl<S: CertificateScheme, L: Elector<S>, D: Digest> State<S, L, D> {
         ensures vote { IfOk result (λ vote. option_map (λ v. v.0) vote ≡ nullify_answer self.old view) }
         ensures signed { IfOk result (λ vote. IfSome vote (λ v. IsSignedNullify S.IsSignature self.old view v.1)) }
         ensures after { OnOk result (self.new ≡ after_construct_nullify self.old view) }
-        ensures out_of_memory { plain_refusal self.old ≡ None → IfErr result (λ fault. (fault ≡ OutOfMemory) × HasFailed self.old self.new) }
+        ensures out_of_memory { plain_refusal self.old ≡ None
+            → IfErr result (λ fault. (fault ≡ OutOfMemory) × HasFailed self.old self.new) }
     {
         if self.is_failed() {
             return Err(Fault::Failed);
@@ -59,13 +60,14 @@ impl<S: CertificateScheme, L: Elector<S>, D: Digest> State<S, L, D> {
         }
     }
 
-    /// Decides the vote to nullify a view, and signs it where there is a key.
+    /// Decides the vote to nullify a view, and signs it if there is a key.
     fn cast_nullify(&mut self, view: View) -> Result<Option<Nullify<S>>, Fault>
     where
         S: Scheme<D>,
         requires first { 1 ≤ view }
         requires in_range { view ≤ largest_tracked }
-        ensures cast { OnOk result (self.new ≡ nullify_cast (with_round self.old view (after_nullify (round_of self.old view))) view) }
+        ensures cast { OnOk result
+            (self.new ≡ nullify_cast (with_round self.old view (after_nullify (round_of self.old view))) view) }
         ensures keyed { IfOk result (λ vote. is_some vote ≡ is_some self.old.me) }
         ensures signed { IfOk result (λ vote. IfSome vote (IsSignedNullify S.IsSignature self.old view)) }
         ensures refused { IfErr result (λ fault. fault ≡ OutOfMemory) }
@@ -84,7 +86,7 @@ impl<S: CertificateScheme, L: Elector<S>, D: Digest> State<S, L, D> {
         }))
     }
 
-    /// Signs a vote as this member, where there is a key.
+    /// Signs a vote as this member, if there is a key.
     pub(super) fn sign(
         &self,
         subject: &Subject<D>,
@@ -93,7 +95,8 @@ impl<S: CertificateScheme, L: Elector<S>, D: Digest> State<S, L, D> {
         S: Scheme<D>,
         ensures keyed { IfOk result (λ signed. is_some signed ≡ is_some self.now.me) }
         ensures signer { IfOk result (λ signed. IfSome signed (λ s. self.now.me ≡ Some s.0)) }
-        ensures signed { IfOk result (λ signed. IfSome signed (λ s. IsSignedAs S.IsSignature self.now.me self.now.members subject.now s.1)) }
+        ensures signed { IfOk result
+            (λ signed. IfSome signed (λ s. IsSignedAs S.IsSignature self.now.me self.now.members subject.now s.1)) }
         ensures refused { IfErr result (λ fault. fault ≡ OutOfMemory) }
     {
         let scheme = self.rounds.scheme();
@@ -106,21 +109,23 @@ impl<S: CertificateScheme, L: Elector<S>, D: Digest> State<S, L, D> {
         Ok(Some((signer, signature)))
     }
 
-    /// This member's vote to nullify a view is out.
+    /// Records that this member voted to nullify a view.
     pub(super) fn note_nullify_vote(&mut self, view: View) -> Result<(), Fault>
         requires { 1 ≤ view }
-        ensures noted { OnOk result (self.new ≡ record self.old { nullify_votes = insert_key nat_cmp self.old.nullify_votes view }) }
+        ensures noted { OnOk result
+            (self.new ≡ record self.old { nullify_votes = insert_key nat_cmp self.old.nullify_votes view }) }
         ensures refused { IfErr result (λ fault. fault ≡ OutOfMemory) }
         ensures setup { HasSameSetup self.old self.new }
     {
         insert_view(&mut self.nullify_votes, view)
     }
 
-    /// Whether the current view may be voted to nullify, and whether that was decided before. The vote covers the rest of the
-    /// term, so it is of no view below, which may be finalized.
+    /// Returns whether the vote to nullify the current view was decided before; `None` if it may not be cast. The vote
+    /// covers the rest of the term, so it is never for a view below, which may be finalized.
     #[tactic(auto, unfolding(crate::specs::Rules::may_nullify))]
     fn nullify_retry(&self, view: View) -> Option<bool>
-        ensures retry { result ≡ (if may_nullify self.now view then Some (is_nullify (round_of self.now view).decision) else None) }
+        ensures retry { result ≡
+            (if may_nullify self.now view then Some (is_nullify (round_of self.now view).decision) else None) }
         ensures current { OnSome result ((view ≡ self.now.current) × (view ≤ largest_tracked)) }
     {
         if view != self.current {
@@ -136,10 +141,10 @@ impl<S: CertificateScheme, L: Elector<S>, D: Digest> State<S, L, D> {
         }
     }
 
-    /// Votes to finalize a view where the rule allows it: the decision is set, also without a key, and the vote is
-    /// answered where the scheme has a key. Else nothing changes, so the vote is cast once.
+    /// Votes to finalize a view if the rule allows it. The decision is set, also without a key. Returns the vote if the
+    /// scheme has a key. Otherwise nothing changes, so the vote is cast once.
     ///
-    /// The state has a floor.
+    /// The state must have a floor.
     pub fn construct_finalize(&mut self, view: View) -> Result<Option<Finalize<S, D>>, Fault>
     where
         S: Scheme<D>,
@@ -148,7 +153,8 @@ impl<S: CertificateScheme, L: Elector<S>, D: Digest> State<S, L, D> {
         ensures vote { IfOk result (λ vote. option_map (λ v. v.proposal) vote ≡ finalize_answer L.elect self.old view) }
         ensures signed { IfOk result (λ vote. IfSome vote (IsSignedFinalize S.IsSignature self.old)) }
         ensures after { OnOk result (self.new ≡ after_construct_finalize L.elect self.old view) }
-        ensures out_of_memory { plain_refusal self.old ≡ None → IfErr result (λ fault. (fault ≡ OutOfMemory) × HasFailed self.old self.new) }
+        ensures out_of_memory { plain_refusal self.old ≡ None
+            → IfErr result (λ fault. (fault ≡ OutOfMemory) × HasFailed self.old self.new) }
     {
         if self.is_failed() {
             return Err(Fault::Failed);
@@ -165,7 +171,7 @@ impl<S: CertificateScheme, L: Elector<S>, D: Digest> State<S, L, D> {
         }
     }
 
-    /// Decides the vote to finalize a view, and signs it where there is a key.
+    /// Decides the vote to finalize a view, and signs it if there is a key.
     fn cast_finalize(&mut self, view: View) -> Result<Option<Finalize<S, D>>, Fault>
     where
         S: Scheme<D>,

@@ -46,7 +46,7 @@ pub enum Withheld {
     NotCertified,
 }
 
-/// Why what is known of a view alone withholds the vote to notarize it.
+/// Returns why what is known of a view alone withholds the vote to notarize it.
 fn notarize_round_withheld<S: CertificateScheme, D: Digest>(round: &Round<S, D>) -> Option<Withheld>
     ensures { result ≡ notarize_round_withheld round.now }
 {
@@ -68,7 +68,7 @@ fn notarize_round_withheld<S: CertificateScheme, D: Digest>(round: &Round<S, D>)
     None
 }
 
-/// Why what is known of a view alone withholds the vote to finalize it.
+/// Returns why what is known of a view alone withholds the vote to finalize it.
 fn finalize_round_withheld<S: CertificateScheme, D: Digest>(round: &Round<S, D>) -> Option<Withheld>
     ensures { result ≡ finalize_round_withheld round.now }
 {
@@ -97,9 +97,9 @@ impl<S: CertificateScheme, L: Elector<S>, D: Digest> State<S, L, D> {
     ghost use Rattle.simplex_voter.specs.Votes.{notarize_answer, nullify_answer, finalize_answer};
     ghost use Rattle.simplex_voter.specs.Withheld.{notarize_withheld, nullify_withheld, finalize_withheld};
 
-    /// Why `construct_notarize` would return no vote for the view; `None` exactly where it would return one.
+    /// Returns why `construct_notarize` would return no vote for the view; `None` exactly if it would return one.
     ///
-    /// Returns the first part of the rule that is false. A failed state returns no vote whatever this says.
+    /// That is the first part of the rule that is false. A failed state returns no vote whatever this says.
     #[tactic(auto, unfolding(crate::specs::Rules::may_notarize))]
     pub fn notarize_withheld(&self, view: View) -> Option<Withheld>
         ensures first { result ≡ notarize_withheld D.eq L.elect self.now view }
@@ -128,7 +128,8 @@ impl<S: CertificateScheme, L: Elector<S>, D: Digest> State<S, L, D> {
         None
     }
 
-    /// Why `construct_nullify` would return no vote for the view; as `notarize_withheld`. A repeated vote is not withheld.
+    /// Returns why `construct_nullify` would return no vote for the view; as `notarize_withheld`. A repeated vote is not
+    /// withheld.
     #[tactic(auto, unfolding(crate::specs::Rules::may_nullify))]
     pub fn nullify_withheld(&self, view: View) -> Option<Withheld>
         ensures first { result ≡ nullify_withheld self.now view }
@@ -147,7 +148,7 @@ impl<S: CertificateScheme, L: Elector<S>, D: Digest> State<S, L, D> {
         }
     }
 
-    /// Why `construct_finalize` would return no vote for the view; as `notarize_withheld`.
+    /// Returns why `construct_finalize` would return no vote for the view; as `notarize_withheld`.
     #[tactic(auto, unfolding(crate::specs::Rules::may_finalize))]
     pub fn finalize_withheld(&self, view: View) -> Option<Withheld>
         ensures first { result ≡ finalize_withheld L.elect self.now view }
@@ -178,7 +179,7 @@ impl<S: CertificateScheme, L: Elector<S>, D: Digest> State<S, L, D> {
         finalize_round_withheld(round)
     }
 
-    /// Whether the scheme signs as a member.
+    /// Returns whether the scheme signs as a member.
     fn has_key(&self) -> bool
         ensures { result ≡ is_some self.now.me }
     {

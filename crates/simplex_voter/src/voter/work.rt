@@ -1,4 +1,4 @@
-//! Changes of the round of a view that the work on its proposal makes. None takes memory.
+//! Changes of a view's round by the work on its proposal. None takes memory.
 
 ghost use Rattle.std.specs.Prelude.{◌≡◌, ◌&&◌, not, true, false, is_some, if◌then◌else◌};
 ghost use Rattle.std.specs.Option.{option_map_or};
@@ -10,7 +10,7 @@ ghost use Rattle.simplex_round.specs.Round.{is_nullify, should_propose, pending_
 use super::rounds::Rounds;
 use simplex_types::types::{CertificateScheme, Context, Digest, Proposal, View};
 
-/// What was built for a context.
+/// The proposal built for a context.
 fn proposal_of<D: Digest, P: Copy>(context: &Context<D, P>, payload: D) -> Proposal<D>
     ensures { result ≡ proposal_of context.now payload }
 {
@@ -29,7 +29,8 @@ impl<S: CertificateScheme, D: Digest> Rounds<S, D> {
     /// Sets the request to build a proposal in a view that is ready for it.
     pub(super) fn ask_to_build(&mut self, view: View)
         requires { should_propose (round_in self.old view) ≡ true }
-        ensures asked { self.new ≡ with_change_in_place self.old view (λ r. record r { slot = build_requested true r.slot }) }
+        ensures asked { self.new ≡ with_change_in_place self.old view
+            (λ r. record r { slot = build_requested true r.slot }) }
         ensures origin { HasSameOrigin self.old self.new }
     {
         let Some(round) = self.by_view.get_mut(view) else {
@@ -38,7 +39,7 @@ impl<S: CertificateScheme, D: Digest> Rounds<S, D> {
         round.try_propose();
     }
 
-    /// Notes that the verification of a view's proposal asks for a certificate of another view.
+    /// Records that the verification of a view's proposal asks for a certificate of another view.
     pub(super) fn note_request(&mut self, view: View, wanted: View)
         ensures noted { self.new ≡ with_change_in_place self.old view (λ r. with_request r wanted) }
         ensures origin { HasSameOrigin self.old self.new }
@@ -49,7 +50,7 @@ impl<S: CertificateScheme, D: Digest> Rounds<S, D> {
         round.request(wanted);
     }
 
-    /// Gives the proposal of a view out to be verified, bound to its parent's payload.
+    /// Marks the proposal of a view as returned for verification, bound to its parent's payload.
     pub(super) fn give_out(&mut self, view: View, payload: D)
         requires { is_some (pending_proposal (round_in self.old view)) ≡ true }
         ensures given { self.new ≡ with_change_in_place self.old view (λ r. verifying_round r payload) }
@@ -65,9 +66,10 @@ impl<S: CertificateScheme, D: Digest> Rounds<S, D> {
         round.set_verifying(proposal, payload);
     }
 
-    /// Marks the held proposal of a view as verified, and answers whether it did.
+    /// Marks the held proposal of a view as verified, and returns whether it did.
     pub(super) fn mark(&mut self, view: View) -> bool
-        ensures first { result ≡ option_map_or (λ r. not (is_nullify r.decision) && is_unverified r.slot) (find_round self.old view) false }
+        ensures first { result ≡ option_map_or (λ r. not (is_nullify r.decision) && is_unverified r.slot)
+            (find_round self.old view) false }
         ensures marked { self.new ≡ with_change_in_place self.old view with_mark }
         ensures origin { HasSameOrigin self.old self.new }
     {
@@ -77,7 +79,7 @@ impl<S: CertificateScheme, D: Digest> Rounds<S, D> {
         round.verified()
     }
 
-    /// Takes the binding of a view away.
+    /// Removes the binding of a view.
     pub(super) fn clear_verifying(&mut self, view: View)
         ensures unbound { self.new ≡ with_change_in_place self.old view with_nothing_bound }
         ensures origin { HasSameOrigin self.old self.new }
@@ -88,7 +90,7 @@ impl<S: CertificateScheme, D: Digest> Rounds<S, D> {
         round.clear_verifying();
     }
 
-    /// Records what was built in a tracked view, bound to its parent's payload, where nullify was not decided and no other
+    /// Records what was built in a tracked view, bound to its parent's payload, unless nullify was decided or another
     /// proposal is held.
     pub(super) fn record_proposed(
         &mut self,
@@ -97,7 +99,8 @@ impl<S: CertificateScheme, D: Digest> Rounds<S, D> {
         now: u64,
     ) -> bool
         ensures recorded { result ≡ option_map_or
-            (λ r. not (is_nullify r.decision) && holds_or_empty (same_proposal D.eq) r.slot (proposal_of context.now payload))
+            (λ r. not (is_nullify r.decision)
+            && holds_or_empty (same_proposal D.eq) r.slot (proposal_of context.now payload))
             (find_round self.old context.now.round.view) false }
         ensures after { self.new ≡ (if result
             then with_change self.old context.now.round.view (λ r. proposed_round D.eq r context.now payload now)
@@ -115,7 +118,7 @@ impl<S: CertificateScheme, D: Digest> Rounds<S, D> {
         true
     }
 
-    /// Decides the vote to notarize a view, whose round allows that, and answers what is voted for.
+    /// Decides the vote to notarize a view whose round allows it, and returns the proposal voted for.
     pub(super) fn decide_notarize(&mut self, view: View) -> Option<Proposal<D>>
         requires { can_notarize (round_in self.old view) ≡ true }
         ensures vote { result ≡ (round_in self.old view).slot.held }

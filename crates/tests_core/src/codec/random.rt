@@ -1,4 +1,4 @@
-//! Bytes at random, and encodings that were damaged at random.
+//! Random bytes, and encodings with random damage.
 
 use super::{PlainArtifact, artifacts, is_written};
 use simplex_codec::artifact::{decode_artifact, encode_artifact};
@@ -8,13 +8,13 @@ use simplex_types::types::plain::{PlainDigest, PlainScheme};
 use std::alloc::{AllocError, Global};
 use std::test::Fail;
 
-/// How many inputs are read; `tests/decodings.py` puts another number here.
+/// How many inputs are read; `tests/decodings.py` sets another number here.
 const INPUTS: u32 = 40_000;
 
-/// Where the generator begins; `tests/decodings.py` puts another number here.
+/// The seed of the generator; `tests/decodings.py` sets another number here.
 const SEED: u64 = 7;
 
-/// A small generator of numbers, the same at each run.
+/// A small generator of numbers, the same in each run.
 #[derive(Drop)]
 struct Random {
     state: u64,
@@ -34,7 +34,7 @@ impl Random {
     }
 }
 
-/// What the inputs were read as.
+/// How many inputs were read as what.
 #[derive(Clone, Copy)]
 struct Tally {
     artifacts: u32,
@@ -42,7 +42,7 @@ struct Tally {
     refused: u32,
 }
 
-/// Bytes of the generator: a length below 64, a first byte below 9 and a last one below 3.
+/// Returns bytes of the generator: a length below 64, a first byte below 9 and a last one below 3.
 fn random_bytes(alloc: Global, random: &mut Random) -> Result<Vec<u8>, Fail> {
     let len = random.next() % 64;
     let mut bytes = Vec::new(alloc);
@@ -60,7 +60,7 @@ fn random_bytes(alloc: Global, random: &mut Random) -> Result<Vec<u8>, Fail> {
     Ok(bytes)
 }
 
-/// Changes a byte, cuts off the end, or puts a byte more.
+/// Changes a byte, cuts off the end, or appends a byte.
 fn damage(random: &mut Random, bytes: &mut Vec<u8>) -> Result<(), AllocError> {
     let place = random.next() as usize % (bytes.len().max(1));
     match random.next() % 4 {
@@ -76,7 +76,7 @@ fn damage(random: &mut Random, bytes: &mut Vec<u8>) -> Result<(), AllocError> {
     Ok(())
 }
 
-/// The encoding of one of the artifacts.
+/// Returns the encoding of one of the artifacts.
 fn encoding(alloc: Global, random: &mut Random, whole: &[PlainArtifact]) -> Result<Vec<u8>, Fail> {
     match whole.get(random.next() as usize % 8) {
         Some(artifact) => Ok(Vec::from_slice(alloc, encode_artifact(alloc, artifact)?.as_slice())?),
@@ -84,7 +84,7 @@ fn encoding(alloc: Global, random: &mut Random, whole: &[PlainArtifact]) -> Resu
     }
 }
 
-/// That bytes are read, if what was read of them is written as them again.
+/// Returns true for bytes that are read, if the result is encoded as them again.
 fn is_read(is_written_again: bool) -> Result<bool, Fail> {
     if is_written_again {
         Ok(true)
@@ -93,7 +93,7 @@ fn is_read(is_written_again: bool) -> Result<bool, Fail> {
     }
 }
 
-/// That bytes are not read, for a fault in them.
+/// Returns false for bytes that are not read, because of a fault in them.
 fn is_not_read(error: DecodeError) -> Result<bool, Fail> {
     match error {
         DecodeError::OutOfMemory => Err(Fail::from("no memory")),
@@ -101,8 +101,8 @@ fn is_not_read(error: DecodeError) -> Result<bool, Fail> {
     }
 }
 
-/// Whether the bytes are read as an artifact: what is read encodes to them again, and what is not is refused by the name
-/// of a fault in them.
+/// Returns whether the bytes are read as an artifact. What is read encodes to them again, and what is not is refused by the name of a fault
+/// in them.
 fn is_artifact(alloc: Global, bytes: &[u8]) -> Result<bool, Fail> {
     match decode_artifact::<PlainScheme, PlainDigest>(alloc, bytes) {
         Ok(artifact) => is_read(is_written(alloc, &artifact, bytes)?),
@@ -110,7 +110,7 @@ fn is_artifact(alloc: Global, bytes: &[u8]) -> Result<bool, Fail> {
     }
 }
 
-/// The same of a certificate.
+/// Returns the same for a certificate.
 fn is_certificate(alloc: Global, bytes: &[u8]) -> Result<bool, Fail> {
     match decode_certificate::<PlainScheme, PlainDigest>(alloc, bytes) {
         Ok(certificate) => is_read(certificate.encode(alloc)?.as_slice() == bytes),

@@ -18,8 +18,7 @@ use std::test::Fail;
 
 type PlainRound = Round<PlainScheme, PlainDigest>;
 
-/// A call with the answer that is wanted. Proposals are named by their payloads, members by their
-/// indices, and moments are in milliseconds.
+/// A call with the expected answer. Proposals are named by their payloads, members by their indices, and moments are in milliseconds.
 pub enum Step {
     ShouldPropose(bool),
     TryPropose(Option<u32>),
@@ -128,7 +127,7 @@ fn finalization(payload: u64) -> Finalization<PlainScheme, PlainDigest> {
     }
 }
 
-/// Whether the round answers a step about its proposal as wanted.
+/// Returns whether the round answers a step about its proposal as expected.
 fn meets_proposal(round: &mut PlainRound, step: &Step) -> bool {
     match *step {
         Step::ShouldPropose(wanted) => round.should_propose() == wanted,
@@ -177,7 +176,7 @@ fn meets_binding(round: &mut PlainRound, step: &Step) -> bool {
     }
 }
 
-/// Whether the round answers a step about its moments as wanted.
+/// Returns whether the round answers a step about its moments as expected.
 fn meets_moments(round: &mut PlainRound, step: &Step) -> bool {
     match *step {
         Step::Enter(now) => {
@@ -209,7 +208,7 @@ fn meets_moments(round: &mut PlainRound, step: &Step) -> bool {
     }
 }
 
-/// Whether the round answers a step about its certification as wanted.
+/// Returns whether the round answers a step about its certification as expected.
 fn meets_certification(round: &mut PlainRound, step: &Step) -> bool {
     match *step {
         Step::PendingCertification(payload) => {
@@ -248,7 +247,7 @@ fn certify(round: &mut PlainRound, success: bool) -> bool {
     true
 }
 
-/// Whether the round answers a step about this member's votes as wanted.
+/// Returns whether the round answers a step about this member's votes as expected.
 fn meets_votes(round: &mut PlainRound, step: &Step) -> bool {
     match *step {
         Step::DecidedNotarize(wanted) => round.broadcast_notarize() == wanted,
@@ -262,7 +261,7 @@ fn meets_votes(round: &mut PlainRound, step: &Step) -> bool {
     }
 }
 
-/// Whether the round takes a replayed artifact that is no vote.
+/// Returns whether the round takes a replayed artifact that is no vote.
 fn meets_replay(round: &mut PlainRound, step: &Step) -> bool {
     match *step {
         Step::ReplayVerdict(success) => match round.certification() {
@@ -289,7 +288,7 @@ fn meets_replay(round: &mut PlainRound, step: &Step) -> bool {
     }
 }
 
-/// Member 0's signature on a subject.
+/// Returns member 0's signature on a subject.
 fn signature(subject: Subject<PlainDigest>) -> PlainSignature {
     PlainSignature {
         key: PlainKey(0),
@@ -297,7 +296,7 @@ fn signature(subject: Subject<PlainDigest>) -> PlainSignature {
     }
 }
 
-/// Whether the round takes a replayed vote, which is of member 0.
+/// Returns whether the round takes a replayed vote, which is of member 0.
 fn replay_vote(round: &mut PlainRound, step: &Step) -> bool {
     let signer = Participant::new(0);
     if !round.is_signer(signer) {
@@ -332,7 +331,7 @@ fn replay_vote(round: &mut PlainRound, step: &Step) -> bool {
     }
 }
 
-/// Whether the round does and answers what the step wants.
+/// Returns whether the round does and answers what the step expects.
 fn meets(alloc: Global, round: &mut PlainRound, step: &Step) -> Result<bool, Fault> {
     let met = match *step {
         Step::ReplayNotarize(_) | Step::ReplayNullify | Step::ReplayFinalize(_) => {
@@ -368,7 +367,7 @@ fn meets(alloc: Global, round: &mut PlainRound, step: &Step) -> Result<bool, Fau
     Ok(met)
 }
 
-/// The place of the first step that the round does not meet.
+/// Returns the place of the first step that the round does not meet.
 fn first_unmet(
     alloc: Global,
     round: &mut PlainRound,
@@ -382,7 +381,7 @@ fn first_unmet(
     Ok(None)
 }
 
-/// The place of the first step that a round of the row does not meet.
+/// Returns the place of the first step that a round of the row does not meet.
 fn first_unmet_of(alloc: Global, row: &Row) -> Result<Option<usize>, Fail> {
     let mut round = start(alloc, row.me, row.leader)?;
     Ok(first_unmet(alloc, &mut round, row.steps)?)

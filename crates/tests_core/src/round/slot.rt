@@ -4,7 +4,7 @@ use super::{proposal, proposal_of};
 use simplex_round::slot::{Change, Slot, Status};
 use simplex_types::types::plain::PlainDigest;
 
-/// What a proposal is to change; proposals are named by their payloads.
+/// The expected change by a proposal; proposals are named by their payloads.
 #[derive(Clone, Copy)]
 enum Wanted {
     New,
@@ -12,7 +12,7 @@ enum Wanted {
     Equivocated { dropped: u64, retained: u64 },
 }
 
-/// A call with the answer that is wanted, or what the slot is to show.
+/// A call with the expected answer, or the expected state of the slot.
 enum Step {
     SetBuilding,
     ClearRequest,
@@ -49,7 +49,7 @@ fn change_of(wanted: Option<Wanted>) -> Option<Change<PlainDigest>> {
     }
 }
 
-/// Whether the slot does and shows what the step wants.
+/// Returns whether the slot does and has what the step expects.
 fn meets(slot: &mut Slot<PlainDigest>, step: &Step) -> bool {
     match *step {
         Step::SetBuilding => {
@@ -334,7 +334,7 @@ static ROWS: [Row; 16] = [
     },
 ];
 
-/// The place of the first step that the slot does not meet.
+/// Returns the place of the first step that the slot does not meet.
 fn first_unmet(slot: &mut Slot<PlainDigest>, steps: &[Step]) -> Option<usize> {
     for (place, step) in steps.iter().enumerate() {
         if !meets(slot, step) {

@@ -20,7 +20,7 @@ fn encoded(alloc: Global, certificate: &PlainCertified) -> Result<String, Fail> 
     Ok(text)
 }
 
-/// Whether the certificate is encoded so.
+/// Returns whether the certificate is encoded as this text.
 fn is_encoded_as(alloc: Global, certificate: &PlainCertified, text: &str) -> Result<bool, Fail> {
     Ok(encoded(alloc, certificate)?.as_str() == text)
 }
@@ -39,7 +39,7 @@ fn certificates_are_encoded_as_the_vectors_say(rt: HostRuntime) -> Result<(), Fa
     Ok(())
 }
 
-/// Whether a copy of a certificate of view 3 is of that view and encoded alike.
+/// Returns whether a copy of a certificate of view 3 is of that view and encoded the same.
 fn is_copied_alike(alloc: Global, certificate: &PlainCertified) -> Result<bool, Fail> {
     let copy = certificate.clone(alloc)?;
     Ok(copy.view() == View::new(3) && encoded(alloc, &copy)? == encoded(alloc, certificate)?)
@@ -70,7 +70,7 @@ static VIEWS: [u64; 8] = [
     0x0102_0304_0506_0708,
 ];
 
-/// Whether an artifact is of a view, and a copy of it too.
+/// Returns whether an artifact is of a view, and a copy of it too.
 fn is_copied_with_its_view(
     alloc: Global,
     artifact: &PlainArtifact,

@@ -1,4 +1,4 @@
-//! Names of reasons and faults, and the order of asks.
+//! Names of reasons and faults, and the order of requests.
 
 use simplex_types::config::ConfigError;
 use simplex_types::reasons::{

@@ -1,4 +1,4 @@
-//! An engine's settings, each rule by name.
+//! A member's settings, each rule by name.
 
 use super::{PlainFinalization, finalization};
 use simplex_types::config::{Config, ConfigError, Floor, ForwardPolicy, SkipBudget, SkipPolicy};
@@ -19,8 +19,8 @@ fn budgets_are_resolved_by_the_participants(rt: HostRuntime) -> Result<(), Fail>
     Ok(())
 }
 
-/// The timeouts of a leader, a certification and a retry in milliseconds, the views that are kept, and the
-/// timeout after which a silent leader is skipped.
+/// The timeouts of a leader, a certification and a retry in milliseconds, the retained views, and the timeout after which a silent leader
+/// is skipped.
 struct Settings(u64, u64, u64, u64, Option<u64>);
 
 static GOOD: Settings = Settings(1000, 2000, 500, 10, None);
@@ -109,7 +109,7 @@ fn the_first_broken_rule_is_reported(rt: HostRuntime) -> Result<(), Fail> {
     Ok(())
 }
 
-/// Whether a copy of a finalized floor has its view, and is judged so.
+/// Returns whether a copy of a finalized floor has its view, and is judged as expected.
 fn is_judged(
     alloc: Global,
     finalization: PlainFinalization,
@@ -120,7 +120,7 @@ fn is_judged(
     Ok(copy.view() == floor.view() && verdict(alloc, 4, &GOOD, copy)? == expected)
 }
 
-/// Epochs and views of finalizations, and whether their certificates are good, each with the rule that it breaks.
+/// Epochs and views of finalizations, and whether their certificates are valid, each with the rule that it breaks.
 static FLOORS: [(u64, u64, bool, Result<(), ConfigError>); 4] = [
     (2, 0, true, Err(ConfigError::FloorEpoch)),
     (1, 0, true, Err(ConfigError::FloorAtGenesis)),

@@ -1,4 +1,4 @@
-//! Who signs what, and who leads.
+//! Signers and leaders.
 
 use super::{good, proposal, round};
 use simplex_types::types::plain::{
@@ -12,7 +12,7 @@ use std::alloc::Global;
 use std::num::NonZeroU32;
 use std::test::Fail;
 
-/// Whether a scheme is that of member 3 of four, and signs with its key.
+/// Returns whether a scheme is that of member 3 of four, and signs with its key.
 fn signs_as_member_3(alloc: Global, scheme: &PlainScheme) -> Result<bool, Fail> {
     let subject: Subject<PlainDigest> = Subject::Nullify(round(1, 3));
     let signed = scheme.sign(alloc, &subject)?.ok_or("no signature")?;
@@ -42,7 +42,7 @@ fn a_scheme_without_a_key_verifies_and_signs_nothing(rt: HostRuntime) -> Result<
     Ok(())
 }
 
-/// Whether two votes sign the same bytes.
+/// Returns whether two votes sign the same bytes.
 fn sign_alike(
     alloc: Global,
     one: &Subject<PlainDigest>,
@@ -51,13 +51,13 @@ fn sign_alike(
     Ok(one.encode(alloc)? == other.encode(alloc)?)
 }
 
-/// Whether a copy of the signature is as the signature is.
+/// Returns whether a copy of the signature equals the signature.
 fn is_copied(alloc: Global, signature: &PlainSignature) -> Result<bool, Fail> {
     let copy = PlainScheme::copy_signature(alloc, signature)?;
     Ok(copy.key == signature.key && sign_alike(alloc, &copy.subject, &signature.subject)?)
 }
 
-/// Subjects that differ from a vote to finalize proposal 7 of view 3 in one thing each.
+/// Returns subjects that differ from a vote to finalize proposal 7 of view 3 in one thing each.
 fn others() -> [Subject<PlainDigest>; 5] {
     [
         Subject::Notarize(proposal(1, 3, 2, 7)),

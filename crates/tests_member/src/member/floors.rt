@@ -16,7 +16,7 @@ fn floor(view: u64, parent: u64) -> Floor<PlainScheme, PlainDigest> {
     })
 }
 
-/// The view of the certificate that lets others enter the current view.
+/// Returns the view of the certificate that lets others enter the current view.
 fn best(member: &mut PlainMember) -> Option<View> {
     match member.get_best_certificate() {
         Ok(Some(certificate)) => Some(certificate.view()),
@@ -24,19 +24,19 @@ fn best(member: &mut PlainMember) -> Option<View> {
     }
 }
 
-/// Whether the best certificate is of a view, and the record has so many entries.
+/// Returns whether the best certificate is of a view, and the record has this number of entries.
 fn stands_at(member: &mut PlainMember, view: u64, entries: usize) -> bool {
     best(member) == Some(View::new(view)) && member.record_since(0).len() == entries
 }
 
-/// A member that begins at a floor of view 5.
+/// Returns a member that begins at a floor of view 5.
 fn begun_at_5(alloc: Global) -> Result<Box<PlainMember>, Fail> {
     let mut begun = start(alloc, 10)?;
     begun.floor = floor(5, 4);
     started(alloc, begun)
 }
 
-/// Another life, at a floor of view 9.
+/// Begins another lifetime, at a floor of view 9.
 fn restart_at_9(alloc: Global, member: &mut PlainMember) -> Result<(), Fail> {
     let mut again = start(alloc, 10)?;
     again.floor = floor(9, 8);

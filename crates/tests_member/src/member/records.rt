@@ -1,4 +1,4 @@
-//! Records that a recovery refuses, each for the first rule that it breaks, and what it makes of others.
+//! Records that a recovery refuses, each for the first rule that it breaks, and the result for other records.
 
 ghost use Rattle.std.specs.Prelude.{◌≡◌, ◌<◌, IfOk, length};
 ghost use Rattle.simplex_types.specs.Plain.{members_of, keys_of};
@@ -27,7 +27,7 @@ type PlainState = State<PlainScheme, PlainElector, PlainDigest>;
 /// The first view that is too large.
 const TOO_LARGE: u64 = 1 << 63;
 
-/// How the member starts that is recovered, in epoch 1.
+/// How the recovered member starts, in epoch 1.
 #[derive(Clone, Copy)]
 enum Began {
     /// Member 0, at genesis.
@@ -38,8 +38,7 @@ enum Began {
     WithoutKey,
 }
 
-/// An entry of a record, with the numbers that a rule may be broken by. Where nothing else is said, it is of epoch 1, payload 7 and
-/// member 0.
+/// An entry of a record, with the numbers by which it may break a rule. Unless stated otherwise, it is of epoch 1, payload 7 and member 0.
 #[derive(Clone, Copy)]
 enum Entry {
     /// A notarization of an epoch, a view and a parent.
@@ -84,7 +83,7 @@ fn finalization(epoch: u64, view: u64, parent: u64) -> Finalization<PlainScheme,
     }
 }
 
-/// A member's signature on a subject.
+/// Returns a member's signature on a subject.
 fn signature_of(
     alloc: Global,
     member: u32,
@@ -167,7 +166,7 @@ fn artifact_of(alloc: Global, entry: &Entry) -> Result<PlainArtifact, Fail> {
     }
 }
 
-/// How the member starts.
+/// Returns how the member starts.
 fn start_of(
     alloc: Global,
     began: &Began,
@@ -188,7 +187,7 @@ fn start_of(
     Ok(begun)
 }
 
-/// What a member is recovered to from a record, or why it is not.
+/// Returns the state that a member recovers from a record, or why there is none.
 fn recovered(
     alloc: Global,
     began: &Began,
@@ -345,7 +344,7 @@ fn a_record_is_refused_for_the_first_rule_that_it_breaks(rt: HostRuntime) -> Res
     Ok(())
 }
 
-/// Where a state stands: its current view, the last finalized one, and the lowest that is kept.
+/// Returns the views of a state: its current view, the last finalized one, and the lowest retained one.
 fn views_of(state: &PlainState) -> [u64; 3] {
     [
         state.current_view().get(),
@@ -354,7 +353,7 @@ fn views_of(state: &PlainState) -> [u64; 3] {
     ]
 }
 
-/// Records that are taken, and where the state stands then.
+/// Records that are taken, and the views of the state then.
 static TAKEN: [(Began, &[Entry], [u64; 3]); 6] = [
     (AtGenesis, &[], [1, 0, 0]),
     (AtFinalization(1, 20, 19), &[], [21, 20, 10]),
@@ -387,7 +386,7 @@ fn a_record_that_is_taken_leads_to_its_views(rt: HostRuntime) -> Result<(), Fail
     Ok(())
 }
 
-/// Whether a state keeps the notarization of view 15, and no nullification of view 3.
+/// Returns whether a state retains the notarization of view 15, and no nullification of view 3.
 fn keeps_what_is_retained(state: &PlainState) -> bool {
     state.notarization(View::new(15)).is_some() && state.nullification(View::new(3)).is_none()
 }

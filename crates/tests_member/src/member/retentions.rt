@@ -1,4 +1,4 @@
-//! Retentions that shrink and grow over the lives of a member of plain parts.
+//! Retentions that shrink and grow over the lifetimes of a member of plain parts.
 
 use super::{PlainMember, notarization, proposal, start, started};
 use simplex_member::member::{RecoverError, Restart};
@@ -7,13 +7,13 @@ use simplex_types::types::{Finalization, View};
 use std::alloc::Global;
 use std::test::Fail;
 
-/// A life that is asked for: whether the record is pruned first, and how many views are kept; whether it begins, and the record's
-/// entries and the lowest view that is kept then.
+/// A lifetime that is asked for: whether the record is pruned first, and how many views are retained; whether it begins, and the record's
+/// entries and the lowest retained view then.
 type Life = (bool, u64, Result<(), RecoverError>, usize, u64);
 
-/// Lives of a member that keeps ten views, and accepted a finalization of view 20 and notarizations of views 4 and 12. What is pruned
-/// is below the views that the life before kept, whatever the next one keeps; and once a record is pruned, no more may be kept than
-/// in any life before.
+/// Lifetimes of a member that retains ten views, and accepted a finalization of view 20 and notarizations of views 4 and 12. A pruning
+/// removes what is below the views that the lifetime before retained, whatever the next one retains. Once a record is pruned, no more may
+/// be retained than in any lifetime before.
 static LIVES: [&[Life]; 7] = [
     &[(true, 5, Ok(()), 2, 15), (true, 5, Ok(()), 1, 15)],
     &[(false, 5, Ok(()), 3, 15), (true, 5, Ok(()), 1, 15)],
@@ -34,7 +34,7 @@ static LIVES: [&[Life]; 7] = [
     &[(true, 0, Ok(()), 2, 20), (true, 0, Ok(()), 1, 20)],
 ];
 
-/// Another life that keeps so many views.
+/// Begins another lifetime that retains this number of views.
 fn restart(
     alloc: Global,
     member: &mut PlainMember,
@@ -48,7 +48,7 @@ fn restart(
     }))
 }
 
-/// A member that keeps ten views, and accepted a finalization of view 20 and notarizations of views 4 and 12.
+/// Returns a member that retains ten views, and accepted a finalization of view 20 and notarizations of views 4 and 12.
 fn finalized_at_20(alloc: Global) -> Result<Box<PlainMember>, Fail> {
     let mut member = started(alloc, start(alloc, 10)?)?;
     member.add_notarization(notarization(4, 3, 7))?;
@@ -61,7 +61,7 @@ fn finalized_at_20(alloc: Global) -> Result<Box<PlainMember>, Fail> {
     Ok(member)
 }
 
-/// Whether the member has so many entries, and keeps the views from one on.
+/// Returns whether the member has this number of entries, and retains the views from one on.
 fn keeps(member: &PlainMember, entries: usize, lowest: u64) -> bool {
     let Some(state) = member.state() else {
         return false;
@@ -69,7 +69,7 @@ fn keeps(member: &PlainMember, entries: usize, lowest: u64) -> bool {
     member.record().len() == entries && state.min_active() == View::new(lowest)
 }
 
-/// How many of the lives came as they are told, up to the first that did not.
+/// Returns how many of the lifetimes came as expected, up to the first that did not.
 fn lives_as_told(alloc: Global, member: &mut PlainMember, lives: &[Life]) -> Result<usize, Fail> {
     let mut count: usize = 0;
     for (prune, retention, wanted, entries, lowest) in lives {
@@ -93,7 +93,7 @@ fn a_record_is_pruned_by_the_last_life_and_a_retention_grows_only_before(
     Ok(())
 }
 
-/// Whether a pruning drops just these views.
+/// Returns whether a pruning drops exactly these views.
 fn drops(member: &mut PlainMember, wanted: &[View]) -> bool {
     match member.prune() {
         Ok(views) => views.as_slice() == wanted,
@@ -101,7 +101,7 @@ fn drops(member: &mut PlainMember, wanted: &[View]) -> bool {
     }
 }
 
-/// Whether the member's state has the notarization of view 12.
+/// Returns whether the member's state has the notarization of view 12.
 fn has_notarization(member: &PlainMember) -> bool {
     match member.state() {
         Some(state) => state.notarization(View::new(12)).is_some(),

@@ -7,7 +7,7 @@ use simplex_types::types::View;
 use simplex_types::types::plain::{PlainDigest, PlainScheme};
 use std::test::Fail;
 
-/// What a reply of the run tells.
+/// Returns the text for a reply of the run.
 fn told(reply: &Reply<PlainScheme, PlainDigest>) -> &'static str {
     match reply {
         Reply::Nullify(Some((false, _))) => "a vote to nullify",
@@ -20,7 +20,7 @@ fn told(reply: &Reply<PlainScheme, PlainDigest>) -> &'static str {
     }
 }
 
-/// What is told by the first reply that tells another thing than is wanted.
+/// Returns the text of the first reply that is not the expected one.
 fn first_other(
     replies: &[Reply<PlainScheme, PlainDigest>],
     wanted: &[&str],

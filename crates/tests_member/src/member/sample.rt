@@ -11,7 +11,8 @@ type PlainNotarization = Notarization<PlainScheme, PlainDigest>;
 
 type PlainFinalize = Finalize<PlainScheme, PlainDigest>;
 
-/// A good notarization of the view came, and the application found its block valid: the vote to finalize it, once it is stored.
+/// Returns the vote to finalize a view, once it is stored: a valid notarization of the view came, and the application found its block
+/// valid.
 fn finalize(
     alloc: Global,
     member: &mut PlainMember,
@@ -29,7 +30,7 @@ fn finalize(
     Ok(vote)
 }
 
-/// Whether there is a vote to finalize view 1, and how many artifacts are stored then.
+/// Returns whether there is a vote to finalize view 1, and how many artifacts are stored then.
 fn finalize_first(
     alloc: Global,
     member: &mut PlainMember,

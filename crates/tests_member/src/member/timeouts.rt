@@ -16,10 +16,10 @@ use std::test::Fail;
 
 type PlainStart = Start<PlainScheme, PlainElector, PlainDigest>;
 
-/// What comes to a member: a view, on the view before where it has a parent, and a moment in milliseconds.
+/// An input of a member: a view, on the view before if it has a parent, and a moment in milliseconds.
 #[derive(Clone, Copy)]
 enum Event {
-    /// The leader's proposal comes.
+    /// The leader's proposal arrives.
     Proposed(u64),
     /// The view is notarized, and certified at the moment.
     Certified(u64, u64),
@@ -27,19 +27,19 @@ enum Event {
     Finalized(u64, u64),
     /// The view is nullified.
     Nullified(u64, u64),
-    /// Its leader gives the view up.
+    /// Its leader abandons the view.
     GivenUp(u64, u64),
 }
 
-/// A poll at a moment, and the timeout that it answers, if it answers one.
+/// A poll at a moment, and the timeout that it returns, if it returns one.
 type Poll = (u64, Option<(u64, TimeoutReason)>);
 
-/// The view before.
+/// Returns the view before.
 fn below(view: u64) -> u64 {
     view.saturating_sub(1)
 }
 
-/// What comes to a member is handed in.
+/// Passes an input to a member.
 fn submit(member: &mut PlainMember, event: Event) -> Result<(), Refusal> {
     match event {
         Event::Proposed(view) => {
@@ -70,7 +70,7 @@ fn submit(member: &mut PlainMember, event: Event) -> Result<(), Refusal> {
     Ok(())
 }
 
-/// The next timeout with its reason, if there is one, once all of this has come.
+/// Returns the next timeout with its reason, if there is one, after all of these inputs.
 fn timeout_behind(
     member: &mut PlainMember,
     events: &[Event],
@@ -82,7 +82,7 @@ fn timeout_behind(
     Ok(member.next_timeout(now).ok())
 }
 
-/// Terms of one view or of five, that stall after so many milliseconds or never.
+/// Returns terms of one view or of five, which stall after this number of milliseconds or never.
 fn terms(are_of_five: bool, stall_timeout: Option<u64>) -> Terms {
     let term_length = if are_of_five {
         NonZeroU32::MIN.saturating_add(4)
@@ -96,8 +96,8 @@ fn terms(are_of_five: bool, stall_timeout: Option<u64>) -> Terms {
     }
 }
 
-/// Skip budgets, whether terms have five views, what comes, and a poll behind it. A view that was given up times out at once only
-/// where the budget is above the number of terms since the last finalized view's next one.
+/// Skip budgets, whether terms have five views, the inputs, and a poll after them. A view that was abandoned times out at once only if the
+/// budget is above the number of terms since the last finalized view's next one.
 static BUDGETS: [(u64, bool, &[Event], Poll); 11] = [
     (
         0,
@@ -167,7 +167,7 @@ static BUDGETS: [(u64, bool, &[Event], Poll); 11] = [
     ),
 ];
 
-/// How a member starts that has a skip budget.
+/// Returns how a member with a skip budget starts.
 fn with_budget(alloc: Global, budget: u64, are_of_five: bool) -> Result<PlainStart, AllocError>
     ensures { IfOk result (λ start. members_of start.settings.elector ≡ length (keys_of start.settings.scheme)) }
 {
@@ -186,8 +186,8 @@ fn a_view_that_was_given_up_is_skipped_within_the_budget(rt: HostRuntime) -> Res
     Ok(())
 }
 
-/// Stall timeouts in terms of five views, what comes, and a poll behind it. What stalls is the first view entered above the last
-/// finalized one, however many of its term are certified.
+/// Stall timeouts in terms of five views, the inputs, and a poll after them. What stalls is the first view entered above the last finalized
+/// one, however many of its term are certified.
 static STALLS: [(Option<u64>, &[Event], Poll); 11] = [
     (None, &[], (10, Some((9000, TimeoutReason::LeaderTimeout)))),
     (
@@ -242,7 +242,7 @@ static STALLS: [(Option<u64>, &[Event], Poll); 11] = [
     ),
 ];
 
-/// How a member starts that may stall, with longer timeouts of a view.
+/// Returns how a member starts that may stall, with longer timeouts of a view.
 fn with_stall(alloc: Global, stall_timeout: Option<u64>) -> Result<PlainStart, AllocError>
     ensures { IfOk result (λ start. members_of start.settings.elector ≡ length (keys_of start.settings.scheme)) }
 {

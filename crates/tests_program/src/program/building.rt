@@ -1,10 +1,12 @@
-//! Proposals of this member: what it builds on, and when a handoff is given up.
+//! Proposals of this member: what it builds on, and when a handoff is abandoned.
+//!
+//! Written by `tests/lib/tables.py` from `tests/scripts/building.md`.
 
 use super::script::Script;
 
 pub static BUILDING: [Script; 5] = [
     Script {
-        shows: "a handoff is given up once its parent is voted to be nullified, and built anew on the parent below",
+        shows: "a handoff is abandoned once its parent is voted to be nullified, and built anew on the parent below",
         command: "viewstate voter 4 1 1 0",
         lines: "\
             proposal 1 0 7 => true\n\

@@ -1,4 +1,6 @@
 //! Restarts, what they drop and prune, and why they are refused.
+//!
+//! Written by `tests/lib/tables.py` from `tests/scripts/lives.md`.
 
 use super::script::Script;
 

@@ -1,4 +1,6 @@
 //! Command lines that ask for no mode.
+//!
+//! Written by `tests/lib/tables.py` from `tests/scripts/misuses.md`.
 
 /// What each shows, and the command line.
 pub static MISUSES: [(&str, &str); 19] = [

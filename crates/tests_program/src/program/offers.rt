@@ -1,4 +1,6 @@
 //! Offers to certify, their tokens and verdicts.
+//!
+//! Written by `tests/lib/tables.py` from `tests/scripts/offers.md`.
 
 use super::script::Script;
 

@@ -1,4 +1,6 @@
 //! Proposals of other leaders: what is verified, and what it waits for.
+//!
+//! Written by `tests/lib/tables.py` from `tests/scripts/proposals.md`.
 
 use super::script::Script;
 
@@ -70,7 +72,7 @@ pub static PROPOSALS: [Script; 19] = [
             notarize 1 => none\n",
     },
     Script {
-        shows: "a chain in a window of one view goes on by votes, and then by certificates",
+        shows: "a chain in a window of one view continues by votes, and then by certificates",
         command: "viewstate voter 4 1 5 1",
         lines: "\
             proposal 1 0 7 => true\n\

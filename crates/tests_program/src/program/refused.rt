@@ -1,4 +1,6 @@
 //! Lines that are no call.
+//!
+//! Written by `tests/lib/tables.py` from `tests/scripts/refused.md`.
 
 use super::script::Script;
 
@@ -63,7 +65,7 @@ pub static REFUSED: [Script; 21] = [
         lines: " view\n",
     },
     Script {
-        shows: "a space behind",
+        shows: "a space at the end",
         command: "viewstate voter 4 0 1 0",
         lines: "view \n",
     },

@@ -1,4 +1,6 @@
-//! Gaps that a resolver repairs, and what is left of certificates that are handed in again, late, or below a finalization.
+//! Gaps that a resolver repairs, and what is left of certificates that are passed again, late, or below a finalization.
+//!
+//! Written by `tests/lib/tables.py` from `tests/scripts/repair.md`.
 
 use super::script::Script;
 
@@ -134,7 +136,7 @@ pub static REPAIR: [Script; 17] = [
             produce 8 => none\n",
     },
     Script {
-        shows: "a certificate that is handed in again opens no fetch, and a failed notarization settles nothing",
+        shows: "a certificate that is passed again opens no fetch, and a failed notarization settles nothing",
         command: "viewstate resolver 5",
         lines: "\
             replayed => -\n\
@@ -151,7 +153,7 @@ pub static REPAIR: [Script; 17] = [
             outstanding => outstanding\n",
     },
     Script {
-        shows: "a certified notarization that is handed in again settles its ask, and stays served",
+        shows: "a certified notarization that is passed again settles its ask, and stays served",
         command: "viewstate resolver 1",
         lines: "\
             replayed => -\n\
@@ -161,7 +163,7 @@ pub static REPAIR: [Script; 17] = [
             produce 3 => 00000000000000000100000000000000030000000000000002000000000000000001\n",
     },
     Script {
-        shows: "a verdict behind a finalization of a later view raises nothing",
+        shows: "a verdict after a finalization of a later view raises nothing",
         command: "viewstate resolver 5",
         lines: "\
             replayed => -\n\
@@ -206,7 +208,7 @@ pub static REPAIR: [Script; 17] = [
             outstanding => outstanding 6 11\n",
     },
     Script {
-        shows: "a term is fetched once, whatever is handed in again",
+        shows: "a term is fetched once, whatever is passed again",
         command: "viewstate resolver 5",
         lines: "\
             replayed => -\n\

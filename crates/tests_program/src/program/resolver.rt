@@ -1,4 +1,6 @@
 //! Certificates that a resolver keeps, and the fetches that it opens.
+//!
+//! Written by `tests/lib/tables.py` from `tests/scripts/resolver.md`.
 
 use super::script::Script;
 

@@ -3,13 +3,13 @@
 use simplex_program::program::ServeError;
 use std::alloc::{AllocError, Global};
 
-/// What parts a line from its reply.
+/// The separator between a line and its reply.
 const REPLIED: &str = " => ";
 
-/// Stands for a reply that a script doesn't look at.
+/// Represents a reply that a script doesn't check.
 const ANY: &str = "*";
 
-/// A command, and the lines that it is given, each with its reply. A line without one is no call, and ends the program.
+/// A command, and the lines that it receives, each with its reply. A line without one is no call, and ends the program.
 #[derive(Clone, Copy)]
 pub struct Script {
     pub shows: &'static str,
@@ -17,7 +17,7 @@ pub struct Script {
     pub lines: &'static str,
 }
 
-/// What a script gives to the program, what it wants to be written, and how it wants it to end.
+/// The input that a script passes to the program, and the expected output and end.
 #[derive(Drop)]
 pub struct Parts {
     pub input: String,
@@ -26,7 +26,7 @@ pub struct Parts {
 }
 
 impl Script {
-    /// The script's parts. Its last line may lack its line feed.
+    /// Returns the script's parts. Its last line may have no line feed.
     pub(super) fn parts(&self, alloc: Global) -> Result<Parts, AllocError> {
         let mut input = String::new(alloc);
         let mut output = String::new(alloc);
@@ -62,7 +62,7 @@ impl Script {
     }
 }
 
-/// Whether the replies are the wanted ones.
+/// Returns whether the replies are the expected ones.
 pub(super) fn are_wanted(written: &str, wanted: &str) -> bool {
     if written.split('\n').count() != wanted.split('\n').count() {
         return false;

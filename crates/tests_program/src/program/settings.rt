@@ -1,4 +1,6 @@
 //! Settings at their bounds, and inputs at theirs.
+//!
+//! Written by `tests/lib/tables.py` from `tests/scripts/settings.md`.
 
 use super::script::Script;
 

@@ -1,4 +1,6 @@
 //! Timeouts and repeats.
+//!
+//! Written by `tests/lib/tables.py` from `tests/scripts/timeouts.md`.
 
 use super::script::Script;
 

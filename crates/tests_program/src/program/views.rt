@@ -1,4 +1,6 @@
 //! Whole views: proposals, votes, certificates and verdicts.
+//!
+//! Written by `tests/lib/tables.py` from `tests/scripts/views.md`.
 
 use super::script::Script;
 
@@ -213,7 +215,7 @@ pub static VIEWS: [Script; 19] = [
             record => record 2\n",
     },
     Script {
-        shows: "a vote to finalize comes once, and bars the vote to nullify; a certificate is handed out once",
+        shows: "a vote to finalize comes once, and bars the vote to nullify; a certificate is returned once",
         command: "viewstate voter 4 0 1 0",
         lines: "\
             notarization 1 5 7 => added true -\n\

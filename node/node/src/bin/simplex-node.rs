@@ -5,7 +5,8 @@ use simplex_node::ledger::Ledger;
 use simplex_node::version::version;
 use simplex_node::{Outcome, Settings};
 use simplex_node::{crypto, floor, signer};
-use std::fs;
+use std::fs::File;
+use std::io::Write;
 use std::path::PathBuf;
 use std::process::ExitCode;
 use std::time::Duration;
@@ -112,7 +113,10 @@ fn sign(command: Command) -> Outcome {
 
 fn write_floor(config: &std::path::Path, out: &std::path::Path) -> Outcome {
     let bytes = floor::of(&Settings::read(config)?)?;
-    fs::write(out, bytes).map_err(|error| format!("{}: {error}", out.display()).into())
+    let named = |error: std::io::Error| format!("{}: {error}; name a file that is not there yet", out.display());
+    let mut file = File::create_new(out).map_err(named)?;
+    file.write_all(&bytes).and_then(|()| file.sync_all()).map_err(named)?;
+    Ok(())
 }
 
 fn run(config: &std::path::Path, trace: Option<PathBuf>) -> Outcome {

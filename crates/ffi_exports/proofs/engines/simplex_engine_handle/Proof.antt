@@ -1,4 +1,4 @@
--- `simplex_engine_handle` answers at null, and else lends what lies at the pointer for the call of `tell`, and has it back.
+-- `simplex_engine_handle` returns at null, and otherwise lends the value at the pointer for the call of `tell`, and has it back.
 use Rattle.ffi_exports.proofs.Steps.{◌≡◌, ℕ, ◌^◌, ◌<◌, length, [], ◌∷◌, ◌++◌, refl, w64, MutBor, proved, full_share, id⊢, Lft, ftrue, flft, flent, fsep, named, vptr, fact, tables, ‵, raw, ◌⊛◌, some, later, prop, at_ret, ◌$◌, ◌∵◌, !, qed, done, move, keep, drop, use1, use3, split, join, fsplit, fjoin, fpack, pick, await, regoal, suffices, group, lft_new, lft_end, enter, of_opd, addr, stop, no_more, and_then, first, blocks, exec, returns, alloc_all, pass_all, free_all, look_at, get, through, sets, sets_last, lands_as, env, u8, u64, RefOf, SliceRefOf, yes, Is, shows, lends_ref, ref_back, Body, mem, uint_vals, uint_Tells, Ptr, RawPtr, block_ptr, lies_at, rawptr_vals, rawptr_Tells, MutRef, mut_vals, shr_vals, shr_Tells, shr_slice_vals, shr_slice_Tells, owns, plain, types_at, nothing, heard, peeks, calls_at, lasts, Lasts, triple_of, framed, Stays, walk_of, stay_dropped, Goes-dropped, ends_at, rewrite, inl, inr, lit<, fpick, bin, lit, skips, branches, returns_within, null_ptr, Testable, tests_null, null_or_not}
 use prog.Wp.{WpFn}
 use Rattle.ffi_exports.specs.contracts.engines.simplex_engine_handle as f

@@ -1,4 +1,4 @@
--- How the contract of `put_signature` follows: what is put stands behind what was put before.
+-- How the contract of `put_signature` follows: the bytes written come after those written before.
 use Rattle.std.specs.Int.{w32, w64, to_be_bytes}
 use Rattle.std.proofs.Common.{length}
 use Rattle.ffi_scheme.proofs.Signed.{three_behind}

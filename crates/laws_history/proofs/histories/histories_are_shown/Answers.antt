@@ -1,4 +1,4 @@
--- event by event, and life by life
+-- event by event, and lifetime by lifetime
 use Rattle.std.proofs.Common.{refl, Ok}
 use Rattle.laws_history.proofs.Events.{event_shown}
 use Rattle.laws_history.proofs.Lives.{begun_shown, called_shown, recovered_shown, restarted_shown, ran_shown}

@@ -1,4 +1,4 @@
--- How the contract of `decode_certificate` follows: each kind's bytes are read back as what they were written of, and other bytes have their cause.
+-- How the contract of `decode_certificate` follows: each kind's bytes are read back as what they were written from, and other bytes have their cause.
 use Rattle.simplex_codec.proofs.Laws.{reads_certificates}
 use Rattle.simplex_codec.proofs.certificate.decode_certificate.Goals as goal
 

@@ -1,4 +1,4 @@
--- How the contract of `read_with_proposal` follows: a certificate that its scheme refuses is the cause, behind a proposal.
+-- How the contract of `read_with_proposal` follows: a certificate that its scheme refuses is the cause, after a proposal.
 use Rattle.simplex_codec.proofs.Laws.{none_read}
 use Rattle.simplex_codec.proofs.certificate.read_with_proposal.Goals as goal
 

@@ -1,4 +1,4 @@
--- How the contract of `read_with_round` follows: a certificate that its scheme refuses is the cause, behind a round.
+-- How the contract of `read_with_round` follows: a certificate that its scheme refuses is the cause, after a round.
 use Rattle.simplex_codec.proofs.Laws.{none_read}
 use Rattle.simplex_codec.proofs.certificate.read_with_round.Goals as goal
 

@@ -1,4 +1,4 @@
--- How the contract of `read_proposal` follows: a round and a parent have 24 bytes, and the payload is what stands behind them.
+-- How the contract of `read_proposal` follows: a round and a parent have 24 bytes, and the payload follows them.
 use Rattle.std.proofs.Common.{◌≡◌, ap, sym, ◌∙◌, ◌++◌, drop, subst}
 use Rattle.std.specs.Int.{w64, to_be_bytes}
 use Rattle.simplex_types.specs.declared.types.messages.Proposal.{Proposal}

@@ -1,4 +1,4 @@
--- How the contract of `put_proposal_vote` follows: the kind, the signer, the proposal and the signature stand one behind the other.
+-- How the contract of `put_proposal_vote` follows: the kind, the signer, the proposal and the signature come one after another.
 use Rattle.std.proofs.Common.{ap, ◌∙◌, ◌++◌, ◌∷◌, []}
 use Rattle.std.specs.Int.{w32, to_be_bytes}
 use Rattle.simplex_types.specs.Encoding.{proposal_bytes}

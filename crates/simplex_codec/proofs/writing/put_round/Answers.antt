@@ -1,4 +1,4 @@
--- How the contract of `put_round` follows: the epoch and the view stand one behind the other, eight bytes each.
+-- How the contract of `put_round` follows: the epoch and the view come one after the other, eight bytes each.
 use Rattle.std.proofs.Common.{ap, ◌∙◌, ◌++◌}
 use Rattle.std.specs.Int.{w64, to_be_bytes}
 use Rattle.simplex_codec.proofs.Appended.{appended}

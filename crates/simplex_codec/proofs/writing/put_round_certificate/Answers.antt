@@ -1,4 +1,4 @@
--- How the contract of `put_round_certificate` follows: the kind, the round and the certificate stand one behind the other.
+-- How the contract of `put_round_certificate` follows: the kind, the round and the certificate come one after another.
 use Rattle.std.proofs.Common.{ap, ◌∙◌, ◌++◌, ◌∷◌, []}
 use Rattle.simplex_types.specs.Encoding.{round_bytes}
 use Rattle.simplex_codec.proofs.Appended.{appended}

@@ -1,4 +1,4 @@
--- How the contract of `put_subject` follows: behind the byte of its kind stands the round or the proposal.
+-- How the contract of `put_subject` follows: after the byte of its kind comes the round or the proposal.
 use Rattle.simplex_types.specs.Encoding.{round_bytes, proposal_bytes}
 use Rattle.simplex_codec.proofs.Appended.{behind_kind}
 use Rattle.simplex_codec.proofs.writing.put_subject.Goals as goal

@@ -1,4 +1,4 @@
--- How the contract of `put_verdict` follows: behind the round stands one byte, 1 for a true verdict.
+-- How the contract of `put_verdict` follows: after the round comes one byte, 1 for a true verdict.
 use Rattle.std.proofs.Common.{◌≡◌, ℕ, if◌then◌else◌, Bool, true, false, refl, ap, ◌∙◌, ◌++◌, ◌∷◌, []}
 use Rattle.simplex_types.specs.Encoding.{round_bytes}
 use mir.Val.{bool_byte}

@@ -1,4 +1,4 @@
-//! The calls that hand in certificates, each as a method.
+//! The calls that pass certificates in, each as a method.
 
 ghost use Rattle.std.specs.Prelude.{◌++◌, ◌≡◌, IfOk, IfErr};
 ghost use Rattle.simplex_types.specs.Certificates.{notarization_facts, nullification_facts, finalization_facts, Accepted, Notarized, Nullified, Finalized};
@@ -15,24 +15,28 @@ use simplex_types::types::{
 };
 
 impl<S: Scheme<D>, L: Elector<S>, D: Digest> Member<S, L, D> {
-    /// Takes a notarization: the next view is led by the elector's choice after it, the first of its view is recorded, and its
-    /// view waits for certification. Answers whether it is the first of its view, with the key of a leader found to equivocate.
+    /// Accepts a notarization: the next view is led by the elector's choice after it, the first of its view is recorded,
+    /// and its view waits for certification. Returns whether it is the first of its view, and the key of a leader found to
+    /// equivocate.
     ///
-    /// `NotAllowed` where it is of another epoch or of a view that is not kept. `ViewTooLarge` where its view or its parent's is
-    /// above 2^63 - 1; `OutOfMemory`.
-    #[tactic(auto, unfolding(crate::specs::Lives::IsCall))]
+    /// Returns `NotAllowed` if it is of another epoch or of a view that is not retained, `ViewTooLarge` if its view or its
+    /// parent's is above 2^63 - 1; `OutOfMemory`.
+    #[tactic(auto, unfolding(crate::specs::MemberFacts::IsCall))]
     pub fn add_notarization(
         &mut self,
         notarization: Notarization<S, D>,
     ) -> Result<(bool, Option<S::PublicKey>), Refusal>
-        ensures made { IsCall D.eq L.elect self.old.facts (AddNotarization (notarization_facts S.certificate_bytes notarization))
+        ensures made { IsCall D.eq L.elect self.old.facts
+            (AddNotarization (notarization_facts S.certificate_bytes notarization))
             (told_of (λ added. Added added.0 added.1) result) self.new.facts }
         ensures answered { IfOk result (λ added. IsAnswered D.eq L.elect self.old.facts
-            (AddNotarization (notarization_facts S.certificate_bytes notarization)) (Added added.0 added.1) self.new.facts) }
+            (AddNotarization (notarization_facts S.certificate_bytes notarization)) (Added added.0 added.1)
+            self.new.facts) }
         ensures kept { IfErr result (λ refusal. UnchangedButLifetime self.old.facts refusal self.new.facts) }
         ensures votes { self.new.votes ≡ self.old.votes }
         ensures recorded { IfOk result (λ added. self.new.facts.entries
-            ≡ self.old.facts.entries ++ if_new added.0 (Accepted (Notarized (notarization_facts S.certificate_bytes notarization)))) }
+            ≡ self.old.facts.entries
+            ++ if_new added.0 (Accepted (Notarized (notarization_facts S.certificate_bytes notarization)))) }
     {
         if self.failed {
             return Err(Refusal::Fault(Fault::Failed));
@@ -51,25 +55,28 @@ impl<S: Scheme<D>, L: Elector<S>, D: Digest> Member<S, L, D> {
         made.map_err(Refusal::Fault)
     }
 
-    /// Takes a nullification: the rest of its term is passed over, the next term's start is entered at this moment, in
-    /// milliseconds, where it is ahead, and the first of its view is recorded. Answers whether it is the first of its view.
+    /// Accepts a nullification: the rest of its term is skipped, the next term's start is entered at this moment, in
+    /// milliseconds, if it is ahead, and the first of its view is recorded. Returns whether it is the first of its view.
     ///
-    /// `NotAllowed` where it is of another epoch or of a view that is not kept. `ViewTooLarge` where its view is above 2^63 - 1,
-    /// `TimeOverflow` where a deadline of the view that would be entered passes 2^64 - 1 milliseconds; `OutOfMemory`.
-    #[tactic(auto, unfolding(crate::specs::Lives::IsCall))]
+    /// Returns `NotAllowed` if it is of another epoch or of a view that is not retained, `ViewTooLarge` if its view is
+    /// above 2^63 - 1, `TimeOverflow` if a deadline of the view to be entered passes 2^64 - 1 milliseconds; `OutOfMemory`.
+    #[tactic(auto, unfolding(crate::specs::MemberFacts::IsCall))]
     pub fn add_nullification(
         &mut self,
         nullification: Nullification<S>,
         now: u64,
     ) -> Result<bool, Refusal>
-        ensures made { IsCall D.eq L.elect self.old.facts (AddNullification (nullification_facts S.certificate_bytes nullification) now)
+        ensures made { IsCall D.eq L.elect self.old.facts
+            (AddNullification (nullification_facts S.certificate_bytes nullification) now)
             (told_of (λ is_new. AddedNullification is_new) result) self.new.facts }
         ensures answered { IfOk result (λ is_new. IsAnswered D.eq L.elect self.old.facts
-            (AddNullification (nullification_facts S.certificate_bytes nullification) now) (AddedNullification is_new) self.new.facts) }
+            (AddNullification (nullification_facts S.certificate_bytes nullification) now) (AddedNullification is_new)
+            self.new.facts) }
         ensures kept { IfErr result (λ refusal. UnchangedButLifetime self.old.facts refusal self.new.facts) }
         ensures votes { self.new.votes ≡ self.old.votes }
         ensures recorded { IfOk result (λ is_new. self.new.facts.entries
-            ≡ self.old.facts.entries ++ if_new is_new (Accepted (Nullified (nullification_facts S.certificate_bytes nullification)))) }
+            ≡ self.old.facts.entries
+            ++ if_new is_new (Accepted (Nullified (nullification_facts S.certificate_bytes nullification)))) }
     {
         if self.failed {
             return Err(Refusal::Fault(Fault::Failed));
@@ -88,27 +95,30 @@ impl<S: Scheme<D>, L: Elector<S>, D: Digest> Member<S, L, D> {
         made.map_err(Refusal::Fault)
     }
 
-    /// Takes a finalization: its view is the last finalized one where that is above the one before, the next view is entered at
-    /// this moment, in milliseconds, where it is ahead, and the first of its view is recorded. Answers whether it is the first of
-    /// its view, with the key of a leader found to equivocate.
+    /// Accepts a finalization: its view becomes the last finalized one if it is above the one before, the next view is
+    /// entered at this moment, in milliseconds, if it is ahead, and the first of its view is recorded. Returns whether it
+    /// is the first of its view, and the key of a leader found to equivocate.
     ///
-    /// `NotAllowed` where it is of another epoch or of a view that is not kept. `ViewTooLarge` where its view or its parent's is
-    /// above 2^63 - 1, `TimeOverflow` where a deadline of the view that would be entered passes 2^64 - 1 milliseconds;
+    /// Returns `NotAllowed` if it is of another epoch or of a view that is not retained, `ViewTooLarge` if its view or its
+    /// parent's is above 2^63 - 1, `TimeOverflow` if a deadline of the view to be entered passes 2^64 - 1 milliseconds;
     /// `OutOfMemory`.
-    #[tactic(auto, unfolding(crate::specs::Lives::IsCall))]
+    #[tactic(auto, unfolding(crate::specs::MemberFacts::IsCall))]
     pub fn add_finalization(
         &mut self,
         finalization: Finalization<S, D>,
         now: u64,
     ) -> Result<(bool, Option<S::PublicKey>), Refusal>
-        ensures made { IsCall D.eq L.elect self.old.facts (AddFinalization (finalization_facts S.certificate_bytes finalization) now)
+        ensures made { IsCall D.eq L.elect self.old.facts
+            (AddFinalization (finalization_facts S.certificate_bytes finalization) now)
             (told_of (λ added. Added added.0 added.1) result) self.new.facts }
         ensures answered { IfOk result (λ added. IsAnswered D.eq L.elect self.old.facts
-            (AddFinalization (finalization_facts S.certificate_bytes finalization) now) (Added added.0 added.1) self.new.facts) }
+            (AddFinalization (finalization_facts S.certificate_bytes finalization) now) (Added added.0 added.1)
+            self.new.facts) }
         ensures kept { IfErr result (λ refusal. UnchangedButLifetime self.old.facts refusal self.new.facts) }
         ensures votes { self.new.votes ≡ self.old.votes }
         ensures recorded { IfOk result (λ added. self.new.facts.entries
-            ≡ self.old.facts.entries ++ if_new added.0 (Accepted (Finalized (finalization_facts S.certificate_bytes finalization)))) }
+            ≡ self.old.facts.entries
+            ++ if_new added.0 (Accepted (Finalized (finalization_facts S.certificate_bytes finalization)))) }
     {
         if self.failed {
             return Err(Refusal::Fault(Fault::Failed));

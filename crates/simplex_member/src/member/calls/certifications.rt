@@ -13,11 +13,11 @@ use simplex_types::types::{Digest, Elector, Fault, Notarization, Proposal, Schem
 use simplex_voter::voter::CertificateFetch;
 
 impl<S: Scheme<D>, L: Elector<S>, D: Digest> Member<S, L, D> {
-    /// The proposals that are to be certified next, and the notarizations that others of them want, each by rising view. A
-    /// proposal is open until the verdict of its view.
+    /// Returns the proposals to certify next, and the notarizations that other waiting proposals need, each by rising view.
+    /// A proposal is open until the verdict of its view.
     ///
-    /// `OutOfMemory`.
-    #[tactic(auto, unfolding(crate::specs::Lives::IsCall))]
+    /// Returns `OutOfMemory`.
+    #[tactic(auto, unfolding(crate::specs::MemberFacts::IsCall))]
     pub fn certify_candidates(
         &mut self,
     ) -> Result<(Vec<Proposal<D>>, Vec<CertificateFetch>), Refusal>
@@ -36,13 +36,15 @@ impl<S: Scheme<D>, L: Elector<S>, D: Digest> Member<S, L, D> {
         made.map_err(Refusal::Fault)
     }
 
-    /// The certification of a view's proposal goes on under a token, in place of an earlier one.
+    /// Marks the certification of a view's proposal as under way under a token, in place of an earlier one.
     ///
-    /// `NotAllowed` where the view's proposal wasn't offered, or has its verdict.
-    #[tactic(auto, unfolding(crate::specs::Lives::IsCall))]
+    /// Returns `NotAllowed` if the view's proposal wasn't offered, or has its verdict.
+    #[tactic(auto, unfolding(crate::specs::MemberFacts::IsCall))]
     pub fn set_certify_handle(&mut self, view: View, token: u64) -> Result<(), Refusal>
-        ensures made { IsCall D.eq L.elect self.old.facts (SetCertifyHandle view token) (told_of (λ _. Done) result) self.new.facts }
-        ensures answered { IfOk result (λ _. IsAnswered D.eq L.elect self.old.facts (SetCertifyHandle view token) Done self.new.facts) }
+        ensures made { IsCall D.eq L.elect self.old.facts (SetCertifyHandle view token)
+            (told_of (λ _. Done) result) self.new.facts }
+        ensures answered { IfOk result
+            (λ _. IsAnswered D.eq L.elect self.old.facts (SetCertifyHandle view token) Done self.new.facts) }
         ensures kept { IfErr result (λ refusal. UnchangedButLifetime self.old.facts refusal self.new.facts) }
         ensures votes { self.new.votes ≡ self.old.votes }
     {
@@ -58,13 +60,13 @@ impl<S: Scheme<D>, L: Elector<S>, D: Digest> Member<S, L, D> {
         Ok(self.state.set_certify_handle(view, token)?)
     }
 
-    /// The verdict of a view's certification, at a moment in milliseconds. A true one enters the next view where that is ahead,
-    /// and a false one times the view out; the first of a tracked view is recorded. Answers the view's notarization, or none
-    /// where the view isn't tracked.
+    /// Records the verdict of a view's certification, at a moment in milliseconds. A true verdict enters the next view if
+    /// that is ahead; a false one times the view out; the first verdict of a tracked view is recorded. Returns the view's
+    /// notarization, or `None` if the view isn't tracked.
     ///
-    /// `NotAllowed` where a tracked view has no notarization or the other verdict. `TimeOverflow` where a deadline of the view
-    /// that would be entered passes 2^64 - 1 milliseconds; `OutOfMemory`.
-    #[tactic(auto, unfolding(crate::specs::Lives::IsCall))]
+    /// Returns `NotAllowed` if a tracked view has no notarization or the other verdict, `TimeOverflow` if a deadline of the
+    /// view to be entered passes 2^64 - 1 milliseconds; `OutOfMemory`.
+    #[tactic(auto, unfolding(crate::specs::MemberFacts::IsCall))]
     pub fn certified(
         &mut self,
         view: View,
@@ -72,8 +74,10 @@ impl<S: Scheme<D>, L: Elector<S>, D: Digest> Member<S, L, D> {
         now: u64,
     ) -> Result<Option<Notarization<S, D>>, Refusal>
         ensures made { IsCall D.eq L.elect self.old.facts (Certified view success now)
-            (told_of (λ notarization. Judged success (option_map (notarization_facts S.certificate_bytes) notarization)) result) self.new.facts }
-        ensures answered { IfOk result (λ notarization. IsAnswered D.eq L.elect self.old.facts (Certified view success now)
+            (told_of (λ notarization. Judged success (option_map (notarization_facts S.certificate_bytes) notarization))
+            result) self.new.facts }
+        ensures answered { IfOk result
+            (λ notarization. IsAnswered D.eq L.elect self.old.facts (Certified view success now)
             (Judged success (option_map (notarization_facts S.certificate_bytes) notarization)) self.new.facts) }
         ensures kept { IfErr result (λ refusal. UnchangedButLifetime self.old.facts refusal self.new.facts) }
         ensures votes { self.new.votes ≡ self.old.votes }

@@ -12,14 +12,16 @@ use simplex_types::types::{Digest, Elector, Fault, Scheme, View};
 use simplex_voter::voter::ProposalRequest;
 
 impl<S: Scheme<D>, L: Elector<S>, D: Digest> Member<S, L, D> {
-    /// What this member is to build next, if anything. A request is open in its view until `proposed`, a true
+    /// Returns what this member must build next, if anything. A request is open in its view until `proposed`, a true
     /// `supersede_proposal_request`, `release_proposal_request`, or another request there.
     ///
-    /// `OutOfMemory`, with nothing changed: room for the request is made before the state is asked.
-    #[tactic(auto, unfolding(crate::specs::Lives::IsCall))]
+    /// Returns `OutOfMemory` with nothing changed: the member makes room for the request before it asks the state.
+    #[tactic(auto, unfolding(crate::specs::MemberFacts::IsCall))]
     pub fn try_propose(&mut self) -> Result<Option<ProposalRequest<D, S::PublicKey>>, Refusal>
-        ensures made { IsCall D.eq L.elect self.old.facts TryPropose (told_of (λ request. Requested request) result) self.new.facts }
-        ensures answered { IfOk result (λ request. IsAnswered D.eq L.elect self.old.facts TryPropose (Requested request) self.new.facts) }
+        ensures made { IsCall D.eq L.elect self.old.facts TryPropose
+            (told_of (λ request. Requested request) result) self.new.facts }
+        ensures answered { IfOk result
+            (λ request. IsAnswered D.eq L.elect self.old.facts TryPropose (Requested request) self.new.facts) }
         ensures kept { IfErr result (λ refusal. UnchangedButLifetime self.old.facts refusal self.new.facts) }
         ensures votes { self.new.votes ≡ self.old.votes }
     {
@@ -32,15 +34,18 @@ impl<S: Scheme<D>, L: Elector<S>, D: Digest> Member<S, L, D> {
         Ok(request)
     }
 
-    /// The payload that was built on request in a view, at a moment in milliseconds: it is recorded as this member's proposal,
-    /// verified, unless the captured parent no longer stands or the view was given up. Answers whether it is. The request is
-    /// closed either way.
+    /// Passes the payload that was built on request in a view, at a moment in milliseconds. It is recorded as this member's
+    /// proposal, verified, unless the captured parent may no longer be built on, the view isn't tracked, nullify was decided
+    /// there, or another proposal is held. Returns whether it is recorded. The request is closed either way.
     ///
-    /// `NotAllowed` where no request is open in the view.
-    #[tactic(auto, unfolding(crate::specs::Lives::IsCall))]
+    /// Returns `NotAllowed` if no request is open in the view.
+    #[tactic(auto, unfolding(crate::specs::MemberFacts::IsCall))]
     pub fn proposed(&mut self, view: View, payload: D, now: u64) -> Result<bool, Refusal>
-        ensures made { IsCall D.eq L.elect self.old.facts (Proposed view payload now) (told_of (λ is_held. Answered is_held) result) self.new.facts }
-        ensures answered { IfOk result (λ is_held. IsAnswered D.eq L.elect self.old.facts (Proposed view payload now) (Answered is_held) self.new.facts) }
+        ensures made { IsCall D.eq L.elect self.old.facts (Proposed view payload now)
+            (told_of (λ is_held. Answered is_held) result) self.new.facts }
+        ensures answered { IfOk result
+            (λ is_held. IsAnswered D.eq L.elect self.old.facts (Proposed view payload now) (Answered is_held)
+            self.new.facts) }
         ensures kept { IfErr result (λ refusal. UnchangedButLifetime self.old.facts refusal self.new.facts) }
         ensures votes { self.new.votes ≡ self.old.votes }
     {
@@ -55,11 +60,11 @@ impl<S: Scheme<D>, L: Elector<S>, D: Digest> Member<S, L, D> {
         Ok(is_held)
     }
 
-    /// Whether another parent can be built on and the captured one no longer: then the request in the view is closed, so that it
-    /// can be asked for again.
+    /// Returns whether another parent can be built on and the captured one no longer. If so, closes the request in the
+    /// view, so that it can be made again.
     ///
-    /// `NotAllowed` where no request is open in the view.
-    #[tactic(auto, unfolding(crate::specs::Lives::IsCall))]
+    /// Returns `NotAllowed` if no request is open in the view.
+    #[tactic(auto, unfolding(crate::specs::MemberFacts::IsCall))]
     pub fn supersede_proposal_request(&mut self, view: View) -> Result<bool, Refusal>
         ensures made { IsCall D.eq L.elect self.old.facts (SupersedeProposalRequest view)
             (told_of (λ is_superseded. Answered is_superseded) result) self.new.facts }
@@ -81,16 +86,19 @@ impl<S: Scheme<D>, L: Elector<S>, D: Digest> Member<S, L, D> {
         Ok(is_superseded)
     }
 
-    /// Why a handoff that is being built in a view is to be given up, or none where it may go on.
+    /// Returns why a handoff that is being built in a view must be abandoned, or `None` if it may continue.
     ///
-    /// `NotAllowed` where no request is open in the view.
-    #[tactic(auto, unfolding(crate::specs::Lives::IsCall))]
+    /// Returns `NotAllowed` if no request is open in the view.
+    #[tactic(auto, unfolding(crate::specs::MemberFacts::IsCall))]
     pub fn pending_handoff_abandonment(
         &mut self,
         view: View,
     ) -> Result<Option<HandoffAbandonedReason>, Refusal>
-        ensures made { IsCall D.eq L.elect self.old.facts (PendingHandoffAbandonment view) (told_of (λ reason. Abandoned reason) result) self.new.facts }
-        ensures answered { IfOk result (λ reason. IsAnswered D.eq L.elect self.old.facts (PendingHandoffAbandonment view) (Abandoned reason) self.new.facts) }
+        ensures made { IsCall D.eq L.elect self.old.facts (PendingHandoffAbandonment view)
+            (told_of (λ reason. Abandoned reason) result) self.new.facts }
+        ensures answered { IfOk result
+            (λ reason. IsAnswered D.eq L.elect self.old.facts (PendingHandoffAbandonment view) (Abandoned reason)
+            self.new.facts) }
         ensures kept { IfErr result (λ refusal. UnchangedButLifetime self.old.facts refusal self.new.facts) }
         ensures votes { self.new.votes ≡ self.old.votes }
     {
@@ -103,12 +111,15 @@ impl<S: Scheme<D>, L: Elector<S>, D: Digest> Member<S, L, D> {
         Ok(self.state.pending_handoff_abandonment(context)?)
     }
 
-    /// Closes the request to build in a view, so that it can be asked for again while no proposal is held there. Answers whether
+    /// Closes the request to build in a view, so that it can be made again while no proposal is held there. Returns whether
     /// one was open.
-    #[tactic(auto, unfolding(crate::specs::Lives::IsCall))]
+    #[tactic(auto, unfolding(crate::specs::MemberFacts::IsCall))]
     pub fn release_proposal_request(&mut self, view: View) -> Result<bool, Refusal>
-        ensures made { IsCall D.eq L.elect self.old.facts (ReleaseProposalRequest view) (told_of (λ was_open. Released was_open) result) self.new.facts }
-        ensures answered { IfOk result (λ was_open. IsAnswered D.eq L.elect self.old.facts (ReleaseProposalRequest view) (Released was_open) self.new.facts) }
+        ensures made { IsCall D.eq L.elect self.old.facts (ReleaseProposalRequest view)
+            (told_of (λ was_open. Released was_open) result) self.new.facts }
+        ensures answered { IfOk result
+            (λ was_open. IsAnswered D.eq L.elect self.old.facts (ReleaseProposalRequest view) (Released was_open)
+            self.new.facts) }
         ensures kept { IfErr result (λ refusal. UnchangedButLifetime self.old.facts refusal self.new.facts) }
         ensures votes { self.new.votes ≡ self.old.votes }
     {

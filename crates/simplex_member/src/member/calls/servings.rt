@@ -1,4 +1,4 @@
-//! The calls that hand out certificates or drop views, each as a method.
+//! The calls that return certificates or drop views, each as a method.
 
 ghost use Rattle.std.specs.Prelude.{◌≡◌, option_map, OnOk, IsNone, IfOk, IfErr};
 ghost use Rattle.simplex_types.specs.Certificates.{certificate_facts};
@@ -15,22 +15,25 @@ use crate::member::refusal::{Refusal, is_lost};
 use simplex_types::types::{Certificate, Digest, Elector, Fault, Scheme, View};
 
 impl<S: Scheme<D>, L: Elector<S>, D: Digest> Member<S, L, D> {
-    /// The notarization of a view, if it is there and was not handed out or replayed before.
+    /// Returns the notarization of a view for broadcast, unless it is missing or was returned or replayed before.
     ///
-    /// `OutOfMemory`, never where there is none.
-    #[tactic(auto, unfolding(crate::specs::Lives::IsCall))]
+    /// Returns `OutOfMemory`, but never if there is none to return.
+    #[tactic(auto, unfolding(crate::specs::MemberFacts::IsCall))]
     pub fn broadcast_notarization(
         &mut self,
         view: View,
     ) -> Result<Option<Certificate<S, D>>, Refusal>
         ensures made { IsCall D.eq L.elect self.old.facts (BroadcastNotarization view)
-            (told_of (λ certificate. Returned (option_map (certificate_facts S.certificate_bytes) certificate)) result) self.new.facts }
-        ensures answered { IfOk result (λ certificate. IsAnswered D.eq L.elect self.old.facts (BroadcastNotarization view)
+            (told_of (λ certificate. Returned (option_map (certificate_facts S.certificate_bytes) certificate)) result)
+            self.new.facts }
+        ensures answered { IfOk result
+            (λ certificate. IsAnswered D.eq L.elect self.old.facts (BroadcastNotarization view)
             (Returned (option_map (certificate_facts S.certificate_bytes) certificate)) self.new.facts) }
         ensures kept { IfErr result (λ refusal. UnchangedButLifetime self.old.facts refusal self.new.facts) }
         ensures votes { self.new.votes ≡ self.old.votes }
         ensures once { OnOk result (HasNoneLeft broadcast_notarization_answer self.new.facts view) }
-        ensures none_left { HasNoneLeft broadcast_notarization_answer self.old.facts view → IfOk result (λ certificate. IsNone certificate) }
+        ensures none_left { HasNoneLeft broadcast_notarization_answer self.old.facts view
+            → IfOk result (λ certificate. IsNone certificate) }
     {
         if self.failed {
             return Err(Refusal::Fault(Fault::Failed));
@@ -40,22 +43,25 @@ impl<S: Scheme<D>, L: Elector<S>, D: Digest> Member<S, L, D> {
         made.map_err(Refusal::Fault)
     }
 
-    /// The nullification of a view, if it is there and was not handed out or replayed before.
+    /// Returns the nullification of a view for broadcast, unless it is missing or was returned or replayed before.
     ///
-    /// `OutOfMemory`, never where there is none.
-    #[tactic(auto, unfolding(crate::specs::Lives::IsCall))]
+    /// Returns `OutOfMemory`, but never if there is none to return.
+    #[tactic(auto, unfolding(crate::specs::MemberFacts::IsCall))]
     pub fn broadcast_nullification(
         &mut self,
         view: View,
     ) -> Result<Option<Certificate<S, D>>, Refusal>
         ensures made { IsCall D.eq L.elect self.old.facts (BroadcastNullification view)
-            (told_of (λ certificate. Returned (option_map (certificate_facts S.certificate_bytes) certificate)) result) self.new.facts }
-        ensures answered { IfOk result (λ certificate. IsAnswered D.eq L.elect self.old.facts (BroadcastNullification view)
+            (told_of (λ certificate. Returned (option_map (certificate_facts S.certificate_bytes) certificate)) result)
+            self.new.facts }
+        ensures answered { IfOk result
+            (λ certificate. IsAnswered D.eq L.elect self.old.facts (BroadcastNullification view)
             (Returned (option_map (certificate_facts S.certificate_bytes) certificate)) self.new.facts) }
         ensures kept { IfErr result (λ refusal. UnchangedButLifetime self.old.facts refusal self.new.facts) }
         ensures votes { self.new.votes ≡ self.old.votes }
         ensures once { OnOk result (HasNoneLeft broadcast_nullification_answer self.new.facts view) }
-        ensures none_left { HasNoneLeft broadcast_nullification_answer self.old.facts view → IfOk result (λ certificate. IsNone certificate) }
+        ensures none_left { HasNoneLeft broadcast_nullification_answer self.old.facts view
+            → IfOk result (λ certificate. IsNone certificate) }
     {
         if self.failed {
             return Err(Refusal::Fault(Fault::Failed));
@@ -65,22 +71,25 @@ impl<S: Scheme<D>, L: Elector<S>, D: Digest> Member<S, L, D> {
         made.map_err(Refusal::Fault)
     }
 
-    /// The finalization of a view, if it is there and was not handed out or replayed before.
+    /// Returns the finalization of a view for broadcast, unless it is missing or was returned or replayed before.
     ///
-    /// `OutOfMemory`, never where there is none.
-    #[tactic(auto, unfolding(crate::specs::Lives::IsCall))]
+    /// Returns `OutOfMemory`, but never if there is none to return.
+    #[tactic(auto, unfolding(crate::specs::MemberFacts::IsCall))]
     pub fn broadcast_finalization(
         &mut self,
         view: View,
     ) -> Result<Option<Certificate<S, D>>, Refusal>
         ensures made { IsCall D.eq L.elect self.old.facts (BroadcastFinalization view)
-            (told_of (λ certificate. Returned (option_map (certificate_facts S.certificate_bytes) certificate)) result) self.new.facts }
-        ensures answered { IfOk result (λ certificate. IsAnswered D.eq L.elect self.old.facts (BroadcastFinalization view)
+            (told_of (λ certificate. Returned (option_map (certificate_facts S.certificate_bytes) certificate)) result)
+            self.new.facts }
+        ensures answered { IfOk result
+            (λ certificate. IsAnswered D.eq L.elect self.old.facts (BroadcastFinalization view)
             (Returned (option_map (certificate_facts S.certificate_bytes) certificate)) self.new.facts) }
         ensures kept { IfErr result (λ refusal. UnchangedButLifetime self.old.facts refusal self.new.facts) }
         ensures votes { self.new.votes ≡ self.old.votes }
         ensures once { OnOk result (HasNoneLeft broadcast_finalization_answer self.new.facts view) }
-        ensures none_left { HasNoneLeft broadcast_finalization_answer self.old.facts view → IfOk result (λ certificate. IsNone certificate) }
+        ensures none_left { HasNoneLeft broadcast_finalization_answer self.old.facts view
+            → IfOk result (λ certificate. IsNone certificate) }
     {
         if self.failed {
             return Err(Refusal::Fault(Fault::Failed));
@@ -90,13 +99,14 @@ impl<S: Scheme<D>, L: Elector<S>, D: Digest> Member<S, L, D> {
         made.map_err(Refusal::Fault)
     }
 
-    /// A copy of the certificate that helps others into the current view; none in view 1.
+    /// Returns a copy of the certificate that helps others into the current view; `None` in view 1.
     ///
-    /// `OutOfMemory`, with nothing changed, and never where there is none.
-    #[tactic(auto, unfolding(crate::specs::Lives::IsCall))]
+    /// Returns `OutOfMemory` with nothing changed, and never if there is none to return.
+    #[tactic(auto, unfolding(crate::specs::MemberFacts::IsCall))]
     pub fn get_best_certificate(&mut self) -> Result<Option<Certificate<S, D>>, Refusal>
         ensures made { IsCall D.eq L.elect self.old.facts GetBestCertificate
-            (told_of (λ certificate. Returned (option_map (certificate_facts S.certificate_bytes) certificate)) result) self.new.facts }
+            (told_of (λ certificate. Returned (option_map (certificate_facts S.certificate_bytes) certificate)) result)
+            self.new.facts }
         ensures answered { IfOk result (λ certificate. IsAnswered D.eq L.elect self.old.facts GetBestCertificate
             (Returned (option_map (certificate_facts S.certificate_bytes) certificate)) self.new.facts) }
         ensures kept { IfErr result (λ refusal. UnchangedButLifetime self.old.facts refusal self.new.facts) }
@@ -108,13 +118,15 @@ impl<S: Scheme<D>, L: Elector<S>, D: Digest> Member<S, L, D> {
         Ok(self.state.get_best_certificate()?)
     }
 
-    /// Drops the rounds below the lowest view that is kept, and answers their views, rising. The record stays.
+    /// Drops the rounds below the lowest retained view, and returns their views, rising. The record stays.
     ///
-    /// `OutOfMemory`.
-    #[tactic(auto, unfolding(crate::specs::Lives::IsCall))]
+    /// Returns `OutOfMemory`.
+    #[tactic(auto, unfolding(crate::specs::MemberFacts::IsCall))]
     pub fn prune(&mut self) -> Result<Vec<View>, Refusal>
-        ensures made { IsCall D.eq L.elect self.old.facts Prune (told_of (λ views. Dropped views.items) result) self.new.facts }
-        ensures answered { IfOk result (λ views. IsAnswered D.eq L.elect self.old.facts Prune (Dropped views.items) self.new.facts) }
+        ensures made { IsCall D.eq L.elect self.old.facts Prune
+            (told_of (λ views. Dropped views.items) result) self.new.facts }
+        ensures answered { IfOk result
+            (λ views. IsAnswered D.eq L.elect self.old.facts Prune (Dropped views.items) self.new.facts) }
         ensures kept { IfErr result (λ refusal. UnchangedButLifetime self.old.facts refusal self.new.facts) }
         ensures votes { self.new.votes ≡ self.old.votes }
     {

@@ -11,18 +11,22 @@ use simplex_types::reasons::TimeoutReason;
 use simplex_types::types::{Digest, Elector, Fault, Scheme, View};
 
 impl<S: Scheme<D>, L: Elector<S>, D: Digest> Member<S, L, D> {
-    /// Times a view out at its next poll, for a reason that the state doesn't see by itself and at a moment in milliseconds.
-    /// Answers whether this timeout is the one that counts from now on: nothing changes but the last moment where the view is
-    /// passed, isn't tracked, has such a timeout, or was voted on, or where a proposal without conflict contradicts `Inactivity`.
-    #[tactic(auto, unfolding(crate::specs::Lives::IsCall))]
+    /// Times a view out at its next poll, for a reason that the state doesn't see by itself and at a moment in
+    /// milliseconds. Returns whether this timeout is the one that counts from now on. Only the last moment changes if the
+    /// view is passed, isn't tracked, has such a timeout, or was voted on, or if a proposal without conflict contradicts
+    /// `Inactivity`.
+    #[tactic(auto, unfolding(crate::specs::MemberFacts::IsCall))]
     pub fn trigger_timeout(
         &mut self,
         view: View,
         reason: TimeoutReason,
         now: u64,
     ) -> Result<bool, Refusal>
-        ensures made { IsCall D.eq L.elect self.old.facts (TriggerTimeout view reason now) (told_of (λ latched. Triggered latched) result) self.new.facts }
-        ensures answered { IfOk result (λ latched. IsAnswered D.eq L.elect self.old.facts (TriggerTimeout view reason now) (Triggered latched) self.new.facts) }
+        ensures made { IsCall D.eq L.elect self.old.facts (TriggerTimeout view reason now)
+            (told_of (λ latched. Triggered latched) result) self.new.facts }
+        ensures answered { IfOk result
+            (λ latched. IsAnswered D.eq L.elect self.old.facts (TriggerTimeout view reason now) (Triggered latched)
+            self.new.facts) }
         ensures kept { IfErr result (λ refusal. UnchangedButLifetime self.old.facts refusal self.new.facts) }
         ensures votes { self.new.votes ≡ self.old.votes }
     {
@@ -32,13 +36,16 @@ impl<S: Scheme<D>, L: Elector<S>, D: Digest> Member<S, L, D> {
         Ok(self.state.trigger_timeout(view, reason, now)?)
     }
 
-    /// The moment of the current view's next timeout, in milliseconds, and its reason.
+    /// Returns the moment of the current view's next timeout, in milliseconds, and its reason.
     ///
-    /// `NotAllowed` where the current view has no timeout. `TimeOverflow` where the moment of a repeat passes 2^64 - 1.
-    #[tactic(auto, unfolding(crate::specs::Lives::IsCall))]
+    /// Returns `NotAllowed` if the current view has no timeout, `TimeOverflow` if the moment of a repeat passes 2^64 - 1.
+    #[tactic(auto, unfolding(crate::specs::MemberFacts::IsCall))]
     pub fn next_timeout(&mut self, now: u64) -> Result<(u64, TimeoutReason), Refusal>
-        ensures made { IsCall D.eq L.elect self.old.facts (NextTimeout now) (told_of (λ timeout. TimesOut (Some timeout)) result) self.new.facts }
-        ensures answered { IfOk result (λ timeout. IsAnswered D.eq L.elect self.old.facts (NextTimeout now) (TimesOut (Some timeout)) self.new.facts) }
+        ensures made { IsCall D.eq L.elect self.old.facts (NextTimeout now)
+            (told_of (λ timeout. TimesOut (Some timeout)) result) self.new.facts }
+        ensures answered { IfOk result
+            (λ timeout. IsAnswered D.eq L.elect self.old.facts (NextTimeout now) (TimesOut (Some timeout))
+            self.new.facts) }
         ensures kept { IfErr result (λ refusal. UnchangedButLifetime self.old.facts refusal self.new.facts) }
         ensures votes { self.new.votes ≡ self.old.votes }
     {

@@ -12,15 +12,18 @@ use simplex_types::types::{Digest, Elector, Fault, Proposal, Scheme, View};
 use simplex_voter::voter::Verify;
 
 impl<S: Scheme<D>, L: Elector<S>, D: Digest> Member<S, L, D> {
-    /// Takes a proposal of the view's leader. Answers whether it is to be verified: it is the first of its view, and nullify was
-    /// not decided there. One that differs from the first is kept out, and the view counts as equivocated.
+    /// Accepts a proposal of the view's leader. Returns whether it is to be verified: it is the first of its view, and
+    /// nullify was not decided there. One that differs from the first is not stored, and the view counts as equivocated.
     ///
-    /// `NotAllowed` where it is of another epoch or view, or of a view that is not kept. `ViewTooLarge` where its view or its
-    /// parent's is above 2^63 - 1; `OutOfMemory`.
-    #[tactic(auto, unfolding(crate::specs::Lives::IsCall))]
+    /// Returns `NotAllowed` if it is of another epoch or view, or of a view that is not retained, `ViewTooLarge` if its
+    /// view or its parent's is above 2^63 - 1; `OutOfMemory`.
+    #[tactic(auto, unfolding(crate::specs::MemberFacts::IsCall))]
     pub fn set_proposal(&mut self, view: View, proposal: Proposal<D>) -> Result<bool, Refusal>
-        ensures made { IsCall D.eq L.elect self.old.facts (SetProposal view proposal) (told_of (λ is_new. Answered is_new) result) self.new.facts }
-        ensures answered { IfOk result (λ is_new. IsAnswered D.eq L.elect self.old.facts (SetProposal view proposal) (Answered is_new) self.new.facts) }
+        ensures made { IsCall D.eq L.elect self.old.facts (SetProposal view proposal)
+            (told_of (λ is_new. Answered is_new) result) self.new.facts }
+        ensures answered { IfOk result
+            (λ is_new. IsAnswered D.eq L.elect self.old.facts (SetProposal view proposal) (Answered is_new)
+            self.new.facts) }
         ensures kept { IfErr result (λ refusal. UnchangedButLifetime self.old.facts refusal self.new.facts) }
         ensures votes { self.new.votes ≡ self.old.votes }
     {
@@ -35,14 +38,16 @@ impl<S: Scheme<D>, L: Elector<S>, D: Digest> Member<S, L, D> {
         made.map_err(Refusal::Fault)
     }
 
-    /// What comes next in verifying the proposals of other leaders: a proposal, a certificate that is missing, or nothing. A
-    /// proposal is open until `verified` or `verification_failed`.
+    /// Returns the next step in verifying the proposals of other leaders: a proposal, a certificate that is missing, or
+    /// nothing. A proposal is open until `verified` or `verification_failed`.
     ///
-    /// `OutOfMemory`, with nothing changed: room for the verification is made before the state is asked.
-    #[tactic(auto, unfolding(crate::specs::Lives::IsCall))]
+    /// Returns `OutOfMemory` with nothing changed: the member makes room for the verification before it asks the state.
+    #[tactic(auto, unfolding(crate::specs::MemberFacts::IsCall))]
     pub fn try_verify(&mut self) -> Result<Verify<D, S::PublicKey>, Refusal>
-        ensures made { IsCall D.eq L.elect self.old.facts TryVerify (told_of (λ verify. Standing verify) result) self.new.facts }
-        ensures answered { IfOk result (λ verify. IsAnswered D.eq L.elect self.old.facts TryVerify (Standing verify) self.new.facts) }
+        ensures made { IsCall D.eq L.elect self.old.facts TryVerify
+            (told_of (λ verify. Standing verify) result) self.new.facts }
+        ensures answered { IfOk result
+            (λ verify. IsAnswered D.eq L.elect self.old.facts TryVerify (Standing verify) self.new.facts) }
         ensures kept { IfErr result (λ refusal. UnchangedButLifetime self.old.facts refusal self.new.facts) }
         ensures votes { self.new.votes ≡ self.old.votes }
     {
@@ -55,14 +60,16 @@ impl<S: Scheme<D>, L: Elector<S>, D: Digest> Member<S, L, D> {
         Ok(verify)
     }
 
-    /// The application found the view's proposal valid. Answers whether it is marked so: not where nullify was decided, another
-    /// proposal was seen, or what it is bound to no longer holds.
+    /// Reports that the application found the view's proposal valid. Returns whether it is now marked valid: not if nullify
+    /// was decided, another proposal was seen, or its binding no longer holds.
     ///
-    /// `NotAllowed` where no proposal of the view is being verified.
-    #[tactic(auto, unfolding(crate::specs::Lives::IsCall))]
+    /// Returns `NotAllowed` if no proposal of the view is being verified.
+    #[tactic(auto, unfolding(crate::specs::MemberFacts::IsCall))]
     pub fn verified(&mut self, view: View) -> Result<bool, Refusal>
-        ensures made { IsCall D.eq L.elect self.old.facts (Verified view) (told_of (λ is_marked. Answered is_marked) result) self.new.facts }
-        ensures answered { IfOk result (λ is_marked. IsAnswered D.eq L.elect self.old.facts (Verified view) (Answered is_marked) self.new.facts) }
+        ensures made { IsCall D.eq L.elect self.old.facts (Verified view)
+            (told_of (λ is_marked. Answered is_marked) result) self.new.facts }
+        ensures answered { IfOk result
+            (λ is_marked. IsAnswered D.eq L.elect self.old.facts (Verified view) (Answered is_marked) self.new.facts) }
         ensures kept { IfErr result (λ refusal. UnchangedButLifetime self.old.facts refusal self.new.facts) }
         ensures votes { self.new.votes ≡ self.old.votes }
     {
@@ -77,19 +84,21 @@ impl<S: Scheme<D>, L: Elector<S>, D: Digest> Member<S, L, D> {
         Ok(is_marked)
     }
 
-    /// The application refused the view's proposal, or could not verify it: the view times out at its next poll, for this reason
-    /// and at this moment in milliseconds, unless what it is bound to no longer holds.
+    /// Reports that the application refused the view's proposal, or could not verify it. The view times out at its next
+    /// poll, for this reason and at this moment in milliseconds, unless the proposal's binding no longer holds.
     ///
-    /// `NotAllowed` where no proposal of the view is being verified.
-    #[tactic(auto, unfolding(crate::specs::Lives::IsCall))]
+    /// Returns `NotAllowed` if no proposal of the view is being verified.
+    #[tactic(auto, unfolding(crate::specs::MemberFacts::IsCall))]
     pub fn verification_failed(
         &mut self,
         view: View,
         reason: TimeoutReason,
         now: u64,
     ) -> Result<(), Refusal>
-        ensures made { IsCall D.eq L.elect self.old.facts (VerificationFailed view reason now) (told_of (λ _. Done) result) self.new.facts }
-        ensures answered { IfOk result (λ _. IsAnswered D.eq L.elect self.old.facts (VerificationFailed view reason now) Done self.new.facts) }
+        ensures made { IsCall D.eq L.elect self.old.facts (VerificationFailed view reason now)
+            (told_of (λ _. Done) result) self.new.facts }
+        ensures answered { IfOk result
+            (λ _. IsAnswered D.eq L.elect self.old.facts (VerificationFailed view reason now) Done self.new.facts) }
         ensures kept { IfErr result (λ refusal. UnchangedButLifetime self.old.facts refusal self.new.facts) }
         ensures votes { self.new.votes ≡ self.old.votes }
     {

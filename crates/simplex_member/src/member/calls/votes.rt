@@ -16,18 +16,21 @@ use simplex_types::reasons::TimeoutReason;
 use simplex_types::types::{Digest, Elector, Fault, Finalize, Notarize, Nullify, Scheme, View};
 
 impl<S: Scheme<D>, L: Elector<S>, D: Digest> Member<S, L, D> {
-    /// The vote to notarize what a view holds, where the rule allows it: recorded before it is answered, and answered once.
+    /// Returns the vote to notarize the held proposal of a view, if the rule allows it. The vote is recorded before it is
+    /// returned, and returned once.
     ///
-    /// `OutOfMemory`: nothing is answered that the record doesn't hold.
-    #[tactic(auto, unfolding(crate::specs::Lives::IsCall))]
+    /// Returns `OutOfMemory`: no vote is returned that the record doesn't hold.
+    #[tactic(auto, unfolding(crate::specs::MemberFacts::IsCall))]
     pub fn construct_notarize(&mut self, view: View) -> Result<Option<Notarize<S, D>>, Refusal>
         ensures made { IsCall D.eq L.elect self.old.facts (ConstructNotarize view)
             (told_of (λ vote. told.Notarize (reply_notarize vote)) result) self.new.facts }
         ensures answered { IfOk result (λ vote. IsAnswered D.eq L.elect self.old.facts (ConstructNotarize view)
             (told.Notarize (reply_notarize vote)) self.new.facts) }
         ensures kept { IfErr result (λ refusal. UnchangedButLifetime self.old.facts refusal self.new.facts) }
-        ensures signed { IfOk result (λ vote. IfSome self.old.facts.life (IsSignedReply S.IsSignature (reply.Notarize vote))) }
-        ensures recorded { IfOk result (λ vote. self.new.facts.entries ≡ self.old.facts.entries ++ vote_entry (reply_notarize vote)) }
+        ensures signed { IfOk result
+            (λ vote. IfSome self.old.facts.life (IsSignedReply S.IsSignature (reply.Notarize vote))) }
+        ensures recorded { IfOk result
+            (λ vote. self.new.facts.entries ≡ self.old.facts.entries ++ vote_entry (reply_notarize vote)) }
         ensures votes { IfOk result (λ vote. self.new.votes ≡ self.old.votes ++ signed_notarize vote) }
         ensures same_votes { OnErr result (self.new.votes ≡ self.old.votes) }
         ensures decided { IfOk result (λ vote. IfSome vote (λ _. HasNotarizeVote self.new.facts view)) }
@@ -43,11 +46,11 @@ impl<S: Scheme<D>, L: Elector<S>, D: Digest> Member<S, L, D> {
         kept.map_err(Refusal::Fault)
     }
 
-    /// The vote to nullify the current view, unless it was voted to finalize it, with whether it is a repeat: recorded before it is
-    /// first answered. The reason has no effect.
+    /// Returns the vote to nullify the current view, unless this member voted to finalize it, and whether it is a repeat.
+    /// The vote is recorded before it is first returned. The reason has no effect.
     ///
-    /// `OutOfMemory`: nothing is answered that the record doesn't hold.
-    #[tactic(auto, unfolding(crate::specs::Lives::IsCall))]
+    /// Returns `OutOfMemory`: no vote is returned that the record doesn't hold.
+    #[tactic(auto, unfolding(crate::specs::MemberFacts::IsCall))]
     pub fn construct_nullify(
         &mut self,
         view: View,
@@ -58,8 +61,10 @@ impl<S: Scheme<D>, L: Elector<S>, D: Digest> Member<S, L, D> {
         ensures answered { IfOk result (λ vote. IsAnswered D.eq L.elect self.old.facts (ConstructNullify view)
             (told.Nullify (reply_nullify vote)) self.new.facts) }
         ensures kept { IfErr result (λ refusal. UnchangedButLifetime self.old.facts refusal self.new.facts) }
-        ensures signed { IfOk result (λ vote. IfSome self.old.facts.life (IsSignedReply S.IsSignature (reply.Nullify vote))) }
-        ensures recorded { IfOk result (λ vote. self.new.facts.entries ≡ self.old.facts.entries ++ unrepeated_vote (reply_nullify vote)) }
+        ensures signed { IfOk result
+            (λ vote. IfSome self.old.facts.life (IsSignedReply S.IsSignature (reply.Nullify vote))) }
+        ensures recorded { IfOk result
+            (λ vote. self.new.facts.entries ≡ self.old.facts.entries ++ unrepeated_vote (reply_nullify vote)) }
         ensures votes { IfOk result (λ vote. self.new.votes ≡ self.old.votes ++ signed_nullify vote) }
         ensures same_votes { OnErr result (self.new.votes ≡ self.old.votes) }
         ensures decided { IfOk result (λ vote. IfSome vote (λ _. HasNullifyVote self.new.facts view)) }
@@ -75,18 +80,21 @@ impl<S: Scheme<D>, L: Elector<S>, D: Digest> Member<S, L, D> {
         kept.map_err(Refusal::Fault)
     }
 
-    /// The vote to finalize a certified view, where the rule allows it: recorded before it is answered, and answered once.
+    /// Returns the vote to finalize a certified view, if the rule allows it. The vote is recorded before it is returned,
+    /// and returned once.
     ///
-    /// `OutOfMemory`: nothing is answered that the record doesn't hold.
-    #[tactic(auto, unfolding(crate::specs::Lives::IsCall))]
+    /// Returns `OutOfMemory`: no vote is returned that the record doesn't hold.
+    #[tactic(auto, unfolding(crate::specs::MemberFacts::IsCall))]
     pub fn construct_finalize(&mut self, view: View) -> Result<Option<Finalize<S, D>>, Refusal>
         ensures made { IsCall D.eq L.elect self.old.facts (ConstructFinalize view)
             (told_of (λ vote. told.Finalize (reply_finalize vote)) result) self.new.facts }
         ensures answered { IfOk result (λ vote. IsAnswered D.eq L.elect self.old.facts (ConstructFinalize view)
             (told.Finalize (reply_finalize vote)) self.new.facts) }
         ensures kept { IfErr result (λ refusal. UnchangedButLifetime self.old.facts refusal self.new.facts) }
-        ensures signed { IfOk result (λ vote. IfSome self.old.facts.life (IsSignedReply S.IsSignature (reply.Finalize vote))) }
-        ensures recorded { IfOk result (λ vote. self.new.facts.entries ≡ self.old.facts.entries ++ vote_entry (reply_finalize vote)) }
+        ensures signed { IfOk result
+            (λ vote. IfSome self.old.facts.life (IsSignedReply S.IsSignature (reply.Finalize vote))) }
+        ensures recorded { IfOk result
+            (λ vote. self.new.facts.entries ≡ self.old.facts.entries ++ vote_entry (reply_finalize vote)) }
         ensures votes { IfOk result (λ vote. self.new.votes ≡ self.old.votes ++ signed_finalize vote) }
         ensures same_votes { OnErr result (self.new.votes ≡ self.old.votes) }
         ensures decided { IfOk result (λ vote. IfSome vote (λ _. HasFinalizeVote self.new.facts view)) }

@@ -1,4 +1,4 @@
--- How the contract of `read_line` follows: the parts so far stand in the line and have no feed, and each part ends the line or goes on.
+-- How the contract of `read_line` follows: the parts so far are in the line and have no feed, and each part ends the line or continues it.
 use Rattle.std.proofs.Common.{[], ◌∷◌, length, ap, arith}
 use Rattle.std.specs.Io.Buffered.{reader_remaining}
 use Rattle.std.proofs.lemmas.List.{length-append}

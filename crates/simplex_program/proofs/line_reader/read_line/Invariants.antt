@@ -1,4 +1,4 @@
--- The loop of `read_line`: the bytes that are read stand in the line, and have no feed among them; each part has one at least.
+-- The loop of `read_line`: the bytes that are read are in the line, and have no feed among them; each part has at least one.
 use Rattle.std.proofs.Common.{◌<◌, ◌≤◌, length}
 use Rattle.std.specs.Io.Buffered.{reader_remaining}
 use Rattle.std.specs.Io.KnownBytes.{Consumes}

@@ -1,5 +1,5 @@
--- How the contract of `serve` follows: the reader begins with an empty buffer, so all that remains is what its source holds; the
--- lines so far are served, one more is served behind them, and each end is one of the definition.
+-- How the contract of `serve` follows: the reader begins with an empty buffer, so all that remains is what its source has; the lines so far
+-- are served, one more is served after them, and each end is one of the definition.
 use Rattle.std.proofs.Common.{refl, arith, inr}
 use Rattle.std.proofs.lemmas.Result.{err_from_is_err_and}
 use Rattle.std.specs.Io.Buffered.{reader_remaining}

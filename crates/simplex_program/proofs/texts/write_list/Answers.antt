@@ -1,4 +1,4 @@
--- How the contract of `write_list` follows: the word stands first, and each view behind a space.
+-- How the contract of `write_list` follows: the word comes first, and each view after a space.
 use Rattle.std.proofs.Common.{refl}
 use Rattle.std.proofs.Output.{has_written_append, has_written_of_eq}
 use Rattle.std.specs.Fmt.{decimal}

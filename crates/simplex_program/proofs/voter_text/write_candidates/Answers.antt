@@ -1,4 +1,4 @@
--- How the contract of `write_candidates` follows: the word stands first, then the offers, then the fetches.
+-- How the contract of `write_candidates` follows: the word comes first, then the offers, then the fetches.
 use Rattle.std.proofs.Common.{codes, refl}
 use Rattle.std.proofs.Output.{has_written_append, has_written_of_eq}
 use Rattle.simplex_program.specs.VoterText.{offer_word, fetch_word}

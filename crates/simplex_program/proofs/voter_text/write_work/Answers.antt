@@ -1,4 +1,4 @@
--- How the contract of `write_work` follows: the context stands first, and behind it the number of the payload.
+-- How the contract of `write_work` follows: the context comes first, and after it the number of the payload.
 use Rattle.std.proofs.Common.{[], ◌∷◌, codes, refl}
 use Rattle.std.proofs.Output.{has_written_append, has_written_of_eq}
 use Rattle.std.specs.Fmt.{decimal}

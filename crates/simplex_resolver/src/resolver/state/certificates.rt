@@ -1,4 +1,4 @@
-//! What a certificate changes, and the scan behind it.
+//! The effects of a certificate, and the scan after it.
 
 ghost use Rattle.std.specs.Prelude.{◌≡◌, ◌^◌, ◌<◌, ◌≤◌, ◌++◌, IfOk, OnOk, OnErr};
 ghost use Rattle.simplex_types.specs.Terms.{IsVotable};
@@ -15,7 +15,7 @@ use simplex_types::reasons::Kind;
 use simplex_types::types::{Certificate, CertificateScheme, Digest, Fault, View, Viewable};
 
 impl State {
-    /// Scans on from where the last scan ended, unless the replay goes on.
+    /// Continues the scan from where the last one ended, unless the replay is not over.
     pub(super) fn fetch_missing(
         &mut self,
         cause: View,
@@ -40,7 +40,7 @@ impl State {
         Ok(())
     }
 
-    /// The floor rises to the view, if it is higher.
+    /// Raises the floor to the view, if that is higher.
     pub(super) fn raise(&mut self, floor: View, effects: &mut Vec<Effect>) -> Result<(), Fault>
         requires { floor < 2 ^ 63 }
         ensures after { OnOk result (self.new ≡ after_raise self.old floor) }
@@ -66,7 +66,9 @@ impl State {
         effects: &mut Vec<Effect>,
     ) -> Result<(), Fault>
         requires { IsVotable view }
-        ensures after { OnOk result (self.new ≡ after_nullification self.old view (encoding D.bytes (certificate_facts S.certificate_bytes certificate.now))) }
+        ensures after { OnOk result
+            (self.new ≡ after_nullification self.old view
+            (encoding D.bytes (certificate_facts S.certificate_bytes certificate.now))) }
         ensures settled { OnOk result (effects.new.items ≡ effects.old.items ++ nullification_effects self.old view) }
         ensures same_terms { term_length self.new ≡ term_length self.old }
     {
@@ -107,7 +109,7 @@ impl State {
         Ok(())
     }
 
-    /// The current view and the highest finalization take the certificate in.
+    /// Updates the current view and the highest finalization by the certificate.
     fn store_finalization<S: CertificateScheme, D: Digest>(
         &mut self,
         view: View,
@@ -115,7 +117,8 @@ impl State {
     ) -> Result<(), Fault>
         requires { view < 2 ^ 63 }
         ensures after { OnOk result (self.new
-            ≡ with_stored_finalization self.old view (encoding D.bytes (certificate_facts S.certificate_bytes certificate.now))) }
+            ≡ with_stored_finalization self.old view
+            (encoding D.bytes (certificate_facts S.certificate_bytes certificate.now))) }
         ensures same_terms { term_length self.new ≡ term_length self.old }
     {
         served::store_finalization(self.alloc, &mut self.finalization, view, certificate)?;
@@ -139,7 +142,9 @@ impl State {
         effects: &mut Vec<Effect>,
     ) -> Result<(), Fault>
         requires { IsVotable view }
-        ensures after { OnOk result (self.new ≡ after_finalization self.old view (encoding D.bytes (certificate_facts S.certificate_bytes certificate.now))) }
+        ensures after { OnOk result
+            (self.new ≡ after_finalization self.old view
+            (encoding D.bytes (certificate_facts S.certificate_bytes certificate.now))) }
         ensures settled { OnOk result (effects.new.items ≡ effects.old.items ++ finalization_effects self.old view) }
         ensures same_terms { term_length self.new ≡ term_length self.old }
     {
@@ -155,8 +160,11 @@ impl State {
         certificate: &Certificate<S, D>,
     ) -> Result<Vec<Effect>, Fault>
         requires { IsVotable (certificate_view certificate.now) }
-        ensures after { OnOk result (self.new ≡ after self.old (update D.bytes (certificate_facts S.certificate_bytes certificate.now))) }
-        ensures effects { IfOk result (λ es. es.items ≡ effects self.old (update D.bytes (certificate_facts S.certificate_bytes certificate.now))) }
+        ensures after { OnOk result
+            (self.new ≡ after self.old (update D.bytes (certificate_facts S.certificate_bytes certificate.now))) }
+        ensures effects { IfOk result
+            (λ es. es.items ≡ effects self.old
+            (update D.bytes (certificate_facts S.certificate_bytes certificate.now))) }
         ensures same_terms { term_length self.new ≡ term_length self.old }
     {
         let mut effects = Vec::new(self.alloc);

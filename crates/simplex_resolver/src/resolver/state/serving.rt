@@ -1,4 +1,4 @@
-//! What a resolver answers from what it holds.
+//! The results that a resolver returns from its stored certificates.
 
 ghost use Rattle.std.specs.Prelude.{◌≡◌, ◌&&◌, IfOk, IfErr, OnErr, true, false, is_some};
 ghost use Rattle.std.specs.Option.{option_copied};
@@ -15,8 +15,8 @@ use simplex_types::reasons::Kind;
 use simplex_types::types::{Fault, View};
 
 impl State {
-    /// Whether nothing is left to ask for of the kind at the view: it is finalized, or the resolver holds
-    /// what was asked for, or a verdict has failed it.
+    /// Returns whether nothing of the kind must be fetched at the view any more: it is finalized, or the
+    /// resolver holds such a certificate, or a verdict was false.
     pub fn settled(&self, view: View, kind: Kind) -> bool
         ensures { result ≡ is_settled self.now view kind }
     {
@@ -27,14 +27,14 @@ impl State {
         view <= self.last_finalized() || is_held
     }
 
-    /// Whether a nullification covers the view.
+    /// Returns whether a nullification covers the view.
     fn is_covered(&self, view: View) -> bool
         ensures { result ≡ has_covering self.now.nullifications view }
     {
         scan::covering_nullification(&self.nullifications, view).is_some()
     }
 
-    /// Whether nothing is left to ask for at the view, of either kind.
+    /// Returns whether nothing must be fetched at the view any more, of either kind.
     pub fn key_settled(&self, view: View) -> bool
         ensures { result ≡ (is_settled self.now view OfNullification && is_settled self.now view OfNotarization) }
     {
@@ -44,26 +44,29 @@ impl State {
         self.is_covered(view) && self.notarizations.contains(view)
     }
 
-    /// Whether a verdict has failed the notarization at the view, which isn't finalized.
+    /// Returns whether a verdict on the notarization at the view was false, and the view isn't finalized.
     pub fn uncertifiable(&self, view: View) -> bool
         ensures { result ≡ map.contains_key self.now.uncertifiable view }
     {
         self.notarizations.has_failed(view)
     }
 
-    /// The encoding of the certificate to serve to a peer that asks for the view: the highest finalization
-    /// where it is at or above the view, else the certified notarization of the view, else the nullification
-    /// of the highest view that covers it, else the certified notarization at the floor where the view is
-    /// below it.
+    /// Returns the encoding of the certificate to serve to a peer that asks for the view, the first there is of:
+    /// - the highest finalization, if it is at or above the view,
+    /// - the certified notarization of the view,
+    /// - the nullification of the highest view that covers it,
+    /// - the certified notarization at the floor, if the view is below it.
     ///
     /// # Errors
     ///
-    /// `Failed` on a failed state, and `OutOfMemory`, which does not fail the state, and never comes where nothing is served.
+    /// `Failed` on a failed state, and `OutOfMemory`, which does not fail the state, and never occurs if
+    /// nothing is served.
     pub fn produce(&self, view: View) -> Result<Option<Bytes>, Fault>
         ensures served { IfOk result (λ bytes. bytes ≡ served_encoding self.now view) }
         ensures failed { self.now.is_failed ≡ true → result ≡ Err Failed }
         ensures live { self.now.is_failed ≡ false → IfErr result (λ fault. fault ≡ OutOfMemory) }
-        ensures refused_only_a_copy { self.now.is_failed ≡ false → OnErr result (is_some (served_encoding self.now view) ≡ true) }
+        ensures refused_only_a_copy { self.now.is_failed ≡ false
+            → OnErr result (is_some (served_encoding self.now view) ≡ true) }
     {
         if self.failed {
             return Err(Fault::Failed);

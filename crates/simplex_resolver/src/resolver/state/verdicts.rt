@@ -1,4 +1,4 @@
-//! What a verdict changes, and the end of the replay.
+//! The effects of a verdict, and the end of the replay.
 
 ghost use Rattle.std.specs.Prelude.{◌≡◌, ◌^◌, ◌<◌, ◌++◌, IfOk, OnOk, true, false, filter, [], ◌∷◌};
 ghost use Rattle.std.specs.FinMap as map;
@@ -20,7 +20,7 @@ use simplex_types::types::{
 };
 
 impl State {
-    /// Keeps the encoding of a certified notarization above the last finalized view.
+    /// Stores the encoding of a certified notarization above the last finalized view.
     fn store_encoding(&mut self, view: View, encoding: Bytes) -> Result<(), Fault>
         requires { last_finalized self.old < view }
         ensures after { OnOk result (self.new ≡ with_certified self.old view encoding) }
@@ -50,8 +50,11 @@ impl State {
         notarization: Notarization<S, D>,
     ) -> Result<Vec<Effect>, Fault>
         requires { IsVotable notarization.proposal.round.view }
-        ensures after { OnOk result (self.new ≡ after self.old (verdict D.bytes (notarization_facts S.certificate_bytes notarization) true)) }
-        ensures effects { IfOk result (λ es. es.items ≡ effects self.old (verdict D.bytes (notarization_facts S.certificate_bytes notarization) true)) }
+        ensures after { OnOk result
+            (self.new ≡ after self.old (verdict D.bytes (notarization_facts S.certificate_bytes notarization) true)) }
+        ensures effects { IfOk result
+            (λ es. es.items ≡ effects self.old
+            (verdict D.bytes (notarization_facts S.certificate_bytes notarization) true)) }
         ensures same_terms { term_length self.new ≡ term_length self.old }
     {
         let view = notarization.view();
@@ -85,7 +88,8 @@ impl State {
 
     fn record_failure(&mut self, view: View) -> Result<Vec<Effect>, Fault>
         ensures after { OnOk result (self.new ≡ after_failure self.old view) }
-        ensures effects { IfOk result (λ es. es.items ≡ (Settled OfNotarization view view ∷ []) ++ failure_fetches (failing self.old view)) }
+        ensures effects { IfOk result
+            (λ es. es.items ≡ (Settled OfNotarization view view ∷ []) ++ failure_fetches (failing self.old view)) }
         ensures same_terms { term_length self.new ≡ term_length self.old }
     {
         let mut effects = Vec::new(self.alloc);
@@ -112,8 +116,12 @@ impl State {
         success: bool,
     ) -> Result<Vec<Effect>, Fault>
         requires { IsVotable notarization.proposal.round.view }
-        ensures after { OnOk result (self.new ≡ after self.old (verdict D.bytes (notarization_facts S.certificate_bytes notarization) success)) }
-        ensures effects { IfOk result (λ es. es.items ≡ effects self.old (verdict D.bytes (notarization_facts S.certificate_bytes notarization) success)) }
+        ensures after { OnOk result
+            (self.new ≡ after self.old
+            (verdict D.bytes (notarization_facts S.certificate_bytes notarization) success)) }
+        ensures effects { IfOk result
+            (λ es. es.items ≡ effects self.old
+            (verdict D.bytes (notarization_facts S.certificate_bytes notarization) success)) }
         ensures same_terms { term_length self.new ≡ term_length self.old }
     {
         if success {

@@ -1,4 +1,4 @@
--- How the contract of `add_row` follows: an empty row behind full ones adds no entry, and has room.
+-- How the contract of `add_row` follows: an empty row after full ones adds no entry, and has room.
 use Rattle.std.proofs.Common.{◌≡◌, ◌-◌, ◌∙◌, ap, length, arith}
 use Rattle.std.specs.VecDeque.{deque_len}
 use Rattle.simplex_view_maps.specs.Rows.{row_entries}

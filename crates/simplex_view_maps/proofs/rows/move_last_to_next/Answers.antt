@@ -1,4 +1,4 @@
--- How the contract of `move_last_to_next` follows: the last entry of a row in front of the next row leaves all entries in order, and moves the room.
+-- How the contract of `move_last_to_next` follows: the last entry of a row, moved to the front of the next row, keeps all entries in order, and moves the room.
 use Rattle.std.proofs.Common.{◌≡◌, ◌+◌, ◌^◌, ◌<◌, suc, set, subst, ap, ◌∙◌, arith, rules}
 use Rattle.simplex_view_maps.specs.Rows.{row_entries, HasRoomAt}
 use Rattle.simplex_view_maps.proofs.CutRows.{room_within, has_room, full_before, next_row, handed_same, handed_room}

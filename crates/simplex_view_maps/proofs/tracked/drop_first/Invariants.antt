@@ -1,4 +1,4 @@
--- The loop of `drop_first`: the entries behind as many as were counted.
+-- The loop of `drop_first`: the entries after as many as were counted.
 use Rattle.std.proofs.Common.{◌≡◌, drop}
 use Rattle.simplex_view_maps.proofs.tracked.drop_first.Given as goal
 

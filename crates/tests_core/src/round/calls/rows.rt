@@ -1,4 +1,4 @@
-//! Calls of a round with the answers that are wanted.
+//! Calls of a round with the expected answers.
 
 use super::{Row, Step};
 use simplex_types::reasons::TimeoutReason;

@@ -1,4 +1,4 @@
--- That each effect is carried out behind those before it.
+-- Each effect is carried out after those before it.
 use Rattle.std.proofs.Common.{arith, ◌∙◌}
 use Rattle.engine_fetches.proofs.OutstandingFetches.{effects_more}
 use Rattle.engine_fetches.proofs.fetches.Fetches.apply.Goals as goal

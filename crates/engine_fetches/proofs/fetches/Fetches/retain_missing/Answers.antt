@@ -1,4 +1,4 @@
--- That just those which are lacking are left.
+-- Exactly those which are missing are left.
 use Rattle.std.proofs.Common.{rules}
 use Rattle.std.proofs.lemmas.Fn.{filter_same}
 use Rattle.engine_fetches.proofs.Once.{once_left}

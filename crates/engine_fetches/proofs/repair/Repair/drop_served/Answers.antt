@@ -1,4 +1,4 @@
--- That just what is lacking is asked for, and that nothing is due that was not.
+-- Exactly the missing certificates are asked for, and nothing is due that was not.
 use Rattle.std.proofs.Common.{◌≡◌, ◌≤◌, ◌∙◌, None, filter, refl, ap, sym, subst}
 use Rattle.std.specs.Prelude.{nat_le}
 use Rattle.engine_fetches.specs.Fetches.{due_at}

@@ -13,7 +13,7 @@ use Rattle.engine_outbox.specs.Outputs.{stored_in}
 use Rattle.engine_outbox.proofs.HostStops.{lawful_stops, left_stored}
 use Rattle.engine_outbox.proofs.journaled.Journaled.keeps_the_laws.Goals as goal
 
--- the last that was told is of the last finalized view
+-- the last one that was reported is of the last finalized view
 ends_last : {K L D : Type 0} (finals : List (Proposal D)) (life : Option (StateFacts K L D)) (told : ℕ) → IfSome life (λ x. told ≡ x.finalized) → EndsAt told finals
     → IfSome life (λ x. EndsAt x.finalized finals)
 ends_last finals None told last ends = tt

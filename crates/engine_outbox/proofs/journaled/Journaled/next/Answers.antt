@@ -1,4 +1,4 @@
--- That what is given out was queued in front.
+-- The returned output was the first in the queue.
 use Rattle.std.proofs.Common.{◌≡◌, ◌++◌, ap, sym, subst, ◌∙◌, append_assoc}
 use Rattle.std.specs.Prelude.{IfSome, option_to_list}
 use Rattle.engine_outbox.specs.Finalizations.{finals_in, WereAccepted}

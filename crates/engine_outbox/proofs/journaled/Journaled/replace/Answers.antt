@@ -22,7 +22,7 @@ use Rattle.engine_outbox.proofs.Signatures.{pruned_replaced, pruned_signed, sign
 use Rattle.engine_outbox.specs.Signatures.{SignsBy}
 use Rattle.engine_outbox.proofs.journaled.Journaled.replace.Goals as goal
 
--- a record that is pruned is of the same life
+-- a record that is pruned is of the same lifetime
 still_told : {K L D : Type 0} (old new : MemberFacts K L D) → new ≡ pruned_member old → (before after : ℕ) → after ≡ before
     → IfSome old.life (λ x. before ≡ x.finalized) → IfSome new.life (λ x. after ≡ x.finalized)
 still_told old new is before after same last =

@@ -1,4 +1,4 @@
--- That just what the member accepts as final is told.
+-- Exactly what the member accepts as final is reported.
 use Rattle.std.proofs.Common.{◌≡◌, [], ◌++◌, Some, refl, ap, sym, subst, ◌∙◌}
 use Rattle.std.specs.Prelude.{All, option_to_list}
 use Rattle.std.proofs.lemmas.List.Elements.{All-cons, All-nil}

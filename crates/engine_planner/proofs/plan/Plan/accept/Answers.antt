@@ -1,4 +1,4 @@
--- That the resolver is told, and the view is touched.
+-- The resolver receives it, and the view is touched.
 use Rattle.std.proofs.Common.{◌∙◌, ap, sym, subst}
 use Rattle.std.specs.Prelude.{◌==◌}
 use Rattle.engine_planner.specs.Consequences.{IsTakenInAbove}

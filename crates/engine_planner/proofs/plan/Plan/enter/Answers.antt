@@ -1,4 +1,4 @@
--- That the view is touched, and what waited for it comes behind that.
+-- The view is touched, and what waited for it comes after that.
 use Rattle.engine_planner.proofs.ViewChanges.{entered}
 use Rattle.engine_planner.proofs.PlanStates.{on_ok_both}
 use Rattle.engine_planner.proofs.plan.Plan.enter.Goals as goal

@@ -1,4 +1,4 @@
--- That the block's end is told where the application was asked for it.
+-- The block's end is reported where the application was asked for it.
 use Rattle.engine_planner.proofs.PlanStates.{on_ok, stopped}
 use Rattle.engine_planner.proofs.plan.Plan.stop_building.Goals as goal
 

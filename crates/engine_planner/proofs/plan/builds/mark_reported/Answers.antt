@@ -1,4 +1,4 @@
--- That one block more was told of.
+-- One block more was asked for.
 use Rattle.std.proofs.Common.{◌∙◌, ap, sym, arith}
 use Rattle.std.specs.Prelude.{slice_set}
 use Rattle.std.proofs.lemmas.List.Edits.{map_over_more}

@@ -1,4 +1,4 @@
--- Those so far were told of, and those that are left are as they were.
+-- Those so far were asked for, and those that are left are unchanged.
 use Rattle.std.proofs.Common.{◌≡◌, ◌++◌, drop, take, map}
 use Rattle.engine_planner.specs.Blocks.{told_by}
 use Rattle.engine_planner.proofs.plan.builds.mark_reported.Given as goal

@@ -1,4 +1,4 @@
--- That each step is queued behind those before.
+-- Each step is queued after those before.
 use Rattle.std.proofs.Common.{◌∙◌, ◌∷◌, ◌++◌, [], refl, ap, arith}
 use Rattle.engine_planner.specs.declared.plan.Step.TheVariants.{Ask}
 use Rattle.engine_planner.specs.StepSelection.{watching_one, watching_all}

@@ -1,4 +1,4 @@
--- That what a batcher holds was handed in, is good where that is, and is of members and of views up to one.
+-- What a batcher stores was passed in, is valid where that is, and is of members and of views up to one.
 use Rattle.std.proofs.Common.{length, [], ◌∷◌, ◌++◌}
 use Rattle.engine_votes.proofs.Given.{count_given}
 use Rattle.engine_votes.proofs.Good.{result_good}

@@ -1,4 +1,4 @@
--- That what is left was held, and is not of a view below.
+-- What is left was stored, and is not of a view below.
 use Rattle.engine_votes.proofs.Given.{forgotten_given}
 use Rattle.engine_votes.proofs.Forgetting.{forgotten_other, forgotten_from}
 use Rattle.engine_votes.proofs.batcher.Batcher.forget.Goals as goal

@@ -1,4 +1,4 @@
--- How the contract of `resume` follows: the engine that goes on has given nothing out, and one that is refused is so for what was read.
+-- How the contract of `resume` follows: the resumed engine has returned nothing, and one that is refused is so for what was read.
 use Rattle.std.proofs.Common.{refl, sym, subst}
 use Rattle.simplex_codec.specs.Digests.{bytes_in_digest}
 use Rattle.ffi_scheme.specs.HostLeaders.{host_terms}

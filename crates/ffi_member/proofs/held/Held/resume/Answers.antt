@@ -1,4 +1,4 @@
--- How the contract of `resume` follows: what it goes on from is read of the journal, and fewer entries than were closed are lost ones.
+-- How the contract of `resume` follows: its input is read from the journal, and fewer entries than were closed are lost ones.
 use Rattle.std.proofs.Common.{inr}
 use Rattle.ffi_member.proofs.Items.{fewer_than_closed}
 use Rattle.ffi_member.proofs.held.Held.resume.Goals as goal

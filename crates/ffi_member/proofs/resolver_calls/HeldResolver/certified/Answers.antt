@@ -1,4 +1,4 @@
--- How the contract of `certified` follows: a refused certificate loses the effects that were kept, and tells nothing.
+-- How the contract of `certified` follows: a refused certificate loses the stored effects, and passes nothing.
 use Rattle.std.proofs.Common.{inr}
 use Rattle.ffi_member.proofs.resolver_calls.HeldResolver.certified.Goals as goal
 

@@ -1,4 +1,4 @@
--- How the contract of `judged` follows: the verdict is told of the notarization's own view.
+-- How the contract of `judged` follows: the verdict is passed for the notarization's own view.
 use Rattle.std.proofs.Common.{inr, refl}
 use Rattle.simplex_types.specs.Certificates.{notarization_facts}
 use Rattle.simplex_codec.specs.Digests.{bytes_in_digest}

@@ -1,4 +1,4 @@
--- How the contract of `told` follows: the certificate of the flat numbers is told, and its effects are kept.
+-- How the contract of `told` follows: the certificate of the flat numbers is passed, and its effects are stored.
 use Rattle.std.proofs.Common.{◌≡◌, ◌<◌, ◌≤◌, inl, inr, refl, sym, arith}
 use Rattle.std.proofs.lemmas.Grind.{common_steps}
 use Rattle.simplex_types.specs.Certificates.{certificate_facts}

@@ -1,4 +1,4 @@
--- How the loop of `assemble` goes on: one signature more stands behind those before it.
+-- How the loop of `assemble` continues: one more signature comes after those before it.
 use Rattle.std.proofs.Common.{sym}
 use Rattle.ffi_scheme.proofs.Signed.{signed_more}
 use Rattle.ffi_scheme.proofs.assembly.HostSchemeAssemblyHostDigest.assemble.Goals as goal

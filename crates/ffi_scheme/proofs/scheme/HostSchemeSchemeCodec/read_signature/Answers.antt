@@ -1,4 +1,4 @@
--- How the contract of `read_signature` follows: four bytes of a key, and the text behind them.
+-- How the contract of `read_signature` follows: four bytes of a key, and the text after them.
 use Rattle.std.proofs.Common.{ap, sym, ◌∙◌, ◌++◌, arith}
 use Rattle.std.specs.Int.{w32, to_be_bytes}
 use Rattle.simplex_codec.proofs.Numbers.{front_4}

@@ -1,4 +1,4 @@
--- by what each event brings, over a member's lives
+-- by what each event brings, over a member's lifetimes
 use Rattle.laws_progress.proofs.runs.Explicit.{explicit_led, verdict_led}
 use Rattle.laws_progress.proofs.runs.LedLives.{state_led, nullified_led, judged_are_notarized}
 use Rattle.laws_progress.proofs.runs.Ordered.{vote_ordered}

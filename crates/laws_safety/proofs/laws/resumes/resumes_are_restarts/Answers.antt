@@ -1,4 +1,4 @@
--- whether a member lives, and what it has open, doesn't matter to its restart; and a run never loses what was closed
+-- whether a member has failed, and its open requests, don't matter to its restart; and a run never loses closed entries
 use Rattle.laws_safety.proofs.records.Resumes.{resumes, restarts, refuses_resume, refuses_restart, run_loses_nothing}
 use Rattle.laws_safety.proofs.records.PrunedRestarts.{pruned_as_at_restart}
 use Rattle.laws_safety.proofs.laws.resumes.resumes_are_restarts.Goals as goal

@@ -1,4 +1,5 @@
--- How the contract of `skipped_finalizations_have_faulty_members` follows: the network of four, and who of it passed over the finalized view, are computed.
+-- How the contract of `skipped_finalizations_have_faulty_members` follows: the network of four, and who of it skipped the finalized view, are
+-- computed.
 use Rattle.std.proofs.Common.{refl, inl, inr, arith}
 use Rattle.simplex_types.specs.declared.types.messages.Subject.TheVariants.{Notarize, Finalize}
 use Rattle.laws_safety.specs.Rivals.{past_two, known_of_skipped}

@@ -1,4 +1,4 @@
--- How the contract of `read` follows: nothing stands behind the number's eight bytes.
+-- How the contract of `read` follows: nothing follows the number's eight bytes.
 use Rattle.std.proofs.Common.{◌++◌, ap, sym, ◌∙◌}
 use Rattle.std.specs.Int.{w64, to_be_bytes}
 use Rattle.simplex_codec.proofs.Numbers.{none_left}

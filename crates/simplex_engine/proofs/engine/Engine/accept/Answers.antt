@@ -1,4 +1,4 @@
--- That no other certificate is accepted than the one that is handed in, and that one which is refused changes nothing.
+-- No other certificate is accepted than the one that is passed in, and a refused one changes nothing.
 use Rattle.std.proofs.Common.{Some, sym, subst, ap, ◌∙◌, refl, inr, [], ◌∷◌}
 use Rattle.std.proofs.lemmas.Bool.{not-false}
 use Rattle.std.proofs.lemmas.Result.{IfOk-weaker}

@@ -1,4 +1,4 @@
--- That a member with no work goes on by the calls that show it.
+-- A member with no work continues by the calls that show it.
 use Rattle.std.proofs.Common.{refl, [], inl}
 use Rattle.std.proofs.lemmas.Bool.{and_parts}
 use Rattle.simplex_engine.proofs.OwnSteps.{alone_further}

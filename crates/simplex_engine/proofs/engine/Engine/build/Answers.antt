@@ -1,4 +1,4 @@
--- That a block is handed in where the application was asked for it.
+-- A block is passed in where the application was asked for it.
 use Rattle.std.proofs.Common.{false, refl, sym, subst, ◌∙◌, inl, [], ◌∷◌}
 use Rattle.std.proofs.lemmas.Result.{IfOk-weaker}
 use Rattle.simplex_engine.specs.InputEffects.{IsBlockTaken}

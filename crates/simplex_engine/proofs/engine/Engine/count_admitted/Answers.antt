@@ -1,4 +1,4 @@
--- That what comes of a vote follows from what it comes to.
+-- The effect of a vote follows from the result of counting it.
 use Rattle.std.proofs.Common.{length}
 use Rattle.simplex_engine.proofs.CertificateVotes.{backed_by_none}
 use Rattle.simplex_engine.proofs.Bounds.{bounded_counted}

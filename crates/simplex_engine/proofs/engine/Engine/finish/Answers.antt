@@ -1,4 +1,4 @@
--- That what is let go behind all steps goes on from them, and nothing is due that was not.
+-- What is dropped after all steps continues from them, and nothing is due that was not.
 use Rattle.std.proofs.Common.{ap, sym, subst}
 use Rattle.simplex_engine.specs.NothingDue.{HasNothingNew}
 use Rattle.simplex_engine.proofs.OwnSteps.{forgets_further, forgets_none}

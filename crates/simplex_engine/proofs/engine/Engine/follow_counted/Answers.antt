@@ -1,4 +1,4 @@
--- That what follows a vote tells all that the member waits for.
+-- What follows a vote reports all that the member waits for.
 use Rattle.std.proofs.Common.{[], ◌∷◌, refl, sym, subst}
 use Rattle.engine_planner.proofs.PlannedWork.{has_planned}
 use Rattle.simplex_engine.proofs.Tells.{tells_planned, tells_still}

@@ -1,4 +1,4 @@
--- That a proposal is handed in, or else kept at most.
+-- A proposal is passed in, or at most stored.
 use Rattle.std.proofs.Common.{refl, ap, sym, ◌∙◌, None, subst, inl, inr, [], ◌∷◌}
 use Rattle.std.proofs.lemmas.Bool.{cond_both, false≢true}
 use Rattle.std.specs.Prelude.{IfOk}

@@ -1,4 +1,4 @@
--- That nothing is done where nothing but the next output is taken, and that each vote which is held is of a view that takes votes.
+-- Nothing is done where only the next output is taken, and each stored vote is of a view that takes votes.
 use Rattle.std.proofs.Common.{refl, sym, subst, [], ◌∷◌, ◌++◌, ◌≡◌, ◌∙◌, ap, if◌then◌else◌, Some, Ok}
 use Rattle.std.specs.Prelude.{option_to_list, IfErr, IsNone}
 use Rattle.std.proofs.lemmas.Bool.{true≢false}

@@ -1,4 +1,4 @@
--- The engine went on by itself by the steps so far, and told all that the member waits for; all comes of what was at hand.
+-- The engine continued by itself in the steps so far, and reported all that the member waits for; what was at hand causes everything.
 use Rattle.simplex_engine.specs.OwnSteps.{ContinuesWithoutInput}
 use Rattle.simplex_engine.specs.Provenance.{IsCausedWithoutInput}
 use Rattle.simplex_engine.specs.ApplicationWork.{KeepsApplicationWork}

@@ -1,4 +1,4 @@
--- That each run goes on from the ones before.
+-- Each run continues from the ones before.
 use Rattle.std.proofs.Common.{refl}
 use Rattle.simplex_engine.proofs.OwnSteps.{alone_still, alone_further}
 use Rattle.simplex_engine.proofs.Tells.{tells_still, tells_further}

@@ -1,4 +1,4 @@
--- That the steps and the calls go on one behind the other, and that nothing changes where nothing is due.
+-- The steps and the calls continue one after the other, and nothing changes where nothing is due.
 use Rattle.std.proofs.Common.{None, sym, subst, ap}
 use Rattle.std.proofs.lemmas.Bool.{false≢true}
 use Rattle.std.proofs.lemmas.Result.{IfOk-weaker}

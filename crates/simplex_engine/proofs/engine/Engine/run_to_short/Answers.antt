@@ -1,4 +1,4 @@
--- That steps and prunings go on one behind the other, and that all is done where the record is short.
+-- Steps and prunings continue one after the other, and everything is done where the record is short.
 use Rattle.std.proofs.Common.{refl, sym, subst}
 use Rattle.engine_planner.specs.PlanStates.{IsIdle}
 use Rattle.simplex_engine.specs.BuildBounds.{BuildsAhead}

@@ -1,4 +1,4 @@
--- That what is left is of views that are kept, and what is asked for is lacking.
+-- What is left is of retained views, and what is asked for is missing.
 use Rattle.std.proofs.Common.{refl, sym, subst, ◌∙◌, ap, ◌≡◌, [], true, false}
 use Rattle.std.specs.Prelude.{IfSome}
 use Rattle.simplex_voter.specs.Windows.{min_active}

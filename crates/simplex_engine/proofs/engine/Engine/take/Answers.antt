@@ -1,4 +1,4 @@
--- That an input which was of no use is counted.
+-- An ignored input is counted.
 use Rattle.std.proofs.Common.{ap}
 use Rattle.simplex_engine.specs.Admission.{ignoring}
 use Rattle.simplex_engine.proofs.InputResults.{taken_otherwise, taken_of_no_use}

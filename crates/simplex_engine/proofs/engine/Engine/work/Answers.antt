@@ -1,4 +1,4 @@
--- That the engine goes on from a moment that has come.
+-- The engine continues from a moment that has come.
 use Rattle.std.proofs.Common.{refl, ap, ◌∙◌}
 use Rattle.engine_outbox.proofs.Continuity.{stays}
 use Rattle.simplex_engine.proofs.OwnSteps.{forgets_further}

@@ -1,4 +1,4 @@
--- That the resolver was told of the member's record, and what it has open is asked for.
+-- The resolver received the member's record, and what it has open is asked for.
 use Rattle.std.proofs.Common.{◌≡◌, ◌∙◌, ◌∷◌, ap, sym, subst, reverse}
 use Rattle.std.specs.Prelude.{IfSome}
 use Rattle.simplex_resolver.specs.RecordCalls.{calls_of}

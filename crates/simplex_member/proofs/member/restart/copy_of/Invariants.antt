@@ -1,4 +1,4 @@
--- The loop of `copy_of`: what was copied and what is left to be copied.
+-- The loop of `copy_of`: the entries that were copied, and the remaining ones.
 use Rattle.std.proofs.Common.{◌≡◌, ◌++◌, drop}
 use Rattle.simplex_record.specs.Entries.{entries_of}
 use Rattle.simplex_member.proofs.member.restart.copy_of.Given as goal

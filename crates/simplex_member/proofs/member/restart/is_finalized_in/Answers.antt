@@ -1,4 +1,4 @@
--- How the contract of `is_finalized_in` follows: a finalization of the view stands at the artifact or behind it.
+-- How the contract of `is_finalized_in` follows: a finalization of the view is at the artifact or after it.
 use Rattle.std.proofs.Common.{sym, ◌∙◌}
 use Rattle.simplex_member.proofs.Restarts.{stands_here, stands_behind}
 use Rattle.simplex_member.proofs.member.restart.is_finalized_in.Goals as goal

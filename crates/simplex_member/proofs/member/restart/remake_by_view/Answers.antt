@@ -1,4 +1,4 @@
--- How the contract of `remake_by_view` follows: what is remade from the sorted copy, or refused, is so of a copy by view.
+-- How the contract of `remake_by_view` follows: the state remade from the sorted copy, or the refusal, is that of a copy by view.
 use Rattle.simplex_record.specs.Entries.{entries_of}
 use Rattle.simplex_record.specs.Start.{start_facts}
 use Rattle.simplex_member.proofs.Restarts.{refused_by, of_value, of_error}

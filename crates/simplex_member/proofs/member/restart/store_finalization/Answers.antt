@@ -1,4 +1,4 @@
--- How the contract of `store_finalization` follows: a finalization that stands in the record leaves it as it was, another one is recorded last.
+-- How the contract of `store_finalization` follows: a finalization that is in the record keeps it as it was, another one is recorded last.
 use Rattle.std.proofs.Common.{◌≡◌, ◌∙◌, sym, ap}
 use Rattle.std.specs.Prelude.{true, false}
 use Rattle.simplex_record.specs.Check.{stands}

@@ -1,4 +1,4 @@
--- How the contract of `check_entries` follows: what was seen decides of the next entry, and the first one that breaks a rule is the record's error.
+-- How the contract of `check_entries` follows: what was seen decides the next entry, and the first one that breaks a rule is the record's error.
 use Rattle.std.proofs.Common.{drop, ◌+◌}
 use Rattle.std.proofs.lemmas.Result.{err_from_is_err_and}
 use Rattle.simplex_types.specs.Certificates.{artifact_facts}

@@ -1,4 +1,4 @@
--- The loop of `check_entries`: what was seen decides of the entries that are left.
+-- The loop of `check_entries`: what was seen decides the remaining entries.
 use Rattle.std.proofs.Common.{drop}
 use Rattle.simplex_record.specs.Entries.{entries_of}
 use Rattle.simplex_record.proofs.CheckState.{Tested}

@@ -1,4 +1,4 @@
--- How the contract of `check_next` follows: the entry breaks a rule by itself, or beside what was seen of its view.
+-- How the contract of `check_next` follows: the entry breaks a rule by itself, or one against what was seen of its view.
 use Rattle.std.proofs.Common.{◌≡◌, ap, ◌∙◌, sym, nat_lt, false}
 use Rattle.std.proofs.lemmas.Result.{err_from_is_err_and}
 use Rattle.simplex_view_maps.proofs.Maps.{is_lt-nat_cmp}

@@ -1,4 +1,4 @@
--- The loop of `drop_last`: what is left to drop leaves what was asked for, and each vote stays.
+-- The loop of `drop_last`: the remaining drops give the requested cut, and each vote stays.
 use Rattle.std.proofs.Common.{◌≡◌}
 use Rattle.simplex_record.specs.Entries.{entries_of}
 use Rattle.simplex_record.specs.Cuts.{without_last}

@@ -1,4 +1,4 @@
--- The loop of `last_finalized`: what was met and what is left to be met.
+-- The loop of `last_finalized`: the entries that were met, and the remaining ones.
 use Rattle.std.proofs.Common.{◌≡◌, max, drop}
 use Rattle.simplex_record.specs.Entries.{entries_of}
 use Rattle.simplex_record.specs.Cuts.{finalized_in}

@@ -1,4 +1,4 @@
--- How the contract of `add` follows: a copy has the facts of the certificate, so what it makes of the state is the same.
+-- How the contract of `add` follows: a copy has the facts of the certificate, so its effect on the state is the same.
 use Rattle.std.proofs.Common.{ap, ◌∙◌}
 use Rattle.simplex_voter.specs.Acceptance.{after_add_notarization, after_add_nullification, after_add_finalization}
 use Rattle.simplex_record.proofs.record.recovery.add.Goals as goal

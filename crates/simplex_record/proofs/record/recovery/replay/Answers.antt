@@ -1,4 +1,4 @@
--- How the contract of `replay` follows: what the state restores of an artifact is what is replayed of its entry.
+-- How the contract of `replay` follows: the state restores of an artifact what is replayed of its entry.
 use Rattle.simplex_record.proofs.Recovery.{replayed_entry}
 use Rattle.simplex_record.proofs.record.recovery.replay.Goals as goal
 

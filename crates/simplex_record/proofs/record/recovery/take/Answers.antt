@@ -1,4 +1,4 @@
--- How the contract of `take` follows: each part leaves a state that has not failed and is in time, so the next one takes the entry.
+-- How the contract of `take` follows: after each part the state has not failed and is in time, so the next one takes the entry.
 use Rattle.std.proofs.Common.{◌≡◌, false, OnOk, sym, subst, ap, ◌∙◌}
 use Rattle.simplex_types.specs.Certificates.{artifact_facts}
 use Rattle.simplex_voter.specs.Facts.{StateFacts}

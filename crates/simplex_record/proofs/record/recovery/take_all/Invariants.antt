@@ -1,4 +1,4 @@
--- The loop of `take_all`: what is left leads to the whole.
+-- The loop of `take_all`: the remaining entries lead to the whole.
 use Rattle.std.proofs.Common.{drop}
 use Rattle.simplex_record.proofs.Taking.{Taking}
 use Rattle.simplex_record.proofs.record.recovery.take_all.Given as goal

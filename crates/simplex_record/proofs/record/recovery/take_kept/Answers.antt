@@ -1,4 +1,4 @@
--- How the contract of `take_kept` follows: an entry below the views that are kept changes nothing, another one is taken.
+-- How the contract of `take_kept` follows: an entry below the retained views changes nothing, another one is taken.
 use Rattle.std.proofs.Common.{◌≡◌, sym, subst, ◌∙◌, nat_lt, true, false, OnOk}
 use Rattle.simplex_view_maps.proofs.Maps.{is_lt-nat_cmp}
 use Rattle.simplex_types.specs.Certificates.{artifact_facts}

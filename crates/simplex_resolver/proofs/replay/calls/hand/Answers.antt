@@ -1,4 +1,4 @@
--- How the contract of `hand` follows: the call that the entry stands for is made, and a vote is none.
+-- How the contract of `hand` follows: the call of the entry is made, and a vote has none.
 use Rattle.std.proofs.Common.{◌≡◌, OnOk, sym, subst}
 use Rattle.simplex_types.specs.Certificates.{Nullified, Finalized, artifact_facts}
 use Rattle.simplex_resolver.specs.Steps.{after, update}

@@ -1,4 +1,4 @@
--- How the contract of `last_notarization` follows: the first one from behind that is the view's is the last of all.
+-- How the contract of `last_notarization` follows: the first one from the end that is the view's is the last of all.
 use Rattle.std.proofs.Common.{refl, ap, sym, ◌∙◌}
 use Rattle.std.specs.Option.{option_copied}
 use Rattle.simplex_types.specs.Certificates.{notarization_facts}

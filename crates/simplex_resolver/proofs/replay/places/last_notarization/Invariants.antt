@@ -1,4 +1,4 @@
--- The loop of `last_notarization`: the last one stands in what is left.
+-- The loop of `last_notarization`: the last one is among the rest.
 use Rattle.std.proofs.Common.{◌≡◌}
 use Rattle.simplex_resolver.specs.RecordCalls.{newest_first, newest_notarization}
 use Rattle.simplex_resolver.proofs.replay.places.last_notarization.Given as goal

@@ -1,4 +1,4 @@
--- How the contract of `replay` follows: no call fails the resolver, so an error is want of memory or what its entries break.
+-- How the contract of `replay` follows: no call fails the resolver, so an error is out of memory or a rule that its entries break.
 use Rattle.std.proofs.Common.{ap, ◌∙◌}
 use Rattle.simplex_resolver.specs.RecordCalls.{newest_first, calls_of}
 use Rattle.simplex_resolver.proofs.CallLists.{all_go_on}

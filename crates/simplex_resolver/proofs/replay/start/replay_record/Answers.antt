@@ -1,4 +1,4 @@
--- How the contract of `replay_record` follows: the facts are those after the record's calls from none, and the last scan fetches what is wanted.
+-- How the contract of `replay_record` follows: the facts are those after the record's calls from none, and the last scan fetches what is needed.
 use Rattle.std.proofs.Common.{ap, sym, ◌∙◌}
 use Rattle.simplex_resolver.specs.Steps.{Replayed, effects}
 use Rattle.simplex_resolver.specs.Repair.{is_outstanding}

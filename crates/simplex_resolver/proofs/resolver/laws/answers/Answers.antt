@@ -1,4 +1,4 @@
--- How the contract of `answers` follows: what is answered after any calls is of the certificates that were received.
+-- How the contract of `answers` follows: the results after any calls are of the certificates that were received.
 use Rattle.simplex_resolver.proofs.AnswersLaw.{answers_are_of_the_received}
 use Rattle.simplex_resolver.proofs.resolver.laws.answers.Goals as goal
 

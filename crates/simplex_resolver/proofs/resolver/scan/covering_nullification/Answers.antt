@@ -1,4 +1,4 @@
--- How the contract of `covering_nullification` follows: there is a covering entry just where the view is covered.
+-- How the contract of `covering_nullification` follows: there is a covering entry exactly where the view is covered.
 use Rattle.std.proofs.Common.{◌∙◌, ap, is_some}
 use Rattle.simplex_resolver.proofs.Maps.{some_covering}
 use Rattle.simplex_resolver.proofs.resolver.scan.covering_nullification.Goals as goal

@@ -1,4 +1,4 @@
--- How the contract of `scan` follows: the anchors go on from one to the next term's start, and each uncovered one is fetched.
+-- How the contract of `scan` follows: the anchors lead from one to the next term's start, and each uncovered one is fetched.
 use Rattle.std.proofs.Common.{arith, refl, ◌∙◌, sym, ap, not, ◌<◌, subst}
 use Rattle.simplex_view_maps.specs.ByTerm.{has_covering}
 use Rattle.std.proofs.lemmas.Bool.Decides.{nat_tests}

@@ -1,4 +1,4 @@
--- How the contract of `drop_lower` follows: what lies below the view is the range up to the one before it.
+-- How the contract of `drop_lower` follows: the views below the view are the range up to the one before it.
 use Rattle.std.proofs.Common.{arith}
 use Rattle.std.proofs.lemmas.Bool.Decides.{nat_tests}
 use Rattle.simplex_resolver.proofs.resolver.views.drop_lower.Goals as goal

@@ -1,4 +1,4 @@
--- How the contract of `put_proposal` follows: the round, the parent and the payload stand one behind the other.
+-- How the contract of `put_proposal` follows: the round, the parent and the payload come one after another.
 use Rattle.std.proofs.Common.{ap, ◌∙◌, ◌++◌}
 use Rattle.std.specs.Int.{w64, to_be_bytes}
 use Rattle.simplex_types.specs.Encoding.{round_bytes}

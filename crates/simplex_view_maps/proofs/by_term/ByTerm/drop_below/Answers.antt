@@ -1,4 +1,4 @@
--- How the contract of `drop_below` follows: the run that is left begins no lower than the view, and is covered by what is left of the table.
+-- How the contract of `drop_below` follows: the remaining run begins no lower than the view, and is covered by the remaining table.
 use Rattle.std.proofs.Common.{ap, ◌∙◌}
 use Rattle.std.specs.Prelude.{max}
 use Rattle.simplex_view_maps.proofs.Runs.{lowered_covers, behind_term}

@@ -1,4 +1,4 @@
--- How the contract of `drop_ended` follows: the run that is left lies behind the ended terms, and is covered by what is left of the table.
+-- How the contract of `drop_ended` follows: the remaining run lies after the ended terms, and is covered by the remaining table.
 use Rattle.std.proofs.Common.{ap, ◌∙◌}
 use Rattle.std.specs.Prelude.{max}
 use Rattle.simplex_view_maps.proofs.Runs.{ended_covers, behind_term}

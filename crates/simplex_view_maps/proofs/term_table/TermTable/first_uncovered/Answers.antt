@@ -1,4 +1,4 @@
--- How the contract of `first_uncovered` follows: behind a covered view the next one that may be uncovered starts a term, so no gap is passed over.
+-- How the contract of `first_uncovered` follows: after a covered view the next one that may be uncovered starts a term, so no gap is skipped.
 use Rattle.std.proofs.Common.{sym, arith}
 use Rattle.simplex_view_maps.proofs.Gaps.{gapless_on, next_above, lt_yes}
 use Rattle.simplex_view_maps.proofs.term_table.TermTable.first_uncovered.Goals as goal

@@ -1,4 +1,4 @@
--- How the contract of `has_covering` follows: some entry covers the view just where the last one up to it does.
+-- How the contract of `has_covering` follows: some entry covers the view exactly where the last one up to it does.
 use Rattle.std.proofs.Common.{ap, ◌∙◌}
 use Rattle.std.specs.Option.{is_some}
 use Rattle.simplex_types.specs.Terms.{covers}

@@ -1,4 +1,4 @@
--- How the contract of `drop_below` follows: the first entries, as many as stand below the view, are dropped, and the rest stays sorted.
+-- How the contract of `drop_below` follows: the first entries, as many as are below the view, are dropped, and the rest stays sorted.
 use Rattle.std.proofs.Common.{◌∙◌}
 use Rattle.simplex_view_maps.proofs.Maps.{entries_of_made, at_or_above_read, made_from_entries, sorted_from_entries}
 use Rattle.simplex_view_maps.proofs.Unboxed.{unboxed-drop}

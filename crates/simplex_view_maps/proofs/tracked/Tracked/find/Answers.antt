@@ -1,4 +1,4 @@
--- How the contract of `find` follows: each probe halves what is left, and the place stays among it.
+-- How the contract of `find` follows: each probe halves the rest, and the place stays in it.
 use Rattle.std.proofs.Common.{sym, arith}
 use Rattle.std.proofs.lemmas.Bool.{ltb-true, ltb-false}
 use Rattle.simplex_types.proofs.Digits.{halve_once}

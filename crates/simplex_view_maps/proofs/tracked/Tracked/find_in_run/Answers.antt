@@ -1,4 +1,5 @@
--- How the contract of `find_in_run` follows: as many entries stand below a view as views from the first entry's, if no view is missing up to the last one's.
+-- How the contract of `find_in_run` follows: as many entries are below a view as views from the first entry's, if no view is missing up to the last
+-- one's.
 use Rattle.std.proofs.Common.{◌≡◌, ◌+◌, ◌<◌, length, refl, arith}
 use Rattle.std.specs.FinMap as map
 use Rattle.simplex_view_maps.proofs.Maps.{entries_of_made, length_of_made, len-below-le-len}

@@ -1,4 +1,4 @@
--- How the contract of `get` follows: where the view stands at its place, the entry there is its value.
+-- How the contract of `get` follows: if the view is at its place, the entry there is its value.
 use Rattle.std.proofs.Common.{sym, arith}
 use Rattle.simplex_view_maps.proofs.Maps.{entries_of_made, value_at}
 use Rattle.simplex_view_maps.proofs.Unboxed.{unboxed_at, same_length, opened}

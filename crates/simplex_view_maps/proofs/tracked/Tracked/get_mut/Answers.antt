@@ -1,4 +1,4 @@
--- How the contract of `get_mut` follows: where the view stands at its place, a write there is one at the view, and the entries stay sorted.
+-- How the contract of `get_mut` follows: if the view is at its place, a write there is one at the view, and the entries stay sorted.
 use Rattle.std.proofs.Common.{◌<◌, sym, refl, length, set, arith}
 use Rattle.std.specs.Box.{with_value}
 use Rattle.simplex_view_maps.specs.Tracked.{unboxed}
@@ -7,7 +7,7 @@ use Rattle.simplex_view_maps.proofs.Maps.{lent_alike, entries_of_made, value_at,
 use Rattle.simplex_view_maps.proofs.Unboxed.{boxed_written, boxed_value, same_length}
 use Rattle.simplex_view_maps.proofs.tracked.Tracked.get_mut.Goals as goal
 
--- the view stands there, so its place is within the entries
+-- the view is there, so its place is within the entries
 pub returns-in_err-entry : goal.returns-in_err-entry
 returns-in_err-entry g c =
     let same = entries_of_made _ _ refl c.self.invariant in

@@ -1,4 +1,4 @@
--- How the contract of `is_below` follows: the entries rise, so the one at a place is below the view just where the place is below the view's.
+-- How the contract of `is_below` follows: the entries rise, so the one at a place is below the view exactly where the place is below the view's.
 use Rattle.std.proofs.Common.{ap, ◌∙◌, ltb, get_or, arith}
 use Rattle.simplex_view_maps.proofs.Maps.{length_of_made, entries_of_made, far_above, below_at}
 use Rattle.simplex_view_maps.proofs.Unboxed.{unboxed_at, same_length, opened}

@@ -1,4 +1,4 @@
--- How the contract of `len` follows: as many entries stand in the rows as views in the map.
+-- How the contract of `len` follows: the rows have as many entries as the map has views.
 use Rattle.std.proofs.Common.{◌∙◌}
 use Rattle.simplex_view_maps.proofs.Maps.{length_of_made}
 use Rattle.simplex_view_maps.proofs.Unboxed.{same_length}

@@ -1,4 +1,4 @@
--- How the contract of `remove` follows: a removal at the place of a view that stands there is one from the map, and of an absent one nothing is removed.
+-- How the contract of `remove` follows: a removal at the place of a view that is there is one from the map, and of an absent one nothing is removed.
 use Rattle.std.proofs.Common.{sym, arith}
 use Rattle.simplex_view_maps.proofs.Maps.{entries_of_made, value_at, removed, remove_absent, made_from_entries, sorted_from_entries}
 use Rattle.simplex_view_maps.proofs.Unboxed.{unboxed-remove, same_length}

@@ -1,4 +1,4 @@
--- How the contract of `stands_at` follows: the map has the view just where the entry at its place is the view's, and not past the end.
+-- How the contract of `stands_at` follows: the map has the view exactly where the entry at its place is the view's, and not past the end.
 use Rattle.std.proofs.Common.{◌∙◌, ◌≤◌, length, ap, sym, refl, Some, inl, inr, arith}
 use Rattle.std.proofs.lemmas.Bool.{cases_lt, false≢true}
 use Rattle.std.proofs.lemmas.Option.{slice_get-get_or, slice_get_past}

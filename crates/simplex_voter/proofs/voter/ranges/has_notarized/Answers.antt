@@ -1,4 +1,4 @@
--- How the contract of `has_notarized` follows: one of the rounds so far answers for all, or the rest does.
+-- How the contract of `has_notarized` follows: one of the rounds so far decides for all, or the rest does.
 use Rattle.std.proofs.Common.{refl}
 use Rattle.simplex_voter.specs.Windows.{is_notarized}
 use Rattle.simplex_voter.proofs.Between.{any_found, any_next, any_end}

@@ -1,4 +1,4 @@
--- How the contract of `has_refused` follows: one of the views so far answers for all, or the rest does.
+-- How the contract of `has_refused` follows: one of the views so far decides for all, or the rest does.
 use Rattle.std.proofs.Common.{refl}
 use Rattle.simplex_voter.specs.Rounds.{is_refused_above}
 use Rattle.simplex_voter.proofs.Between.{any_found, any_next, any_end}

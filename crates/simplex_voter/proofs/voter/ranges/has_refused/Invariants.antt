@@ -1,4 +1,4 @@
--- The loop of `has_refused`: what the rest answers is the answer.
+-- The loop of `has_refused`: the result for the rest is the result.
 use Rattle.std.proofs.Common.{◌≡◌, length}
 use Rattle.std.specs.List.{list_any}
 use Rattle.simplex_voter.specs.Rounds.{is_refused_above}

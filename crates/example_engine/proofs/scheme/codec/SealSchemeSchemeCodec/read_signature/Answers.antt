@@ -1,4 +1,4 @@
--- How the contract of `read_signature` follows: four bytes of a key, eight of a sum, and nothing behind them.
+-- How the contract of `read_signature` follows: four bytes of a key, eight of a sum, and nothing after them.
 use Rattle.std.proofs.Common.{ap, sym, ◌∙◌, ◌++◌, arith}
 use Rattle.std.specs.Int.{w32, w64, to_be_bytes}
 use Rattle.simplex_codec.proofs.Numbers.{IsBytes, front_4, front_8, none_left}

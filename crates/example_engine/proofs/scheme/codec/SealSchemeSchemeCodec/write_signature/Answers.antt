@@ -1,4 +1,4 @@
--- How the contract of `write_signature` follows: the key's four bytes and the sum's eight stand behind the others.
+-- How the contract of `write_signature` follows: the key's four bytes and the sum's eight come after the others.
 use Rattle.std.specs.Int.{w32, w64, to_be_bytes}
 use Rattle.example_engine.proofs.Numbers.{appended}
 use Rattle.example_engine.proofs.scheme.codec.SealSchemeSchemeCodec.write_signature.Goals as goal

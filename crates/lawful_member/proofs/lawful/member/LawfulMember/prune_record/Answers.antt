@@ -1,4 +1,4 @@
--- what a member has done stays where its record is pruned
+-- what a member has done stays after its record is pruned
 use Rattle.laws_safety.proofs.executions.Living.{prune_done}
 use Rattle.lawful_member.proofs.lawful.member.LawfulMember.prune_record.Goals as goal
 

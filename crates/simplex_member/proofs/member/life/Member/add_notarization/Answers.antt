@@ -1,4 +1,4 @@
--- How the contract of `add_notarization` follows: a new notarization is recorded behind the other entries, and a refusal leaves all as it was.
+-- How the contract of `add_notarization` follows: a new notarization is recorded after the other entries, and a refusal changes nothing.
 use Rattle.std.proofs.Common.{ap, false, refl, sym, ◌∙◌}
 use Rattle.std.proofs.lemmas.Result.{IfOk-weaker, err_from_is_err_and}
 use Rattle.simplex_types.specs.Certificates.{notarization_facts, Accepted, Notarized}

@@ -1,4 +1,4 @@
--- How the contract of `call` follows: each call answers by its own method, so its reply is of its kind, and the record only grows.
+-- How the contract of `call` follows: each call has the reply of its own method, so it is of its kind, and the record only grows.
 use Rattle.simplex_member.specs.Calls.{told, asked}
 use Rattle.simplex_member.proofs.MethodContracts.{typed}
 use Rattle.simplex_member.proofs.member.life.Member.call.Goals as goal

@@ -1,4 +1,4 @@
--- How the contract of `construct_finalize` follows: the vote is recorded before it is answered, once, and never beside one to nullify the view.
+-- How the contract of `construct_finalize` follows: the vote is recorded before it is returned, once, and never beside one to nullify the view.
 use Rattle.std.proofs.Common.{◌≡◌, ap, false, refl, sym, ◌∙◌}
 use Rattle.std.proofs.lemmas.Result.{IfOk-weaker}
 use Rattle.simplex_types.specs.Certificates.{FinalizeVote}

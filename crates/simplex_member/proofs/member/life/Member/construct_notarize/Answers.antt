@@ -1,4 +1,4 @@
--- How the contract of `construct_notarize` follows: the vote is recorded before it is answered, and once.
+-- How the contract of `construct_notarize` follows: the vote is recorded before it is returned, and once.
 use Rattle.std.proofs.Common.{◌≡◌, ap, false, refl, sym, ◌∙◌}
 use Rattle.std.proofs.lemmas.Result.{IfOk-weaker}
 use Rattle.simplex_types.specs.Certificates.{NotarizeVote}

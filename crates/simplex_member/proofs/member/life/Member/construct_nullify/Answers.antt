@@ -1,4 +1,4 @@
--- How the contract of `construct_nullify` follows: the vote is recorded before it is answered, and never beside one to finalize the view.
+-- How the contract of `construct_nullify` follows: the vote is recorded before it is returned, and never beside one to finalize the view.
 use Rattle.std.proofs.Common.{◌≡◌, ap, false, refl, sym, ◌∙◌}
 use Rattle.std.proofs.lemmas.Result.{IfOk-weaker}
 use Rattle.simplex_types.specs.Certificates.{NullifyVote}

@@ -1,4 +1,4 @@
--- How the contract of `go_on` follows: the state is remade from the record by view, or the error that is due leaves the member without a life.
+-- How the contract of `go_on` follows: the state is remade from the record by view, or the error that applies leaves the member failed.
 use Rattle.std.proofs.lemmas.Result.{err_from_is_err_and}
 use Rattle.simplex_record.specs.Entries.{entries_of}
 use Rattle.simplex_member.specs.MemberFacts.{MemberFacts, living, open_while}

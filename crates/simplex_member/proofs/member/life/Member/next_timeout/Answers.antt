@@ -1,4 +1,4 @@
--- How the contract of `next_timeout` follows: the state's poll is the member's answer, and a refusal leaves the state as it was.
+-- How the contract of `next_timeout` follows: the state's poll is the member's result, and a refusal keeps the state as it was.
 use Rattle.std.proofs.Common.{false, refl, sym, ap, ◌∙◌, Some}
 use Rattle.simplex_record.specs.Entries.{entries_of}
 use Rattle.simplex_member.specs.Calls.{NextTimeout, TimesOut}

@@ -1,4 +1,4 @@
--- How the contract of `proposed` follows: the state takes what was built by its definition, the request is closed, and nothing is recorded.
+-- How the contract of `proposed` follows: the state records what was built by its definition, the request is closed, and the record stays.
 use Rattle.std.proofs.Common.{ap, false, refl, sym}
 use Rattle.simplex_record.specs.Entries.{entries_of}
 use Rattle.simplex_member.specs.Calls.{Proposed, Answered}

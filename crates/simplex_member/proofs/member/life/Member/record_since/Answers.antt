@@ -1,4 +1,4 @@
--- How the contract of `record_since` follows: the entries behind the first ones are read from the least of the count and the record's length.
+-- How the contract of `record_since` follows: the later entries are read from the smaller of the count and the record's length.
 use Rattle.std.proofs.Common.{rules}
 use Rattle.simplex_member.proofs.Journal.{entries_since, votes_left_behind}
 use Rattle.simplex_member.proofs.member.life.Member.record_since.Goals as goal

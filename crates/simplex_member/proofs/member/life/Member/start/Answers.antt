@@ -1,4 +1,4 @@
--- How the contract of `start` follows: a floor leaves a state that has started and not failed, and its finalization is the record.
+-- How the contract of `start` follows: after a floor the state has started and not failed, and its finalization is the record.
 use Rattle.std.proofs.Common.{refl}
 use Rattle.simplex_types.specs.Config.{floor_facts}
 use Rattle.simplex_record.specs.Start.{set_up}

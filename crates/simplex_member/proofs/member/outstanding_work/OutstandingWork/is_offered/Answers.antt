@@ -1,4 +1,4 @@
--- How the contract of `is_offered` follows: a look-up finds a view just where it stands among the offers.
+-- How the contract of `is_offered` follows: a look-up finds a view exactly if it is among the offers.
 use Rattle.std.proofs.Common.{sym, ap, ◌∙◌, is_some}
 use Rattle.simplex_voter.proofs.RoundsKept.{copied_some}
 use Rattle.simplex_member.proofs.Opening.{among-keys}

@@ -1,4 +1,4 @@
--- The loop of `open_offers`: what is open so far, which with the proposals that are left is what was asked for.
+-- The loop of `open_offers`: the offers opened so far, together with the remaining proposals, are the result.
 use Rattle.std.proofs.Common.{◌≡◌, drop}
 use Rattle.std.specs.FinMap as map
 use Rattle.simplex_member.specs.OutstandingWork.{with_offers, views_of}

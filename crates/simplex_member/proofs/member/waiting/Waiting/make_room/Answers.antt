@@ -1,4 +1,4 @@
--- How the contract of `make_room` follows: the newest value among the others leaves all as it was.
+-- How the contract of `make_room` follows: moving the newest value among the others keeps all entries.
 use Rattle.std.proofs.Common.{sym, ◌∙◌}
 use Rattle.simplex_member.proofs.WaitingValues.{entries-insert}
 use Rattle.simplex_member.proofs.member.waiting.Waiting.make_room.Goals as goal

@@ -1,4 +1,4 @@
--- How the contract of `move_over` follows: a value put among the others, or left the newest, stands in the entries either way.
+-- How the contract of `move_over` follows: a value moved among the others, or left the newest, is in the entries either way.
 use Rattle.std.proofs.Common.{◌≡◌, true, false, is_some, sym, subst, ap, ◌∙◌}
 use Rattle.std.specs.FinMap.{entries, get}
 use Rattle.simplex_member.proofs.WaitingValues.{none_newest, none_removed, entries-put}

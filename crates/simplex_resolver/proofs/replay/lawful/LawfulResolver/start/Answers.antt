@@ -1,4 +1,4 @@
--- How the contract of `start` follows: the calls of the record, and then the end of the replay, are the first that it was told.
+-- How the contract of `start` follows: the calls of the record, and then the end of the replay, are the first that it received.
 use Rattle.std.proofs.Common.{refl, subst}
 use Rattle.simplex_resolver.specs.Repair.{IsApplied}
 use Rattle.simplex_resolver.proofs.CallHistory.{told_by_record}

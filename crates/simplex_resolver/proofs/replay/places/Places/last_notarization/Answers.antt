@@ -1,4 +1,4 @@
--- How the contract of `last_notarization` follows: a notarization behind the places, else the one at the noted place, is the last of its view.
+-- How the contract of `last_notarization` follows: a notarization after the places, else the one at the noted place, is the last of its view.
 use Rattle.std.proofs.Common.{◌≡◌, ◌<◌, length, Some, None, refl, ap, sym, ◌∙◌, arith}
 use Rattle.std.specs.Option.{option_and_then, option_copied}
 use Rattle.std.proofs.lemmas.Option.{slice_get_read}

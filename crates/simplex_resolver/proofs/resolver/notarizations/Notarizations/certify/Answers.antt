@@ -1,4 +1,4 @@
--- How the contract of `certify` follows: the view leaves the other sets, which stay apart, and its value is the encoding.
+-- How the contract of `certify` follows: the view leaves the other sets, which stay disjoint, and its value is the encoding.
 use Rattle.simplex_resolver.proofs.ViewSets.{seen_certified, certified_apart}
 use Rattle.simplex_resolver.proofs.resolver.notarizations.Notarizations.certify.Goals as goal
 

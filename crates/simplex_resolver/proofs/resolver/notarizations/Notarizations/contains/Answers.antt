@@ -1,4 +1,4 @@
--- How the contract of `contains` follows: a view stands in the map just where it stands in one of the three sets.
+-- How the contract of `contains` follows: a view is in the map exactly if it is in one of the three sets.
 use Rattle.std.proofs.Common.{◌∙◌, sym}
 use Rattle.std.proofs.lemmas.Bool.{false≢true}
 use Rattle.simplex_resolver.proofs.ViewSets.{same_some, value_there, failed_there, noted_there}

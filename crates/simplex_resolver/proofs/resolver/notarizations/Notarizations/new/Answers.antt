@@ -1,4 +1,4 @@
--- How the contract of `new` follows: three empty sets are the empty map, and stand apart.
+-- How the contract of `new` follows: three empty sets are the empty map, and are disjoint.
 use Rattle.simplex_resolver.proofs.ViewSets.{none_valued, none_noted}
 use Rattle.simplex_resolver.proofs.resolver.notarizations.Notarizations.new.Goals as goal
 

@@ -1,4 +1,4 @@
--- How the contract of `note` follows: a view that stands in one of the three sets stays there, another one is noted apart from them.
+-- How the contract of `note` follows: a view that is in one of the three sets stays there, another one is noted apart from them.
 use Rattle.std.proofs.Common.{◌∙◌, sym}
 use Rattle.simplex_resolver.proofs.ViewSets.{same_some, value_there, failed_there, seen_there, seen_noted, noted_apart}
 use Rattle.simplex_resolver.proofs.resolver.notarizations.Notarizations.note.Goals as goal

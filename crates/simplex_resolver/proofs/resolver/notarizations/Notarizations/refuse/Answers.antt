@@ -1,4 +1,4 @@
--- How the contract of `refuse` follows: the view leaves the other sets, which stay apart, and has no value from now on.
+-- How the contract of `refuse` follows: the view leaves the other sets, which stay disjoint, and has no value from now on.
 use Rattle.simplex_resolver.proofs.ViewSets.{seen_refused, failed_apart}
 use Rattle.simplex_resolver.proofs.resolver.notarizations.Notarizations.refuse.Goals as goal
 

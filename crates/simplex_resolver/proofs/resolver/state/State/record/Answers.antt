@@ -1,10 +1,10 @@
--- How the contract of `record` follows: by the certificate's kind: what it settles, and behind it what the scan fetches.
+-- How the contract of `record` follows: by the certificate's kind: what it settles, followed by what the scan fetches.
 use Rattle.std.proofs.Common.{◌≡◌, List, ◌++◌, ap, ◌∙◌}
 use Rattle.simplex_resolver.specs.Steps.{after_scan, scan_fetches}
 use Rattle.simplex_resolver.proofs.resolver.state.State.record.Goals as goal
 use Rattle.simplex_resolver.proofs.resolver.state.State.record.Goals.{in-Nullification+in_ok-record_nullification-in-Nullification, in-Notarization+in_ok-record_notarization-in-Notarization, in-Finalization+in_ok-record_finalization-in-Finalization}
 
--- what is settled, and behind it what a scan fetches
+-- what is settled, followed by what a scan fetches
 both : {A B : Type 0} (scanned : B → List A) (xs ys : List A) (x y : B) → xs ≡ ys → x ≡ y → xs ++ scanned x ≡ ys ++ scanned y
 both scanned xs ys x y same alike = ap (λ l. l ++ scanned x) same ∙ ap (λ z. ys ++ scanned z) alike
 

@@ -1,4 +1,4 @@
--- How the contract of `contains` follows: a key is found just where the view is in the set.
+-- How the contract of `contains` follows: a key is found exactly where the view is in the set.
 use Rattle.std.proofs.Common.{◌∙◌}
 use Rattle.simplex_resolver.proofs.Ranges.{found}
 use Rattle.simplex_resolver.proofs.ViewSets.{contained}

@@ -1,4 +1,4 @@
--- How the contract of `remove` follows: a key that is taken out leaves the others, sorted, and an absent one changes nothing.
+-- How the contract of `remove` follows: removing a key keeps the others, sorted, and an absent one changes nothing.
 use Rattle.std.proofs.Common.{◌≡◌, ℕ, ◌==◌, cond, false, ◌∙◌, ap, sym, arith}
 use Rattle.std.proofs.lemmas.Bool.Decides.{nat_tests}
 use Rattle.simplex_resolver.specs.Repair.{has}

@@ -1,4 +1,4 @@
--- How the contract of `decide_finalize` follows: a view that may be finalized is tracked, and its vote is what its notarization is of.
+-- How the contract of `decide_finalize` follows: a view that may be finalized is tracked, and its vote is for its notarization's proposal.
 use Rattle.std.proofs.Common.{ap, sym, refl, ◌∙◌, inl}
 use Rattle.simplex_round.specs.Round.{can_finalize}
 use Rattle.simplex_round.specs.declared.round.Decision.TheVariants.{Finalize}

@@ -1,4 +1,4 @@
--- How the contract of `decide_notarize` follows: a view that may be notarized is tracked, and its vote is what its slot holds.
+-- How the contract of `decide_notarize` follows: a view that may be notarized is tracked, and its vote is for its held proposal.
 use Rattle.std.proofs.Common.{true, ap, sym, refl, ◌∙◌}
 use Rattle.simplex_round.specs.Round.{can_notarize}
 use Rattle.simplex_voter.proofs.Changed.{lent, kept_changed, changed_there_always}

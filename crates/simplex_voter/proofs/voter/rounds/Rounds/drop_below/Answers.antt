@@ -1,4 +1,4 @@
--- How the contract of `drop_below` follows: the rounds from the view on are left, each as it was kept.
+-- How the contract of `drop_below` follows: the rounds from the view on remain, each unchanged.
 use Rattle.std.proofs.Common.{refl}
 use Rattle.simplex_voter.proofs.Containers.{entries-kept}
 use Rattle.simplex_voter.proofs.Changed.{left_kept}

@@ -1,4 +1,4 @@
--- How the contract of `get` follows: the map's round of the view is the state's, and its view is in range as each kept one's is.
+-- How the contract of `get` follows: the map's round of the view is the state's, and its view is in range as each tracked one's is.
 use Rattle.std.proofs.Common.{ap, sym, refl, ◌∙◌}
 use Rattle.simplex_voter.proofs.Changed.{found_at, in_range_at}
 use Rattle.simplex_voter.proofs.voter.rounds.Rounds.get.Goals as goal

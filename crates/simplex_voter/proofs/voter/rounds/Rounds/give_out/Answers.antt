@@ -1,4 +1,4 @@
--- How the contract of `give_out` follows: the round at the view is bound to what is given out, and one with nothing to give stays.
+-- How the contract of `give_out` follows: the round at the view is bound to its pending proposal, and a round without one stays.
 use Rattle.std.proofs.Common.{is_some, ap, sym, refl, ◌∙◌}
 use Rattle.std.proofs.lemmas.Bool.{false≢true}
 use Rattle.simplex_round.specs.Round.{pending_proposal}

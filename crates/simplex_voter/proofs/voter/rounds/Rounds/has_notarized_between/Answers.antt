@@ -1,4 +1,4 @@
--- How the contract of `has_notarized_between` follows: some entry of the part between is notarized just where some round between is.
+-- How the contract of `has_notarized_between` follows: some entry of the part between is notarized exactly where some round between is.
 use Rattle.std.proofs.Common.{ap, ◌∙◌, ◌&&◌, nat_lt}
 use Rattle.std.specs.Prelude.{nat_le}
 use Rattle.std.specs.List.{list_any}

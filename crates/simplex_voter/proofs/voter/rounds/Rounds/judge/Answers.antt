@@ -1,4 +1,4 @@
--- How the contract of `judge` follows: the bounds allow the verdict before the round has it, so the round stays kept.
+-- How the contract of `judge` follows: the bounds allow the verdict before the round has it, so the invariant holds.
 use Rattle.std.proofs.Common.{ap, sym, refl, ◌∙◌}
 use Rattle.simplex_round.specs.Round.{certified_round}
 use Rattle.simplex_voter.proofs.RoundChanges.{judged_alike}

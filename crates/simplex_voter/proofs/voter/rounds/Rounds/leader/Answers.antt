@@ -1,4 +1,4 @@
--- How the contract of `leader` follows: each kept round's leader is a member.
+-- How the contract of `leader` follows: each tracked round's leader is a member.
 use Rattle.std.proofs.Common.{subst}
 use Rattle.simplex_voter.specs.Rounds.{AreKept}
 use Rattle.simplex_voter.proofs.Changed.{leader_member}

@@ -1,4 +1,4 @@
--- How the contract of `new` follows: no view is tracked in an empty map, so all that are tracked are kept.
+-- How the contract of `new` follows: no view is tracked in an empty map, so the invariant holds of all that are.
 use Rattle.std.proofs.Common.{refl}
 use Rattle.simplex_voter.proofs.RoundsKept.{entries_empty}
 use Rattle.simplex_voter.proofs.Changed.{none_kept}

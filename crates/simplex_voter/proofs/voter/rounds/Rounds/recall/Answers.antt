@@ -1,4 +1,4 @@
--- How the contract of `recall` follows: the view is tracked and the bounds allow what is recalled before the round has it.
+-- How the contract of `recall` follows: the view is tracked and the bounds allow the entry before the round has it.
 use Rattle.std.proofs.Common.{◌∙◌, sym, subst, refl}
 use Rattle.simplex_types.specs.Proposal.{same_proposal}
 use Rattle.simplex_round.specs.Round.{TakesArtifact, after_replay}

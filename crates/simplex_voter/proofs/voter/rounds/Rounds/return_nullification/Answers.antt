@@ -1,4 +1,4 @@
--- How the contract of `return_nullification` follows: the round hands it out once, and an untracked view has none.
+-- How the contract of `return_nullification` follows: the round returns it once, and an untracked view has none.
 use Rattle.std.proofs.Common.{ap, sym, refl, ◌∙◌, ◌||◌, is_some, inl}
 use Rattle.std.specs.Prelude.{option_and_then}
 use Rattle.simplex_round.specs.Round.{once}

@@ -1,4 +1,4 @@
--- How the contract of `store_finalization` follows: the view is tracked and the bounds allow it before the round has it, so the round stays kept.
+-- How the contract of `store_finalization` follows: the view is tracked and the bounds allow it before the round has it, so the invariant holds.
 use Rattle.std.proofs.Common.{◌∙◌, refl}
 use Rattle.simplex_types.specs.Proposal.{same_proposal}
 use Rattle.simplex_types.specs.Certificates.{finalization_facts}

@@ -1,4 +1,4 @@
--- How the contract of `track` follows: a tracked view stays as it was, and a new round goes in that is kept.
+-- How the contract of `track` follows: a tracked view stays as it was, and a new round is added that keeps the invariant.
 use Rattle.std.proofs.Common.{refl, ◌∙◌}
 use Rattle.simplex_voter.proofs.RoundsKept.{looked_up, inserted_new}
 use Rattle.simplex_voter.proofs.Changed.{stays, goes_in, kept_in}

@@ -1,4 +1,4 @@
--- How the contract of `accept_proposal` follows: the successor that is prepared first leaves the round of the proposal as it was.
+-- How the contract of `accept_proposal` follows: preparing the next view first keeps the round of the proposal as it was.
 use Rattle.std.proofs.Common.{ap, ◌∙◌}
 use Rattle.simplex_voter.specs.Facts.{round_of}
 use Rattle.simplex_voter.specs.Verification.{is_new_proposal}

@@ -1,4 +1,4 @@
--- How the contract of `add_finalization` follows: want of memory fails the state, and leaves its set-up.
+-- How the contract of `add_finalization` follows: running out of memory fails the state, and keeps its setup.
 use Rattle.simplex_voter.proofs.Faults.{failed_now}
 use Rattle.simplex_voter.proofs.voter.state.State.add_finalization.Goals as goal
 

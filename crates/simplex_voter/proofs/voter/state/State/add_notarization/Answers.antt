@@ -1,4 +1,4 @@
--- How the contract of `add_notarization` follows: want of memory fails the state, and leaves its set-up.
+-- How the contract of `add_notarization` follows: running out of memory fails the state, and keeps its setup.
 use Rattle.simplex_voter.proofs.Faults.{failed_now}
 use Rattle.simplex_voter.proofs.voter.state.State.add_notarization.Goals as goal
 

@@ -1,4 +1,4 @@
--- How the contract of `broadcast_nullification` follows: the rounds hand it out once, the rest of the state stays, and want of memory fails it.
+-- How the contract of `broadcast_nullification` follows: the rounds return it once, the rest of the state stays, and running out of memory fails it.
 use Rattle.std.proofs.Common.{refl}
 use Rattle.simplex_voter.proofs.Shown.{where_true, same_setup, kept_with_rounds}
 use Rattle.simplex_voter.proofs.Faults.{failed_now}

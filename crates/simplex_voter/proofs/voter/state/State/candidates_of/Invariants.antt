@@ -1,4 +1,4 @@
--- The loop of `candidates_of`: both lists, with what the rest gives, are the answer.
+-- The loop of `candidates_of`: both lists, followed by those of the rest, are the result.
 use Rattle.std.proofs.Common.{length}
 use Rattle.simplex_voter.specs.Certification.{offered_of, fetched_of}
 use Rattle.simplex_voter.proofs.Offers.{Gathers}

@@ -1,4 +1,4 @@
--- How the contract of `certified` follows: a tracked view's verdict is refused for what is due alone, and want of memory fails the state.
+-- How the contract of `certified` follows: a tracked view's verdict is refused for what is due alone, and running out of memory fails the state.
 use Rattle.std.proofs.Common.{◌+◌}
 use Rattle.simplex_voter.specs.Facts.{is_tracked}
 use Rattle.simplex_voter.specs.Refusals.{enters_late}

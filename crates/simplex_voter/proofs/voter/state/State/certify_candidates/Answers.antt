@@ -1,4 +1,4 @@
--- How the contract of `certify_candidates` follows: the views that wait are the candidates, and are forgotten once offered; want of memory fails it.
+-- How the contract of `certify_candidates` follows: the views that wait are the candidates, and are forgotten once offered; running out of memory fails it.
 use Rattle.std.proofs.Common.{refl, ap, sym}
 use Rattle.simplex_voter.proofs.Faults.{failed_here}
 use Rattle.simplex_voter.proofs.Waiting.{candidates_shown, forgotten_shown}

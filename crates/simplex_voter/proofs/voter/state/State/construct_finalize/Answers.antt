@@ -1,4 +1,4 @@
--- How the contract of `construct_finalize` follows: the rule names a tracked view that may be finalized, and want of memory fails the state.
+-- How the contract of `construct_finalize` follows: the rule names a tracked view that may be finalized, and running out of memory fails the state.
 use Rattle.std.proofs.Common.{sym}
 use Rattle.simplex_voter.proofs.Rules.{finalize_round}
 use Rattle.simplex_voter.proofs.Faults.{failed_now}

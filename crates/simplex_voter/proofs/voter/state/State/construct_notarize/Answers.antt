@@ -1,4 +1,4 @@
--- How the contract of `construct_notarize` follows: the rule names a tracked view that may be notarized, and want of memory fails the state.
+-- How the contract of `construct_notarize` follows: the rule names a tracked view that may be notarized, and running out of memory fails the state.
 use Rattle.std.proofs.Common.{sym}
 use Rattle.simplex_voter.proofs.Rules.{notarize_round}
 use Rattle.simplex_voter.proofs.Faults.{failed_now}

@@ -1,4 +1,4 @@
--- How the contract of `construct_nullify` follows: want of memory fails the state, and leaves its set-up.
+-- How the contract of `construct_nullify` follows: running out of memory fails the state, and keeps its setup.
 use Rattle.simplex_voter.proofs.Faults.{failed_now}
 use Rattle.simplex_voter.proofs.voter.state.State.construct_nullify.Goals as goal
 

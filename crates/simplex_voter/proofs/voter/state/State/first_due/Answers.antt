@@ -1,4 +1,4 @@
--- How the contract of `first_due` follows: what is tracked is of the state's rounds, and nothing is due of other views.
+-- How the contract of `first_due` follows: what is tracked is of the state's rounds, and other views have nothing due.
 use Rattle.std.proofs.Common.{is_some, sym, ap, ◌∙◌}
 use Rattle.simplex_voter.specs.DueVotes.{is_due}
 use Rattle.simplex_voter.proofs.DueVotes.{rounds_from, first_shown, nothing_due}

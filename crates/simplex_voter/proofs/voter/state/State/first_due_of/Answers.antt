@@ -1,4 +1,4 @@
--- How the contract of `first_due_of` follows: the first view where something is due answers, and the others are passed by.
+-- How the contract of `first_due_of` follows: the first view where something is due is the result, and the others are skipped.
 use Rattle.simplex_voter.specs.DueVotes.{is_due}
 use Rattle.simplex_voter.proofs.DueVotes.{passes_later, rounds_split}
 use Rattle.simplex_voter.proofs.voter.state.State.first_due_of.Goals as goal

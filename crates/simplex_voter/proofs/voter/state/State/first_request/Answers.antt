@@ -1,4 +1,4 @@
--- How the contract of `first_request` follows: the first view with a request answers, and those without one are passed by.
+-- How the contract of `first_request` follows: the first view with a request is the result, and those without one are skipped.
 use Rattle.simplex_voter.specs.ProposalRequests.{request_in}
 use Rattle.simplex_voter.proofs.Scans.{given_here, given_next, given_nowhere}
 use Rattle.simplex_voter.proofs.voter.state.State.first_request.Goals as goal

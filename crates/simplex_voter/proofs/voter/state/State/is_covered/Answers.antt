@@ -1,4 +1,4 @@
--- How the contract of `is_covered` follows: a view is covered by the nullified views by terms just where one stands in its term up to it.
+-- How the contract of `is_covered` follows: the nullified views by terms cover a view exactly if one is in its term up to it.
 use Rattle.std.proofs.Common.{ap, sym, ◌∙◌}
 use Rattle.simplex_voter.proofs.Covered.{covered_by}
 use Rattle.simplex_voter.proofs.voter.state.State.is_covered.Goals as goal

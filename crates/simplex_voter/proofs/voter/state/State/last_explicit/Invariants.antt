@@ -1,4 +1,4 @@
--- The loop of `last_explicit`: the last one stands in what is left.
+-- The loop of `last_explicit`: the last one is among the rest.
 use Rattle.std.proofs.Common.{◌≡◌, None, length}
 use Rattle.std.specs.List.{filter_map, last_or}
 use Rattle.simplex_voter.specs.Parents.{explicit_at}

@@ -1,4 +1,4 @@
--- How the contract of `new` follows: nothing is kept in an empty state, with the sets of views in the set-up's terms.
+-- How the contract of `new` follows: an empty state has no rounds, and its sets of views have the setup's terms.
 use Rattle.std.proofs.Common.{ap, sym, length, ◌∙◌, refl, arith}
 use Rattle.simplex_voter.proofs.RoundsKept.{keys_empty}
 use Rattle.simplex_voter.proofs.voter.state.State.new.Goals as goal

@@ -1,4 +1,4 @@
--- How the contract of `optimistic_ancestry_payload` follows: what the view offers is decided where the walk is, and each end of it decides.
+-- How the contract of `optimistic_ancestry_payload` follows: the view's payload is decided where the walk is, and each end of it decides.
 use Rattle.std.proofs.Common.{Some, ap, ◌∙◌, subst, arith}
 use Rattle.simplex_voter.proofs.Chained.{reach, reach-below, WalkHasReached, nothing, begins, none_below, unbound, continues, ends}
 use Rattle.simplex_voter.proofs.voter.state.State.optimistic_ancestry_payload.Goals as goal

@@ -1,4 +1,4 @@
--- The loop of `optimistic_ancestry_payload`: what the view offers is decided where the walk is.
+-- The loop of `optimistic_ancestry_payload`: the view's payload is decided where the walk is.
 use Rattle.simplex_voter.proofs.Chained.{reach, WalkHasReached}
 use Rattle.simplex_voter.proofs.voter.state.State.optimistic_ancestry_payload.Given as goal
 

@@ -1,4 +1,4 @@
--- How the contract of `prune` follows: want of memory fails the state.
+-- How the contract of `prune` follows: running out of memory fails the state.
 use Rattle.simplex_voter.proofs.Faults.{failed_here}
 use Rattle.simplex_voter.proofs.voter.state.State.prune.Goals as goal
 

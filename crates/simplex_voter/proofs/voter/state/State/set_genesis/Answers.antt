@@ -1,4 +1,4 @@
--- How the contract of `set_genesis` follows: a late deadline of view 1 is the one fault that is due, and want of memory fails the state.
+-- How the contract of `set_genesis` follows: a late deadline of view 1 is the one fault that is due, and running out of memory fails the state.
 use Rattle.simplex_voter.proofs.Faults.{no_late_fault, failed_now}
 use Rattle.simplex_voter.proofs.voter.state.State.set_genesis.Goals as goal
 

@@ -1,4 +1,4 @@
--- The loop of `slide_optimistic_frontier`: what is left of the views leads from the facts of now to the whole slide.
+-- The loop of `slide_optimistic_frontier`: the remaining views lead from the current facts to the whole slide.
 use Rattle.std.proofs.Common.{◌≡◌, ◌+◌, ◌-◌, ◌≤◌}
 use Rattle.std.specs.List.{fold, range_with_len}
 use Rattle.simplex_voter.specs.Setup.{HasSameSetup}

@@ -1,4 +1,4 @@
--- How the contract of `start_above` follows: the finalization is accepted and then counted as handed out, and its copy is of the same view.
+-- How the contract of `start_above` follows: the finalization is accepted and then counts as already broadcast, and its copy is of the same view.
 use Rattle.std.proofs.Common.{ℕ, Result, Ok, Err, OnOk, IfOk, Some, option_map, ◌≡◌, ap, sym, subst, ◌∙◌}
 use Rattle.simplex_types.specs.Terms.{IsVotable}
 use Rattle.simplex_types.specs.Certificates.{ProposalFacts, finalization_facts}
@@ -7,7 +7,7 @@ use Rattle.simplex_voter.specs.Acceptance.{after_add_finalization, with_finaliza
 use Rattle.simplex_voter.proofs.Sliding.{same_setup_joins}
 use Rattle.simplex_voter.proofs.voter.state.State.start_above.Goals as goal
 
--- the copy is of the same view, and what was kept before is what is known of it
+-- the copy is of the same view, and what was stored before is what is known of it
 started_at : {K L D A E : Type 0} (r : Result A E) (n y z : StateFacts K L D) (v w : ℕ) → OnOk r (n ≡ with_finalization_broadcast y v) → y ≡ z → v ≡ w → OnOk r (n ≡ with_finalization_broadcast z w)
 started_at (Ok a) n y z v w counted accepted same = counted ∙ ap (λ x. with_finalization_broadcast x v) accepted ∙ ap (with_finalization_broadcast z) same
 started_at (Err e) n y z v w counted accepted same = counted

@@ -1,4 +1,4 @@
--- How the contract of `take_artifact` follows: what is restored of the round and of the sets leaves the set-up.
+-- How the contract of `take_artifact` follows: restoring the round and the sets keeps the setup.
 use Rattle.simplex_voter.proofs.Sliding.{same_setup_joins}
 use Rattle.simplex_voter.proofs.voter.state.State.take_artifact.Goals as goal
 

@@ -1,4 +1,4 @@
--- How the contract of `try_propose` follows: the rounds' part of it leaves the state kept.
+-- How the contract of `try_propose` follows: the rounds' part of it keeps the state's invariant.
 use Rattle.simplex_voter.proofs.Shown.{kept_with_rounds}
 use Rattle.simplex_voter.proofs.voter.state.State.try_propose.Goals as goal
 

@@ -1,4 +1,4 @@
--- How the contract of `views_below` follows: the rounds' views below the lowest kept one are the state's.
+-- How the contract of `views_below` follows: the rounds' views below the lowest retained one are the state's.
 use Rattle.std.proofs.Common.{ap, sym, ◌∙◌}
 use Rattle.simplex_voter.specs.Windows.{min_active}
 use Rattle.simplex_voter.proofs.voter.state.State.views_below.Goals as goal

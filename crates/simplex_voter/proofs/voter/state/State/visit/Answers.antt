@@ -1,4 +1,4 @@
--- How the contract of `visit` follows: each way that a proposal may stand leaves the view as the definition of the scan does.
+-- How the contract of `visit` follows: each standing of a proposal changes the view as the definition of the scan does.
 use Rattle.simplex_voter.proofs.Scanning.{passed_by, left_lacks, left_ready}
 use Rattle.simplex_voter.proofs.voter.state.State.visit.Goals as goal
 

@@ -1,4 +1,4 @@
--- How the contract of `voted_nullify` follows: the vote is out just where the view stands among the nullify votes.
+-- How the contract of `voted_nullify` follows: the vote was cast exactly if the view is among the nullify votes.
 use Rattle.std.proofs.Common.{ap, sym, ◌∙◌}
 use Rattle.simplex_voter.proofs.RoundsKept.{looked_up}
 use Rattle.simplex_voter.proofs.Requests.{voted_shown}

@@ -1,4 +1,4 @@
-//! What is planned once the member has come to other views.
+//! The steps that are planned once the member has entered other views.
 
 ghost use Rattle.std.specs.Prelude.{◌≡◌, ◌++◌, map, filter, nat_lt, OnOk};
 ghost use Rattle.engine_planner.specs.BuildPlans.{HasBuilds};
@@ -14,10 +14,10 @@ use std::alloc::AllocError;
 use std::collections::VecDeque;
 
 impl<S: CertificateScheme, D: Digest> Plan<S, D> {
-    /// The member has come to these views.
+    /// Takes note of the member's views.
     ///
-    /// Fetches are closed of the views up to a later finalized one. Where another view is entered, what may be due in it is asked
-    /// for, and behind that the blocks that waited for it, and the proposals that came before it.
+    /// It closes the fetches of the views up to a later finalized one. If another view is entered, it plans to ask for what may be due in
+    /// that view, then for the blocks that waited for it, then for the proposals that came before it.
     pub fn update_views(&mut self, views: Views) -> Result<(), AllocError>
         ensures { OnOk result (HasSeen views self.old self.new) }
     {
@@ -30,17 +30,18 @@ impl<S: CertificateScheme, D: Digest> Plan<S, D> {
         self.enter(views.current)
     }
 
-    /// Closes the fetches that a finalization passed, where a later view is finalized than before.
+    /// Closes the fetches that a finalization passed, if a later view is finalized than before.
     fn pass(&mut self, finalized: View)
         ensures same { self.new ≡ record self.old { repair = self.new.repair } }
-        ensures passed { IsPassedWhere (nat_lt self.old.views.last_finalized finalized) finalized self.old.repair self.new.repair }
+        ensures passed { IsPassedWhere (nat_lt self.old.views.last_finalized finalized) finalized self.old.repair
+            self.new.repair }
     {
         if self.views.last_finalized < finalized {
             self.repair.pass(finalized);
         }
     }
 
-    /// The view is entered: what may be due in it is asked for, and what waited for it.
+    /// Plans what entering the view calls for: to ask for what may be due in it, and for what waited for it.
     fn enter(&mut self, view: View) -> Result<(), AllocError>
         ensures { OnOk result (HasEntered view self.old self.new) }
     {
@@ -59,10 +60,11 @@ impl<S: CertificateScheme, D: Digest> Plan<S, D> {
         Ok(())
     }
 
-    /// Offers what came early, and is no longer.
+    /// Passes on the early proposals whose view has been reached.
     fn offer_early(&mut self, view: View) -> Result<(), AllocError>
         ensures same { self.new ≡ record self.old { steps = self.new.steps; early = self.new.early } }
-        ensures steps { OnOk result (self.new.steps.items ≡ self.old.steps.items ++ offering view self.old.early.proposals.items) }
+        ensures steps { OnOk result
+            (self.new.steps.items ≡ self.old.steps.items ++ offering view self.old.early.proposals.items) }
         ensures early { OnOk result (self.new.early.proposals.items
             ≡ filter (λ early. nat_lt view early.view) self.old.early.proposals.items) }
     {
@@ -88,7 +90,7 @@ fn ask_waiting<S: CertificateScheme, D: Digest>(
     Ok(())
 }
 
-/// Offers the early proposals of the views up to this one.
+/// Plans to pass on the early proposals of the views up to this one.
 fn offer_until<S: CertificateScheme, D: Digest>(
     view: View,
     early: &[Early<D>],

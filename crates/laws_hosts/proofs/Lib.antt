@@ -1,0 +1,6 @@
+pub mod Counting
+pub mod CallTraces
+pub mod Stops
+pub mod Hosts
+pub mod Networks
+pub mod LoneHosts
