@@ -26,7 +26,7 @@ from lib.program import ROOT
 
 NODE = ROOT / "node"
 SKIPPED = 77
-LEAST_TESTS = 233
+LEAST_TESTS = 272
 # The libraries that the container of `node/Containerfile` has.
 IN_CONTAINER = {"libssl", "libcrypto", "libgcc_s", "libc", "libm", "libdl", "libpthread"}
 # The words of the network that `./demo` runs.
@@ -221,16 +221,33 @@ def operators_faults(target):
     program = target / "debug/simplex-node"
     if not program.is_file():
         return
-    if shutil.which("systemd-analyze"):
-        for unit in sorted(NODE.glob("*.service")):
-            tried = target / unit.name
-            tried.write_text(re.sub(r"^User=.*$", "User=root", unit.read_text(), flags=re.M).replace("/usr/local/bin/simplex-node", str(program)))
-            done = subprocess.run(["systemd-analyze", "verify", "--man=no", tried], capture_output=True, text=True)
-            about = [line for line in done.stderr.splitlines() if unit.name in line]
-            if done.returncode or about:
-                yield f"systemd-analyze verify {unit.name}: {about or done.stderr[-500:]}"
-    else:
+    if not shutil.which("systemd-analyze"):
         print("node: the units of systemd were not verified: there is no systemd-analyze")
+    for unit in sorted(NODE.glob("*.service")):
+        yield from units_faults(unit, program, target)
+    yield from containers_faults(program)
+
+
+def units_faults(unit, program, target):
+    """What is not as it has to be of a unit of systemd: what it begins has to be understood by the program."""
+    text = unit.read_text()
+    values = dict(re.findall(r"(\w+)=(\w+)", " ".join(re.findall(r"^Environment=(.*)$", text, re.M))))
+    words = re.sub(r"\$\{(\w+)\}", lambda it: values.get(it[1], ""), re.search(r"^ExecStart=(.*)$", text, re.M)[1]).split()
+    # No file of it is here: it is refused by a file's name with status 1, and by 2 where it does not understand its words.
+    tried = subprocess.run([program, *words[1:]], capture_output=True, text=True, timeout=60)
+    if tried.returncode != 1 or "No such file" not in tried.stderr:
+        yield f"{unit.name}: {' '.join(words)}: status {tried.returncode}: {tried.stderr[-500:]}"
+    if shutil.which("systemd-analyze"):
+        copy = target / unit.name
+        copy.write_text(re.sub(r"^User=.*$", "User=root", text, flags=re.M).replace("/usr/local/bin/simplex-node", str(program)))
+        done = subprocess.run(["systemd-analyze", "verify", "--man=no", copy], capture_output=True, text=True)
+        about = [line for line in done.stderr.splitlines() if unit.name in line]
+        if done.returncode or about:
+            yield f"systemd-analyze verify {unit.name}: {about or done.stderr[-500:]}"
+
+
+def containers_faults(program):
+    """What is not as it has to be of the container file: its words, its user, its volume, and the libraries that the program needs."""
     text = re.sub(r"\\\n", " ", (NODE / "Containerfile").read_text())
     lines = dict(line.split(" ", 1) for line in text.splitlines() if line and not line.startswith("#"))
     words = json.loads(lines["ENTRYPOINT"]) + json.loads(lines["CMD"])

@@ -8,8 +8,9 @@ use simplex_node::signer::{Remote, Signer};
 use simplex_view_state::{Digest, Epoch, Proposal, Round, Subject, View};
 use std::fs;
 use std::path::PathBuf;
-use std::process::{Child, Command, Output, Stdio};
-use std::time::Duration;
+use std::process::{Child, Command, Stdio};
+use std::thread::sleep;
+use std::time::{Duration, Instant};
 
 const SOON: Duration = Duration::from_secs(120);
 
@@ -57,20 +58,21 @@ impl Signed {
         self.network.folder().join(name)
     }
 
-    fn command(&self, more: &[&str]) -> Command {
+    fn command(&self, socket: &str, more: &[&str]) -> Command {
         let mut command = Command::new(env!("CARGO_BIN_EXE_simplex-node"));
         command.args(["signer", "--network", "local", "--key"]).arg(self.path("0.pem"));
         command
             .arg("--guard")
             .arg(self.path("guard"))
             .arg("--socket")
-            .arg(self.path("sock"));
+            .arg(self.path(socket));
         command.args(more).stdin(Stdio::null()).stdout(Stdio::null());
         command
     }
 
     fn begin(&mut self, more: &[&str]) {
-        self.signer = Some(self.command(more).stderr(Stdio::null()).spawn().expect("a process"));
+        let begun = self.command("sock", more).stderr(Stdio::null()).spawn();
+        self.signer = Some(begun.expect("a process"));
     }
 
     fn kill(&mut self) {
@@ -97,7 +99,16 @@ impl Drop for Signed {
     }
 }
 
-fn said(output: &Output) -> String {
+/// What a process says that has to end with an error.
+fn refusal(mut command: Command) -> String {
+    let mut child = command.stderr(Stdio::piped()).spawn().expect("a process");
+    let begun = Instant::now();
+    while child.try_wait().expect("a process").is_none() && begun.elapsed() < SOON {
+        sleep(Duration::from_millis(20));
+    }
+    let _ = child.kill();
+    let output = child.wait_with_output().expect("it ended");
+    assert_eq!(output.status.code(), Some(1), "it does not end by itself");
     String::from_utf8_lossy(&output.stderr).into_owned()
 }
 
@@ -165,35 +176,26 @@ fn a_signer_signs_no_two_votes_that_contradict_each_other() {
 #[test]
 fn what_does_not_fit_is_refused_by_name_and_with_what_to_do() {
     let mut signed = Signed::new("unfit");
-    let lost = signed.command(&[]).output().expect("it ends");
-    assert!(
-        !lost.status.success() && said(&lost).contains("guard: ") && said(&lost).contains("--begin-at 1"),
-        "{lost:?}"
-    );
+    let lost = refusal(signed.command("sock", &[]));
+    assert!(lost.contains("guard: ") && lost.contains("--begin-at 1"), "{lost}");
     signed.begin(&["--begin-at", "1"]);
     drop(signed.remote());
-    let second = signed.command(&[]).output().expect("it ends");
-    assert!(said(&second).contains("sock: another signer listens there"), "{second:?}");
-    let elsewhere = signed.path("sock-2").display().to_string();
-    let second = signed.command(&["--socket", &elsewhere]).output();
-    assert!(!second.expect("it ends").status.success());
-    // A node whose signer has the key of another member.
-    signed
-        .network
-        .set(0, |it| it.network = "other".to_owned().try_into().expect("a name"))
-        .expect("a disk");
-    let mut node = Command::new(env!("CARGO_BIN_EXE_simplex-node"));
-    let ended = node.arg("--config").arg(signed.network.config(0)).output().expect("it ends");
-    assert!(said(&ended).contains("it is of another network, epoch or key"), "{ended:?}");
+    let second = refusal(signed.command("sock", &[]));
+    assert!(second.contains("sock: another signer listens there"), "{second}");
+    let second = refusal(signed.command("sock-2", &[]));
+    assert!(second.contains("guard: another signer has this file"), "{second}");
+    // A node of another network than its signer's, and one whose signer is not there.
+    let node = |name: &str, signed: &mut Signed| {
+        let name = name.to_owned().try_into().expect("a name");
+        signed.network.set(0, |it| it.network = name).expect("a disk");
+        let mut node = Command::new(env!("CARGO_BIN_EXE_simplex-node"));
+        node.arg("--config").arg(signed.network.config(0));
+        refusal(node)
+    };
+    let other = node("other", &mut signed);
+    assert!(other.contains("sock: it is of another network, epoch or key"), "{other}");
     signed.kill();
-    signed
-        .network
-        .set(0, |it| it.network = "local".to_owned().try_into().expect("a name"))
-        .expect("a disk");
-    let ended = node.output().expect("it ends");
-    assert!(
-        said(&ended).contains("sock: ") && said(&ended).contains("simplex-node signer"),
-        "{ended:?}"
-    );
+    let lacking = node("local", &mut signed);
+    assert!(lacking.contains("sock: ") && lacking.contains("simplex-node signer"), "{lacking}");
     fs::remove_dir_all(signed.network.folder()).expect("a folder");
 }

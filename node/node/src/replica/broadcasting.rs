@@ -39,8 +39,9 @@ impl Replica {
     /// Sends the certificates that were held back for long enough.
     pub(super) fn broadcast_due(&mut self) {
         let now = Instant::now();
-        while let Some((_, it)) = self.held.pop_front_if(|(due, _)| *due <= now) {
-            self.broadcast_now(it);
+        while self.held.front().is_some_and(|(due, _)| *due <= now) {
+            let first = self.held.pop_front();
+            first.into_iter().for_each(|(_, it)| self.broadcast_now(it));
         }
     }
 
