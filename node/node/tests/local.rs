@@ -1,5 +1,6 @@
 //! `simplex-local` as its user meets it: what it refuses, what it leaves alone, how it ends, and its last line.
 
+use simplex_node::metrics::Counters;
 use simplex_node::settings::Settings;
 use simplex_trace::{Event, Trace};
 use simplex_view_state::build_info;
@@ -204,12 +205,14 @@ fn the_shares_of_a_lifetime_are_no_more_than_all_of_it() {
         let Some(text) = settings.ok().and_then(|it| metrics_of(it.metrics?)) else {
             continue;
         };
-        let count = |name: &str| -> u64 {
-            let line = text.lines().find_map(|line| line.strip_prefix(&format!("simplex_{name} ")));
+        let seconds = |name: &str| -> f64 {
+            let name = Counters::exported(name).expect("a count").name;
+            let line = text.lines().find_map(|line| line.strip_prefix(&name)?.strip_prefix(' '));
             line.expect("it is counted").parse().expect("a number")
         };
-        let shares: u64 = ["core_us", "sign_us", "sync_us", "idle_us"].map(count).iter().sum();
-        assert!(shares <= count("life_us"), "{shares} of {}", count("life_us"));
+        let shares: f64 = ["core_us", "sign_us", "sync_us", "idle_us"].map(seconds).iter().sum();
+        // (sums of such numbers are rounded)
+        assert!(shares <= seconds("life_us") + 1e-9, "{shares} of {}", seconds("life_us"));
         seen += 1;
     }
     signal(&child, "TERM");

@@ -142,6 +142,7 @@ fn a_node_votes_by_its_signer_also_where_that_is_killed_and_begun_again() {
     let guard = fs::read_to_string(signed.path("guard")).expect("a file");
     assert!(guard.lines().count() > 15 && guard.starts_with("simplex-signer 1 local 1 "));
     assert!(simplex_node::audit::disagreements(&signed.network.chains().expect("chains")).is_empty());
+    signed.kill();
     fs::remove_dir_all(signed.network.folder()).expect("a folder");
 }
 
@@ -170,6 +171,9 @@ fn a_signer_signs_no_two_votes_that_contradict_each_other() {
         signed.kill();
         signed.begin(&[]);
     }
+    // (it makes its socket there, unless it listens already)
+    drop(signed.remote());
+    signed.kill();
     fs::remove_dir_all(signed.network.folder()).expect("a folder");
 }
 

@@ -17,6 +17,7 @@ use std::thread::{self, sleep};
 use std::time::{Duration, Instant};
 
 /// Within what time something has to be seen, on a machine that does much else.
+#[allow(dead_code, reason = "some tests alone need it")]
 pub const SOON: Duration = Duration::from_secs(60);
 
 /// A member's connection to the node, which several threads write to.
@@ -25,6 +26,7 @@ pub struct Link(Arc<Mutex<Session>>);
 
 impl Link {
     /// Begins a connection of a member to the node at an address.
+    #[allow(dead_code, reason = "some tests alone need it")]
     pub fn begin(credentials: &Credentials, address: &Address) -> Link {
         let begun = Instant::now();
         // (a greeting has two seconds, which may be over on a slow machine)
@@ -37,6 +39,7 @@ impl Link {
     }
 
     /// Writes bytes as they are.
+    #[allow(dead_code, reason = "some tests alone need it")]
     pub fn write_all(&self, bytes: &[u8]) -> io::Result<()> {
         self.0.lock().expect("nobody panics with it").write_all(bytes)
     }
