@@ -1,5 +1,5 @@
 -- All that an honest host's member has done, over all its processes.
-use Rattle.std.proofs.Common.{◌≡◌, ◌⊎◌, inl, inr, ℕ, Bool, true, List, [], ◌∷◌, ◌++◌, length, Option, Some, None, refl, ap, sym, subst, ◌∙◌, append_assoc, append-nil}
+use Rattle.std.proofs.Common.{◌≡◌, ◌⊎◌, inl, inr, ℕ, Bool, true, List, [], ◌∷◌, ◌++◌, length, Option, refl, ap, sym, subst, ◌∙◌, append_assoc, append-nil}
 use Rattle.std.specs.Prelude.{Contains}
 use Rattle.std.proofs.lemmas.List.Elements.{Contains-append_left, Contains-append_cases}
 use Rattle.simplex_types.specs.declared.types.messages.Proposal.{Proposal}
@@ -7,7 +7,6 @@ use Rattle.simplex_types.specs.declared.types.messages.Subject.{Subject}
 use Rattle.simplex_types.specs.declared.types.messages.Subject.TheVariants as subject
 use Rattle.simplex_types.specs.declared.types.window.Terms.{Terms}
 use Rattle.simplex_voter.specs.Facts.{Elect}
-use Rattle.simplex_record.specs.Votes.{SignedVote, votes_of}
 use Rattle.simplex_member.specs.MemberFacts.{MemberFacts, SignedMember}
 use Rattle.simplex_member.specs.declared.member.journal.Stored.{Stored}
 use Rattle.laws_safety.specs.MemberHistory.{HasHistory}
@@ -16,10 +15,9 @@ use Rattle.laws_safety.specs.Traces.{TraceEvent, Accepts, Signs}
 use Rattle.laws_safety.proofs.executions.Living.{done_lawful}
 use Rattle.laws_safety.proofs.lists.Splits.{Contains-cons_rest}
 use Rattle.engine_votes.specs.declared.votes.Vote.{Vote}
-use Rattle.engine_outbox.specs.Entries.{votes_of_entries}
 use Rattle.engine_outbox.specs.Finalizations.{finals_in}
 use Rattle.engine_outbox.specs.HostStops.{votes_recorded, WereSigned, EachStopIsLawful}
-use Rattle.engine_outbox.specs.Journals.{Journal, journal_of, IsRecordOf}
+use Rattle.engine_outbox.specs.Journals.{journal_of, IsRecordOf}
 use Rattle.engine_outbox.specs.declared.output.Output.{Output}
 use Rattle.engine_outbox.specs.declared.output.Output.TheVariants as output
 use Rattle.engine_outbox.proofs.EmittedVotes.{all_signed, was_stored}
@@ -28,7 +26,7 @@ use Rattle.engine_outbox.proofs.HostStops.{lawful_stops, signed_still}
 use Rattle.laws_hosts.specs.EngineCalls.{outputs_of}
 use Rattle.laws_hosts.specs.HostVotes.{EachHostKeepsRules}
 use Rattle.laws_hosts.specs.Processes.{Process, carried_by, MemberBegins, IsProcess, AreProcesses}
-use Rattle.laws_hosts.proofs.CallTraces.{none_in, here, AcceptsGood, good_both, QuorumsAreGood, PassesGood, IsAt, called}
+use Rattle.laws_hosts.proofs.CallTraces.{none_in, here, AcceptsGood, good_both, QuorumsAreGood, PassesGood, called}
 use Rattle.laws_hosts.proofs.Stops.{final_returned, among_finals, HasStopped, stopped}
 
 module _ {S D K G C : Type 0} (IsGood : Subject D → Type 0) where

@@ -1,5 +1,5 @@
 -- A lone host whose processes passed nothing is a network.
-use Rattle.std.proofs.Common.{◌≡◌, ◌≢◌, ◌⊎◌, inl, inr, ℕ, zero, suc, ◌||◌, Bool, true, false, List, [], ◌∷◌, length, slice_get, Option, Some, None, Result, Ok, Err, refl, ap, sym, subst, ◌∙◌, arith}
+use Rattle.std.proofs.Common.{◌≡◌, ◌≢◌, inl, ℕ, zero, suc, ◌||◌, Bool, true, false, List, [], ◌∷◌, length, slice_get, Option, Some, Result, Ok, Err, refl, sym, subst, arith}
 use Rattle.std.specs.Prelude.{Contains, IfOk, is_none}
 use Rattle.simplex_types.specs.declared.types.messages.Subject.{Subject}
 use Rattle.simplex_types.specs.declared.types.window.Terms.{Terms}
@@ -16,7 +16,7 @@ use Rattle.simplex_engine.specs.declared.input.Input.TheVariants as input
 use Rattle.laws_hosts.specs.EngineCalls.{Handled}
 use Rattle.laws_hosts.specs.HostInstances.{process_without_calls, lone_host}
 use Rattle.laws_hosts.specs.Processes.{Process, EngineBegins, AreProcesses}
-use Rattle.laws_hosts.specs.HostNetworks.{Host, Honest, IsHonestHost, IsHostNetwork}
+use Rattle.laws_hosts.specs.HostNetworks.{Honest, IsHonestHost, IsHostNetwork}
 use Rattle.laws_hosts.proofs.CallTraces.{none_in}
 
 -- what failed neither way did not fail the first way

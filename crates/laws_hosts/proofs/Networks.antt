@@ -1,7 +1,7 @@
 -- A network of hosts is a network of members of `agreement`: each honest host's member has an execution that signed the votes which the host
 -- carried out.
-use Rattle.std.proofs.Common.{◌≡◌, ◌≢◌, ◌⊎◌, inl, inr, ℕ, ◌+◌, ◌-◌, ◌*◌, ◌<◌, ◌≤◌, Bool, List, [], ◌∷◌, length, slice_get, Option, Some, refl, ap, sym, subst, ◌∙◌, arith}
-use Rattle.std.specs.Prelude.{All, Contains}
+use Rattle.std.proofs.Common.{◌≡◌, ◌⊎◌, inl, inr, ℕ, ◌+◌, ◌-◌, ◌*◌, ◌<◌, ◌≤◌, Bool, List, [], ◌∷◌, length, slice_get, Option, Some, refl, sym, subst, arith}
+use Rattle.std.specs.Prelude.{Contains}
 use Rattle.std.proofs.lemmas.List.Elements.{All-contains}
 use Rattle.simplex_types.specs.Quorums.{AreRising}
 use Rattle.simplex_types.specs.declared.types.messages.Proposal.{Proposal}
@@ -17,9 +17,8 @@ use Rattle.laws_safety.specs.Traces.{Accepts, Signs}
 use Rattle.laws_safety.proofs.executions.Living.{done_ran}
 use Rattle.engine_votes.specs.declared.votes.Vote.{Vote}
 use Rattle.engine_outbox.specs.declared.output.Output.TheVariants as output
-use Rattle.simplex_engine.specs.CertificateVotes.{HasQuorum}
 use Rattle.laws_hosts.specs.Processes.{Process, carried_by}
-use Rattle.laws_hosts.specs.HostNetworks.{Host, Faulty, Honest, is_faulty_host, FewFaultyHosts, MayHaveSent, IsCertifiable, IsHonestHost, IsHostNetwork, OfEachHostNetwork}
+use Rattle.laws_hosts.specs.HostNetworks.{Host, Faulty, Honest, is_faulty_host, MayHaveSent, IsCertifiable, IsHonestHost, IsHostNetwork, OfEachHostNetwork}
 use Rattle.laws_hosts.specs.HostAgreement.{IsReportedFinal, OneFinalOfEachView, FinalsUncovered, NotarizedChain, ChainsHoldFinals}
 use Rattle.laws_hosts.proofs.CallTraces.{none_in, QuorumsAreGood}
 use Rattle.laws_hosts.proofs.Counting.{at_least, ArePairs, paired, same_length, pair_at, as_many, same_count}

@@ -1,5 +1,5 @@
 -- Where a host stopped: the outputs that it carried out are those of a lawful stop, and they begin with a `Replace`.
-use Rattle.std.proofs.Common.{◌≡◌, ◌⊎◌, inl, inr, ℕ, Bool, List, [], ◌∷◌, ◌++◌, Option, Some, None, Vec, refl, ap, sym, subst, ◌∙◌, append_assoc}
+use Rattle.std.proofs.Common.{◌≡◌, ◌⊎◌, inl, inr, ℕ, Bool, List, [], ◌∷◌, ◌++◌, Some, Vec, refl, ap, sym, subst, ◌∙◌, append_assoc}
 use Rattle.std.specs.Prelude.{Contains}
 use Rattle.std.specs.declared.alloc.Global.{Global}
 use Rattle.std.proofs.lemmas.List.Elements.{Contains-append_left, Contains-append_cases}
@@ -14,7 +14,6 @@ use Rattle.engine_outbox.specs.HostStops.{MayBeCarriedOut, IsLawfulStop, EachSto
 use Rattle.engine_outbox.specs.Journals.{Journal, empty_journal, written, written_all, journal_of}
 use Rattle.engine_outbox.specs.declared.output.Output.{Output}
 use Rattle.engine_outbox.specs.declared.output.Output.TheVariants as output
-use Rattle.engine_outbox.proofs.Finalizations.{finalized_in-append}
 use Rattle.engine_outbox.proofs.Journals.{behind_others}
 use Rattle.laws_hosts.proofs.CallTraces.{none_in, here}
 
