@@ -10,7 +10,7 @@ use Rattle.std_heap.specs.contracts.impls.GlobalAllocator.TheImpl as global
 use Rattle.ffi_member.specs.declared.held.Held.{Held}
 use Rattle.ffi_member.specs.contracts.held.Held as held
 use Rattle.ffi_member.specs.declared.resolver_calls.HeldResolver.{HeldResolver}
-use Rattle.ffi_member.specs.contracts.resolving.HeldResolver as resolver
+use Rattle.ffi_member.specs.contracts.resolver_calls.HeldResolver as resolver
 use Rattle.ffi_engine.specs.declared.held.HeldEngine.{HeldEngine}
 use Rattle.ffi_engine.specs.contracts.held.HeldEngine as engine
 

@@ -6,12 +6,12 @@ use Rattle.ffi_exports.proofs.engines.simplex_engine_handle.Statement.{statement
 use Rattle.ffi_exports.proofs.engines.simplex_engine_handle.Code as code
 use Rattle.ffi_exports.specs.contracts.engines.tell as g
 use Rattle.ffi_exports.proofs.engines.tell.Met.{met}
-use Rattle.ffi_engine.specs.contracts.absent.taken as n
+use Rattle.ffi_engine.specs.contracts.null_handle.taken as n
 use Rattle.ffi_engine.proofs.null_handle.taken.Met.{met as met_null}
 use Rattle.ffi_engine.specs.contracts.held.HeldEngine.{the_row as R}
 use Rattle.ffi_engine.specs.declared.held.HeldEngine.{HeldEngine}
-use Rattle.ffi_engine.specs.contracts.told.FlatInput.{the_row as P}
-use Rattle.ffi_engine.specs.contracts.told.FlatTaken.{the_row as A}
+use Rattle.ffi_engine.specs.contracts.flat.FlatInput.{the_row as P}
+use Rattle.ffi_engine.specs.contracts.flat.FlatTaken.{the_row as A}
 use Rattle.ffi_engine.specs.declared.flat.FlatTaken.{FlatTaken}
 use Rattle.ffi_engine.proofs.flat.FlatTaken.TheLaws as answer
 use Rattle.ffi_exports.specs.HandleContents.{fact_formula, engine_at}

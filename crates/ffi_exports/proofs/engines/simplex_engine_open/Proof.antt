@@ -6,11 +6,11 @@ use Rattle.ffi_exports.proofs.engines.simplex_engine_open.Statement.{statement}
 use Rattle.ffi_exports.proofs.engines.simplex_engine_open.Code as code
 use Rattle.ffi_exports.specs.contracts.engines.pass_open as g
 use Rattle.ffi_exports.proofs.engines.pass_open.Met.{met}
-use Rattle.ffi_engine.specs.contracts.absent.open as n
+use Rattle.ffi_engine.specs.contracts.null_handle.open as n
 use Rattle.ffi_engine.proofs.null_handle.open.Met.{met as met_null}
 use Rattle.ffi_engine.specs.contracts.held.HeldEngine.{the_row as R}
 use Rattle.ffi_engine.specs.declared.held.HeldEngine.{HeldEngine}
-use Rattle.ffi_engine.specs.contracts.told.FlatOpen.{the_row as A}
+use Rattle.ffi_engine.specs.contracts.flat.FlatOpen.{the_row as A}
 use Rattle.ffi_engine.specs.declared.flat.FlatOpen.{FlatOpen}
 use Rattle.ffi_engine.proofs.flat.FlatOpen.TheLaws as answer
 use Rattle.ffi_exports.specs.HandleContents.{fact_formula, engine_at}

@@ -6,11 +6,11 @@ use Rattle.ffi_exports.proofs.engines.simplex_engine_poll.Statement.{statement}
 use Rattle.ffi_exports.proofs.engines.simplex_engine_poll.Code as code
 use Rattle.ffi_exports.specs.contracts.engines.give_out as g
 use Rattle.ffi_exports.proofs.engines.give_out.Met.{met}
-use Rattle.ffi_engine.specs.contracts.absent.output as n
+use Rattle.ffi_engine.specs.contracts.null_handle.output as n
 use Rattle.ffi_engine.proofs.null_handle.output.Met.{met as met_null}
 use Rattle.ffi_engine.specs.contracts.held.HeldEngine.{the_row as R}
 use Rattle.ffi_engine.specs.declared.held.HeldEngine.{HeldEngine}
-use Rattle.ffi_engine.specs.contracts.told.FlatOutput.{the_row as A}
+use Rattle.ffi_engine.specs.contracts.flat.FlatOutput.{the_row as A}
 use Rattle.ffi_engine.specs.declared.flat.FlatOutput.{FlatOutput}
 use Rattle.ffi_engine.proofs.flat.FlatOutput.TheLaws as answer
 use Rattle.ffi_exports.specs.HandleContents.{fact_formula, engine_at}

@@ -6,11 +6,11 @@ use Rattle.ffi_exports.proofs.engines.simplex_engine_serve.Statement.{statement}
 use Rattle.ffi_exports.proofs.engines.simplex_engine_serve.Code as code
 use Rattle.ffi_exports.specs.contracts.engines.pass_served as g
 use Rattle.ffi_exports.proofs.engines.pass_served.Met.{met}
-use Rattle.ffi_member.specs.contracts.absent.served as n
+use Rattle.ffi_member.specs.contracts.null_handle.served as n
 use Rattle.ffi_member.proofs.null_handle.served.Met.{met as met_null}
 use Rattle.ffi_engine.specs.contracts.held.HeldEngine.{the_row as R}
 use Rattle.ffi_engine.specs.declared.held.HeldEngine.{HeldEngine}
-use Rattle.ffi_member.specs.contracts.resolved.FlatServed.{the_row as A}
+use Rattle.ffi_member.specs.contracts.resolver_types.FlatServed.{the_row as A}
 use Rattle.ffi_member.specs.declared.resolver_types.FlatServed.{FlatServed}
 use Rattle.ffi_member.proofs.resolver_types.FlatServed.TheLaws as answer
 use Rattle.ffi_exports.specs.HandleContents.{fact_formula, engine_at}

@@ -6,11 +6,11 @@ use Rattle.ffi_exports.proofs.engines.simplex_engine_status.Statement.{statement
 use Rattle.ffi_exports.proofs.engines.simplex_engine_status.Code as code
 use Rattle.ffi_exports.specs.contracts.engines.pass_status as g
 use Rattle.ffi_exports.proofs.engines.pass_status.Met.{met}
-use Rattle.ffi_engine.specs.contracts.absent.engine_status as n
+use Rattle.ffi_engine.specs.contracts.null_handle.engine_status as n
 use Rattle.ffi_engine.proofs.null_handle.engine_status.Met.{met as met_null}
 use Rattle.ffi_engine.specs.contracts.held.HeldEngine.{the_row as R}
 use Rattle.ffi_engine.specs.declared.held.HeldEngine.{HeldEngine}
-use Rattle.ffi_engine.specs.contracts.told.FlatStatus.{the_row as A}
+use Rattle.ffi_engine.specs.contracts.flat.FlatStatus.{the_row as A}
 use Rattle.ffi_engine.specs.declared.flat.FlatStatus.{FlatStatus}
 use Rattle.ffi_engine.proofs.flat.FlatStatus.TheLaws as answer
 use Rattle.ffi_exports.specs.HandleContents.{fact_formula, engine_at}

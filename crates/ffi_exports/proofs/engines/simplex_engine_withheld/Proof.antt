@@ -6,11 +6,11 @@ use Rattle.ffi_exports.proofs.engines.simplex_engine_withheld.Statement.{stateme
 use Rattle.ffi_exports.proofs.engines.simplex_engine_withheld.Code as code
 use Rattle.ffi_exports.specs.contracts.engines.pass_withheld as g
 use Rattle.ffi_exports.proofs.engines.pass_withheld.Met.{met}
-use Rattle.ffi_member.specs.contracts.absent.withheld as n
+use Rattle.ffi_member.specs.contracts.null_handle.withheld as n
 use Rattle.ffi_member.proofs.null_handle.withheld.Met.{met as met_null}
 use Rattle.ffi_engine.specs.contracts.held.HeldEngine.{the_row as R}
 use Rattle.ffi_engine.specs.declared.held.HeldEngine.{HeldEngine}
-use Rattle.ffi_member.specs.contracts.shown.FlatWithheld.{the_row as A}
+use Rattle.ffi_member.specs.contracts.view_types.FlatWithheld.{the_row as A}
 use Rattle.ffi_member.specs.declared.view_types.FlatWithheld.{FlatWithheld}
 use Rattle.ffi_member.proofs.view_types.FlatWithheld.TheLaws as answer
 use Rattle.ffi_exports.specs.HandleContents.{fact_formula, engine_at}

@@ -6,11 +6,11 @@ use Rattle.ffi_exports.proofs.exports.simplex_member_bytes.Statement.{statement}
 use Rattle.ffi_exports.proofs.exports.simplex_member_bytes.Code as code
 use Rattle.ffi_exports.specs.contracts.exports.pass_chunk as g
 use Rattle.ffi_exports.proofs.exports.pass_chunk.Met.{met}
-use Rattle.ffi_member.specs.contracts.absent.chunk as n
+use Rattle.ffi_member.specs.contracts.null_handle.chunk as n
 use Rattle.ffi_member.proofs.null_handle.chunk.Met.{met as met_null}
 use Rattle.ffi_member.specs.contracts.held.Held.{the_row as R}
 use Rattle.ffi_member.specs.declared.held.Held.{Held}
-use Rattle.ffi_member.specs.contracts.shown.FlatChunk.{the_row as A}
+use Rattle.ffi_member.specs.contracts.view_types.FlatChunk.{the_row as A}
 use Rattle.ffi_member.specs.declared.view_types.FlatChunk.{FlatChunk}
 use Rattle.ffi_member.proofs.view_types.FlatChunk.TheLaws as answer
 use Rattle.ffi_exports.specs.HandleContents.{fact_formula, held_at}

@@ -6,7 +6,7 @@ use Rattle.ffi_exports.proofs.exports.simplex_member_call.Statement.{statement}
 use Rattle.ffi_exports.proofs.exports.simplex_member_call.Code as code
 use Rattle.ffi_exports.specs.contracts.exports.serve as g
 use Rattle.ffi_exports.proofs.exports.serve.Met.{met}
-use Rattle.ffi_member.specs.contracts.absent.reply as n
+use Rattle.ffi_member.specs.contracts.null_handle.reply as n
 use Rattle.ffi_member.proofs.null_handle.reply.Met.{met as met_null}
 use Rattle.ffi_member.specs.contracts.held.Held.{the_row as R}
 use Rattle.ffi_member.specs.declared.held.Held.{Held}

@@ -6,11 +6,11 @@ use Rattle.ffi_exports.proofs.exports.simplex_member_certificate.Statement.{stat
 use Rattle.ffi_exports.proofs.exports.simplex_member_certificate.Code as code
 use Rattle.ffi_exports.specs.contracts.exports.pass_certificate as g
 use Rattle.ffi_exports.proofs.exports.pass_certificate.Met.{met}
-use Rattle.ffi_member.specs.contracts.absent.found as n
+use Rattle.ffi_member.specs.contracts.null_handle.found as n
 use Rattle.ffi_member.proofs.null_handle.found.Met.{met as met_null}
 use Rattle.ffi_member.specs.contracts.held.Held.{the_row as R}
 use Rattle.ffi_member.specs.declared.held.Held.{Held}
-use Rattle.ffi_member.specs.contracts.shown.FlatFound.{the_row as A}
+use Rattle.ffi_member.specs.contracts.view_types.FlatFound.{the_row as A}
 use Rattle.ffi_member.specs.declared.view_types.FlatFound.{FlatFound}
 use Rattle.ffi_member.proofs.view_types.FlatFound.TheLaws as answer
 use Rattle.ffi_exports.specs.HandleContents.{fact_formula, held_at}

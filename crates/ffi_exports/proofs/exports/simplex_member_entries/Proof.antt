@@ -6,11 +6,11 @@ use Rattle.ffi_exports.proofs.exports.simplex_member_entries.Statement.{statemen
 use Rattle.ffi_exports.proofs.exports.simplex_member_entries.Code as code
 use Rattle.ffi_exports.specs.contracts.exports.pass_entries as g
 use Rattle.ffi_exports.proofs.exports.pass_entries.Met.{met}
-use Rattle.ffi_member.specs.contracts.absent.entries as n
+use Rattle.ffi_member.specs.contracts.null_handle.entries as n
 use Rattle.ffi_member.proofs.null_handle.entries.Met.{met as met_null}
 use Rattle.ffi_member.specs.contracts.held.Held.{the_row as R}
 use Rattle.ffi_member.specs.declared.held.Held.{Held}
-use Rattle.ffi_member.specs.contracts.shown.FlatEntries.{the_row as A}
+use Rattle.ffi_member.specs.contracts.view_types.FlatEntries.{the_row as A}
 use Rattle.ffi_member.specs.declared.view_types.FlatEntries.{FlatEntries}
 use Rattle.ffi_member.proofs.view_types.FlatEntries.TheLaws as answer
 use Rattle.ffi_exports.specs.HandleContents.{fact_formula, held_at}

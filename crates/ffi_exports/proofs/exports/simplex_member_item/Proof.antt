@@ -6,11 +6,11 @@ use Rattle.ffi_exports.proofs.exports.simplex_member_item.Statement.{statement}
 use Rattle.ffi_exports.proofs.exports.simplex_member_item.Code as code
 use Rattle.ffi_exports.specs.contracts.exports.pass_item as g
 use Rattle.ffi_exports.proofs.exports.pass_item.Met.{met}
-use Rattle.ffi_member.specs.contracts.absent.item as n
+use Rattle.ffi_member.specs.contracts.null_handle.item as n
 use Rattle.ffi_member.proofs.null_handle.item.Met.{met as met_null}
 use Rattle.ffi_member.specs.contracts.held.Held.{the_row as R}
 use Rattle.ffi_member.specs.declared.held.Held.{Held}
-use Rattle.ffi_member.specs.contracts.shown.FlatItem.{the_row as A}
+use Rattle.ffi_member.specs.contracts.view_types.FlatItem.{the_row as A}
 use Rattle.ffi_member.specs.declared.view_types.FlatItem.{FlatItem}
 use Rattle.ffi_member.proofs.view_types.FlatItem.TheLaws as answer
 use Rattle.ffi_exports.specs.HandleContents.{fact_formula, held_at}

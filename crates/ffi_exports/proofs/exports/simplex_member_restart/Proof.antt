@@ -7,11 +7,11 @@ use Rattle.ffi_exports.proofs.exports.simplex_member_restart.Statement.{statemen
 use Rattle.ffi_exports.proofs.exports.simplex_member_restart.Code as code
 use Rattle.ffi_exports.specs.contracts.exports.begin_anew as g
 use Rattle.ffi_exports.proofs.exports.begin_anew.Met.{met}
-use Rattle.ffi_member.specs.contracts.absent.status as n
+use Rattle.ffi_member.specs.contracts.null_handle.status as n
 use Rattle.ffi_member.proofs.null_handle.status.Met.{met as met_null}
 use Rattle.ffi_member.specs.contracts.held.Held.{the_row as R}
 use Rattle.ffi_member.specs.declared.held.Held.{Held}
-use Rattle.ffi_member.specs.contracts.shown.FlatRestart.{the_row as P}
+use Rattle.ffi_member.specs.contracts.view_types.FlatRestart.{the_row as P}
 use Rattle.ffi_exports.specs.HandleContents.{fact_formula, held_at}
 use Rattle.ffi_exports.specs.OpenStatuses.{IsRestartStatus}
 

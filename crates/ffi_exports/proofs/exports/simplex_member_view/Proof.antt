@@ -6,11 +6,11 @@ use Rattle.ffi_exports.proofs.exports.simplex_member_view.Statement.{statement}
 use Rattle.ffi_exports.proofs.exports.simplex_member_view.Code as code
 use Rattle.ffi_exports.specs.contracts.exports.pass_view as g
 use Rattle.ffi_exports.proofs.exports.pass_view.Met.{met}
-use Rattle.ffi_member.specs.contracts.absent.view as n
+use Rattle.ffi_member.specs.contracts.null_handle.view as n
 use Rattle.ffi_member.proofs.null_handle.view.Met.{met as met_null}
 use Rattle.ffi_member.specs.contracts.held.Held.{the_row as R}
 use Rattle.ffi_member.specs.declared.held.Held.{Held}
-use Rattle.ffi_member.specs.contracts.shown.FlatView.{the_row as A}
+use Rattle.ffi_member.specs.contracts.view_types.FlatView.{the_row as A}
 use Rattle.ffi_member.specs.declared.view_types.FlatView.{FlatView}
 use Rattle.ffi_member.proofs.view_types.FlatView.TheLaws as answer
 use Rattle.ffi_exports.specs.HandleContents.{fact_formula, held_at}

@@ -6,11 +6,11 @@ use Rattle.ffi_exports.proofs.exports.simplex_member_withheld.Statement.{stateme
 use Rattle.ffi_exports.proofs.exports.simplex_member_withheld.Code as code
 use Rattle.ffi_exports.specs.contracts.exports.pass_withheld as g
 use Rattle.ffi_exports.proofs.exports.pass_withheld.Met.{met}
-use Rattle.ffi_member.specs.contracts.absent.withheld as n
+use Rattle.ffi_member.specs.contracts.null_handle.withheld as n
 use Rattle.ffi_member.proofs.null_handle.withheld.Met.{met as met_null}
 use Rattle.ffi_member.specs.contracts.held.Held.{the_row as R}
 use Rattle.ffi_member.specs.declared.held.Held.{Held}
-use Rattle.ffi_member.specs.contracts.shown.FlatWithheld.{the_row as A}
+use Rattle.ffi_member.specs.contracts.view_types.FlatWithheld.{the_row as A}
 use Rattle.ffi_member.specs.declared.view_types.FlatWithheld.{FlatWithheld}
 use Rattle.ffi_member.proofs.view_types.FlatWithheld.TheLaws as answer
 use Rattle.ffi_exports.specs.HandleContents.{fact_formula, held_at}

@@ -6,11 +6,11 @@ use Rattle.ffi_exports.proofs.resolvers.simplex_resolver_effect.Statement.{state
 use Rattle.ffi_exports.proofs.resolvers.simplex_resolver_effect.Code as code
 use Rattle.ffi_exports.specs.contracts.resolvers.pass_effect as g
 use Rattle.ffi_exports.proofs.resolvers.pass_effect.Met.{met}
-use Rattle.ffi_member.specs.contracts.absent.effect as n
+use Rattle.ffi_member.specs.contracts.null_handle.effect as n
 use Rattle.ffi_member.proofs.null_handle.effect.Met.{met as met_null}
-use Rattle.ffi_member.specs.contracts.resolving.HeldResolver.{the_row as R}
+use Rattle.ffi_member.specs.contracts.resolver_calls.HeldResolver.{the_row as R}
 use Rattle.ffi_member.specs.declared.resolver_calls.HeldResolver.{HeldResolver}
-use Rattle.ffi_member.specs.contracts.resolved.FlatEffect.{the_row as A}
+use Rattle.ffi_member.specs.contracts.resolver_types.FlatEffect.{the_row as A}
 use Rattle.ffi_member.specs.declared.resolver_types.FlatEffect.{FlatEffect}
 use Rattle.ffi_member.proofs.resolver_types.FlatEffect.TheLaws as answer
 use Rattle.ffi_exports.specs.HandleContents.{fact_formula, resolver_at}

@@ -24,7 +24,7 @@ use Rattle.ffi_exports.proofs.resolvers.simplex_resolver_free.Code as code
 use Rattle.ffi_exports.specs.contracts.resolvers.end as g
 use Rattle.ffi_exports.proofs.resolvers.end.Met.{met}
 use Rattle.ffi_exports.specs.HandleContents.{resolver_owned_at}
-use Rattle.ffi_member.specs.contracts.resolving.HeldResolver.{the_row as R}
+use Rattle.ffi_member.specs.contracts.resolver_calls.HeldResolver.{the_row as R}
 
 abbrev stayed : Stays f.ended.signature.params f.ended.kept
 stayed = (stay_dropped _ yes, (stay_dropped _ yes, tt))

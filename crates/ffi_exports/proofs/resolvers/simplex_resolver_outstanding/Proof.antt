@@ -6,11 +6,11 @@ use Rattle.ffi_exports.proofs.resolvers.simplex_resolver_outstanding.Statement.{
 use Rattle.ffi_exports.proofs.resolvers.simplex_resolver_outstanding.Code as code
 use Rattle.ffi_exports.specs.contracts.resolvers.pass_outstanding as g
 use Rattle.ffi_exports.proofs.resolvers.pass_outstanding.Met.{met}
-use Rattle.ffi_member.specs.contracts.absent.outstanding as n
+use Rattle.ffi_member.specs.contracts.null_handle.outstanding as n
 use Rattle.ffi_member.proofs.null_handle.outstanding.Met.{met as met_null}
-use Rattle.ffi_member.specs.contracts.resolving.HeldResolver.{the_row as R}
+use Rattle.ffi_member.specs.contracts.resolver_calls.HeldResolver.{the_row as R}
 use Rattle.ffi_member.specs.declared.resolver_calls.HeldResolver.{HeldResolver}
-use Rattle.ffi_member.specs.contracts.resolved.FlatOutstanding.{the_row as A}
+use Rattle.ffi_member.specs.contracts.resolver_types.FlatOutstanding.{the_row as A}
 use Rattle.ffi_member.specs.declared.resolver_types.FlatOutstanding.{FlatOutstanding}
 use Rattle.ffi_member.proofs.resolver_types.FlatOutstanding.TheLaws as answer
 use Rattle.ffi_exports.specs.HandleContents.{fact_formula, resolver_at}

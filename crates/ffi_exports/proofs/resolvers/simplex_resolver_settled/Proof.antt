@@ -6,11 +6,11 @@ use Rattle.ffi_exports.proofs.resolvers.simplex_resolver_settled.Statement.{stat
 use Rattle.ffi_exports.proofs.resolvers.simplex_resolver_settled.Code as code
 use Rattle.ffi_exports.specs.contracts.resolvers.pass_settled as g
 use Rattle.ffi_exports.proofs.resolvers.pass_settled.Met.{met}
-use Rattle.ffi_member.specs.contracts.absent.settled as n
+use Rattle.ffi_member.specs.contracts.null_handle.settled as n
 use Rattle.ffi_member.proofs.null_handle.settled.Met.{met as met_null}
-use Rattle.ffi_member.specs.contracts.resolving.HeldResolver.{the_row as R}
+use Rattle.ffi_member.specs.contracts.resolver_calls.HeldResolver.{the_row as R}
 use Rattle.ffi_member.specs.declared.resolver_calls.HeldResolver.{HeldResolver}
-use Rattle.ffi_member.specs.contracts.resolved.FlatSettled.{the_row as A}
+use Rattle.ffi_member.specs.contracts.resolver_types.FlatSettled.{the_row as A}
 use Rattle.ffi_member.specs.declared.resolver_types.FlatSettled.{FlatSettled}
 use Rattle.ffi_member.proofs.resolver_types.FlatSettled.TheLaws as answer
 use Rattle.ffi_exports.specs.HandleContents.{fact_formula, resolver_at}

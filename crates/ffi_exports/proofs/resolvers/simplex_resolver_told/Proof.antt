@@ -6,12 +6,12 @@ use Rattle.ffi_exports.proofs.resolvers.simplex_resolver_told.Statement.{stateme
 use Rattle.ffi_exports.proofs.resolvers.simplex_resolver_told.Code as code
 use Rattle.ffi_exports.specs.contracts.resolvers.tell as g
 use Rattle.ffi_exports.proofs.resolvers.tell.Met.{met}
-use Rattle.ffi_member.specs.contracts.absent.effects as n
+use Rattle.ffi_member.specs.contracts.null_handle.effects as n
 use Rattle.ffi_member.proofs.null_handle.effects.Met.{met as met_null}
-use Rattle.ffi_member.specs.contracts.resolving.HeldResolver.{the_row as R}
+use Rattle.ffi_member.specs.contracts.resolver_calls.HeldResolver.{the_row as R}
 use Rattle.ffi_member.specs.declared.resolver_calls.HeldResolver.{HeldResolver}
-use Rattle.ffi_member.specs.contracts.resolved.FlatResolverReply.{the_row as P}
-use Rattle.ffi_member.specs.contracts.resolved.FlatEffects.{the_row as A}
+use Rattle.ffi_member.specs.contracts.resolver_types.FlatResolverReply.{the_row as P}
+use Rattle.ffi_member.specs.contracts.resolver_types.FlatEffects.{the_row as A}
 use Rattle.ffi_member.specs.declared.resolver_types.FlatEffects.{FlatEffects}
 use Rattle.ffi_member.proofs.resolver_types.FlatEffects.TheLaws as answer
 use Rattle.ffi_exports.specs.HandleContents.{fact_formula, resolver_at}

@@ -31,7 +31,7 @@ use Rattle.std_heap.specs.contracts.GlobalAllocator.TheImpl.{ghosts}
 use Rattle.std_heap.proofs.Global.TheLaws as laws
 use Rattle.std.proofs.GlobalToken.{dealloc_token-Testable}
 use Rattle.ffi_exports.proofs.Values.{both, RawBox, loose_good, loose_out}
-use Rattle.ffi_member.specs.contracts.resolving.HeldResolver.{the_row as R}
+use Rattle.ffi_member.specs.contracts.resolver_calls.HeldResolver.{the_row as R}
 use Rattle.ffi_exports.specs.contracts.handles.ResolverHandle as handle
 use Rattle.ffi_exports.specs.contracts.handles.ResolverHandle.of.{ended, clauses}
 use Rattle.ffi_exports.specs.contracts.handles.ResolverHandle.of.Key.{name as #self}

@@ -34,8 +34,8 @@ use Rattle.std.proofs.raw_atomic.Walks.{proved_at, leaves}
 use Rattle.ffi_exports.proofs.Values.{both, RawBox, loose_good, loose_out}
 use Rattle.std_alloc.specs.contracts.boxed.Box.from_raw as callee
 use Rattle.std_alloc.proofs.boxed.Box.from_raw.Met.{met}
-use Rattle.ffi_exports.specs.contracts.loose.RawBox.into_box.{ended, clauses}
-use Rattle.ffi_exports.specs.contracts.loose.RawBox.into_box.Key.{name as #self}
+use Rattle.ffi_exports.specs.contracts.raw_box.RawBox.into_box.{ended, clauses}
+use Rattle.ffi_exports.specs.contracts.raw_box.RawBox.into_box.Key.{name as #self}
 use Rattle.ffi_exports.proofs.raw_box.RawBox.into_box.Statement.{statement}
 use Rattle.ffi_exports.proofs.raw_box.RawBox.into_box.Code as code
 

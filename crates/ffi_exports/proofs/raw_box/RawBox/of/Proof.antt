@@ -35,8 +35,8 @@ use Rattle.std.proofs.raw_atomic.Walks.{proved_at, leaves}
 use Rattle.ffi_exports.proofs.Values.{both, loose_good, loose_in}
 use Rattle.std_alloc.specs.contracts.boxed.Box.into_raw_with_allocator as callee
 use Rattle.std_alloc.proofs.boxed.Box.into_raw_with_allocator.Met.{met}
-use Rattle.ffi_exports.specs.contracts.loose.RawBox.of.{ended, clauses}
-use Rattle.ffi_exports.specs.contracts.loose.RawBox.of.Key.{name as #self}
+use Rattle.ffi_exports.specs.contracts.raw_box.RawBox.of.{ended, clauses}
+use Rattle.ffi_exports.specs.contracts.raw_box.RawBox.of.Key.{name as #self}
 use Rattle.ffi_exports.proofs.raw_box.RawBox.of.Statement.{statement}
 use Rattle.ffi_exports.proofs.raw_box.RawBox.of.Code as code
 
