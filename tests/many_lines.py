@@ -5,7 +5,7 @@ Each part is run with a tenth of the lines and with all of them, and the peaks o
 
   shown        a voter is asked what leaves nothing behind, over and over: each round has the replies of the first
   told         a resolver is told certificates that it has, and finalizations that rise
-  pruned       a voter finalizes view after view, and begins a new life from a pruned record now and then
+  pruned       a voter finalizes view after view, and begins a new lifetime from a pruned record now and then
   compacted    the same without restarts, asked of `enduring`: the record is pruned within the life now and then, and what is
                left takes the journal's place; in the end it has less than a thousand entries
   recorded     the same with neither, with a tenth of the lines: each entry of the record may take so many bytes, and the

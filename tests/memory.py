@@ -6,7 +6,7 @@ tests, and the Nth request for memory within the core fails, for each N until a 
 
   a voter's state      the failing call fails it, and each later one is refused; after a refusal in `best` it goes on
   a member             nothing has changed, and the call asked again answers as ever; or it has failed, its record stands, and a
-                       restart goes on with the laws of votes over both lives
+                       restart goes on with the laws of votes over both lifetimes
   restart, resume, recover, and the start of a resolver   the record stays, and what is asked again answers as ever; what the start
                        of a resolver only notes to find it sooner it does without
   run                  no replies, or those of a member that failed

@@ -1,7 +1,7 @@
 #!/usr/bin/env python3
 """A restart after each call of each script: the laws of a member's votes hold over all replies.
 
-For each script of the repository's tests that asks a voter: a new life after every call, and after each call alone; with
+For each script of the repository's tests that asks a voter: a new lifetime after every call, and after each call alone; with
 nothing dropped, with one entry dropped, with the record pruned, and from the journal after a crash, which `enduring` can do:
 also from one that was made short before, and where the process ends before the shorter one is stored.
 Those of `rows.py`, whose settings change, are asked of `enduring` alone. Replies are not compared with the script's, since a new
@@ -42,7 +42,7 @@ def with_restarts(lines, restart, places):
 
 
 def variants(lines, lives):
-    """The script with a new life after every call, and after each call alone."""
+    """The script with a new lifetime after every call, and after each call alone."""
     for life in lives:
         yield with_restarts(lines, life, range(len(lines)))
         for place in range(len(lines)):

@@ -140,12 +140,12 @@ class MemberLaws:
 
     def _take_views(self, views):
         if views[0] < self.highest[0] or views[1] < self.highest[1] or views[0] <= views[1]:
-            self._broken(f"views {views} after {self.highest} within a life")
+            self._broken(f"views {views} after {self.highest} within a lifetime")
         self.highest = views
 
     def _once(self, handed):
         if handed in self.handed_out:
-            self._broken(f"{handed} was handed out to broadcast twice in a life")
+            self._broken(f"{handed} was returned for broadcast twice in a lifetime")
         self.handed_out.add(handed)
 
 

@@ -6,7 +6,7 @@ from lib.protocol import FINALIZATION, NOTARIZATION, NULLIFICATION, is_restart, 
 
 SIGNS = {NOTARIZATION: "n", NULLIFICATION: "x", FINALIZATION: "f"}
 LEGEND = """\
-na: voted to notarize proposal a of the view (b, c: another one); x: to nullify; f: to finalize; r: a new life began, drawn at
+na: voted to notarize proposal a of the view (b, c: another one); x: to nullify; f: to finalize; r: a new lifetime began, drawn at
 the latest view voted in; N, X, F: certificates that the votes back; parent: of the proposal that is notarized"""
 
 

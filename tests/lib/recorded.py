@@ -68,7 +68,7 @@ class Record:
         self.offered, self.building, self.fetches = set(), {}, set()
 
     def _prune(self):
-        """What a pruning leaves: at a restart, or within a life right behind the state's own prune."""
+        """What a pruning leaves: at a restart, or within a lifetime right behind the state's own prune."""
         low = max((it.view for it in self.certificates() if it.kind == FINALIZATION), default=0) - RETENTION
         self.entries = [it for it in self.entries if view_of(it) >= low]
         self.closed = len(self.entries)

@@ -109,10 +109,10 @@ class Sweep:
         lines = self.lines[:place + 1] + restart + self.lines[place:]
         replies, _ = self.program.ask(self.kind, self.script, lines, number)
         wants(replies[place + 1:place + 4] == wanted[place:], f"request {number}, restarted, not {wanted[place:]}", replies)
-        self.keeps_laws(f"request {number}, over both lives", lines, replies)
+        self.keeps_laws(f"request {number}, over both lifetimes", lines, replies)
 
     def cut_record(self, place):
-        """The record once it was cut for a new life; a life that begins at a floor puts the floor's finalization behind it."""
+        """The record once it was cut for a new lifetime; a life that begins at a floor puts the floor's finalization behind it."""
         entries, earlier = self.shown[place][1].split(" "), self.before(place)[1].split(" ") if place else []
         is_of_floor = entries[-1].startswith("finalization:") and entries[-1] not in earlier
         return " ".join(entries[:-1] if is_of_floor else entries)

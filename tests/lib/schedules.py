@@ -127,7 +127,7 @@ def asked_again(views):
 
 
 def pruned_lives():
-    """25 views finalized in turn; once view 20 is, each member begins a new life from a pruned record."""
+    """25 views finalized in turn; once view 20 is, each member begins a new lifetime from a pruned record."""
     views = [finalized_view(view, (view - 1) % 4) for view in range(1, 26)]
     again = joined("1 2 3: restart-pruned 0 205 => ok", "1 2 3: view => view 21 20 10", asked_again(range(1, 10)))
     return joined(*views[:20], again, *views[20:], asked_again(range(1, 10)))
