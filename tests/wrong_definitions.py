@@ -447,7 +447,7 @@ WRONG_DEFINITIONS = (
         (("highest_received m x = max", "highest_received m x = 1 + max"), ("{◌≡◌, ◌≤◌, ℕ", "{◌≡◌, ◌≤◌, ◌+◌, ℕ")), ENGINE,
     ),
     Wrong(
-        "an engine that had failed tells want of memory", "simplex_engine/specs/Failures.antt",
+        "an engine that had failed reports out of memory", "simplex_engine/specs/Failures.antt",
         (("(if had_failed then Failed else OutOfMemory)", "OutOfMemory"),), ENGINE,
     ),
     Wrong(

@@ -146,7 +146,7 @@ fn one_certificate_on_a_subject_is_passed_until_the_member_has_taken_it() {
     assert_eq!(members.reads(1, &Message::Certificate(one.clone())), (true, 3));
     assert_eq!(members.reads(2, &Message::Certificate(other.clone())), (false, 0), "one is passed");
     members.reader.horizon.took(nullify(1));
-    assert_eq!(members.reads(2, &Message::Certificate(other)), (true, 1), "that one was of no use");
+    assert_eq!(members.reads(2, &Message::Certificate(other)), (true, 1), "that one was ignored");
     members.reader.horizon.know(nullify(1));
     members.reader.horizon.took(nullify(1));
     assert_eq!(members.reads(3, &Message::Certificate(one)), (false, 0), "the member has one");
