@@ -10,7 +10,7 @@ use simplex_identity::NetworkName;
 use simplex_view_state::{Epoch, Subject};
 use std::fs::{self, Permissions};
 use std::io;
-use std::os::unix::fs::PermissionsExt;
+use std::os::unix::fs::{FileTypeExt, PermissionsExt};
 use std::os::unix::net::{UnixListener, UnixStream};
 use std::path::{Path, PathBuf};
 use std::sync::{Arc, Mutex, PoisonError};
@@ -88,10 +88,13 @@ pub fn serve(settings: &Settings, listener: UnixListener) -> Outcome {
     Ok(())
 }
 
-/// Listens at a socket that this user alone may use. The socket of a signer that has ended is replaced.
+/// Listens at a socket that this user alone may use. The socket of a signer that has ended is replaced; any other file is left alone.
 fn listen(path: &Path) -> Outcome<UnixListener> {
     let named = |error: io::Error| format!("{}: {error}", path.display());
-    if path.exists() {
+    if let Ok(there) = fs::symlink_metadata(path) {
+        if !there.file_type().is_socket() {
+            return Err(format!("{}: this is no socket, and stays as it is: name another path", path.display()).into());
+        }
         if UnixStream::connect(path).is_ok() {
             return Err(format!(
                 "{}: another signer listens there: end it first, or name another socket",
@@ -138,5 +141,24 @@ impl Shared {
         }
         self.guard.lock().unwrap_or_else(PoisonError::into_inner).admit(&subject)?;
         Ok(self.key.sign(&subject, text)?.to_vec())
+    }
+}
+
+#[cfg(test)]
+mod tests {
+    use super::listen;
+    use std::fs;
+
+    #[test]
+    fn a_file_that_is_no_socket_stays_as_it_is() {
+        let path = std::env::temp_dir().join(format!("simplex-signer-{}-key", std::process::id()));
+        fs::write(&path, "a key").expect("a disk");
+        let refusal = listen(&path).expect_err("it is no socket").to_string();
+        assert!(
+            refusal.contains("is no socket") && refusal.contains("name another path"),
+            "{refusal}"
+        );
+        assert_eq!(fs::read_to_string(&path).expect("it is there"), "a key");
+        fs::remove_file(&path).expect("the test's own file");
     }
 }
