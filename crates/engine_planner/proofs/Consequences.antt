@@ -114,7 +114,7 @@ module _ {S D K G C : Type 0} (old new : Plan S D K G C) where
   followed_plans bytes bytes_of now asked (reply.Nullify answer) is = plans_nothing (λ view. false) (nullify_followed now answer is)
   followed_plans bytes bytes_of now asked (reply.Certificate certificate) is = plans_nothing (λ view. false) (broadcast_followed certificate is)
   followed_plans bytes bytes_of now asked (reply.Timeout moment reason) is =
-      plans_nothing (λ view. false) (plans_behind old new (cond (nat_le moment now) (Ask (task.Nullify old.views.current reason) ∷ []) []) is.steps (ap beside_of is.same))
+      plans_nothing (λ view. false) (plans_behind old new (cond (nat_le moment now) (Ask (task.ConstructNullify old.views.current reason) ∷ []) []) is.steps (ap beside_of is.same))
   followed_plans bytes bytes_of now asked (reply.Fault fault) is = plans_nothing (λ view. false) (plans_same old new is)
   followed_plans bytes bytes_of now asked reply.NotAllowed is = plans_none (consequence_plans (after_refusal asked) is)
   followed_plans bytes bytes_of now asked reply.Unit is = plans_nothing (λ view. false) (plans_same old new is)

@@ -118,7 +118,7 @@ module _ {S D K G C : Type 0} where
   watched_none current [] = refl
   watched_none current (b ∷ builds) = one (nat_lt b.context.round.view current) ∙ watched_none current builds
     where
-      one : (t : Bool) → of_task {S = S} {D = D} {K = K} {G = G} {C = C} (cond t (task.Release b.context.round.view) (task.Abandon b.context.round.view)) ++ of_steps (watching_all current builds) ≡ of_steps (watching_all current builds)
+      one : (t : Bool) → of_task {S = S} {D = D} {K = K} {G = G} {C = C} (cond t (task.ReleaseProposalRequest b.context.round.view) (task.PendingHandoffAbandonment b.context.round.view)) ++ of_steps (watching_all current builds) ≡ of_steps (watching_all current builds)
       one true = refl
       one false = refl
 
@@ -205,80 +205,80 @@ module _ {S D K G C : Type 0} where
   stopped_where true view = refl
   stopped_where false view = refl
 
-  asked_where : (b : Bool) (view : ℕ) → of_task {S = S} {D = D} {K = K} {G = G} {C = C} (cond b (task.Release view) (task.Supersede view)) ≡ []
+  asked_where : (b : Bool) (view : ℕ) → of_task {S = S} {D = D} {K = K} {G = G} {C = C} (cond b (task.ReleaseProposalRequest view) (task.SupersedeProposalRequest view)) ≡ []
   asked_where true view = refl
   asked_where false view = refl
 
   flag_plain : (asked : Task D) (is_taken : Bool) → of_consequence (after_flag asked is_taken) ≡ []
   flag_plain (task.SetProposal view proposal) is_taken = touched_where is_taken view
-  flag_plain task.Propose is_taken = refl
+  flag_plain task.TryPropose is_taken = refl
   flag_plain (task.Proposed view payload) is_taken = refl
-  flag_plain (task.Supersede view) is_taken = stopped_where is_taken view
-  flag_plain (task.Abandon view) is_taken = refl
-  flag_plain (task.Release view) is_taken = refl
-  flag_plain task.Verify is_taken = refl
+  flag_plain (task.SupersedeProposalRequest view) is_taken = stopped_where is_taken view
+  flag_plain (task.PendingHandoffAbandonment view) is_taken = refl
+  flag_plain (task.ReleaseProposalRequest view) is_taken = refl
+  flag_plain task.TryVerify is_taken = refl
   flag_plain (task.Verified view) is_taken = touched_where is_taken view
   flag_plain (task.VerificationFailed view) is_taken = refl
-  flag_plain task.Candidates is_taken = refl
-  flag_plain (task.SetHandle view) is_taken = refl
+  flag_plain task.CertifyCandidates is_taken = refl
+  flag_plain (task.SetCertifyHandle view) is_taken = refl
   flag_plain (task.Certified view is_success) is_taken = refl
-  flag_plain (task.Notarize view) is_taken = refl
-  flag_plain (task.Finalize view) is_taken = refl
-  flag_plain (task.Nullify view reason) is_taken = refl
+  flag_plain (task.ConstructNotarize view) is_taken = refl
+  flag_plain (task.ConstructFinalize view) is_taken = refl
+  flag_plain (task.ConstructNullify view reason) is_taken = refl
   flag_plain (task.BroadcastNotarization view) is_taken = refl
   flag_plain (task.BroadcastNullification view) is_taken = refl
   flag_plain (task.BroadcastFinalization view) is_taken = refl
-  flag_plain task.BestCertificate is_taken = refl
-  flag_plain (task.GiveUp view reason) is_taken = touched_where is_taken view
-  flag_plain task.Timeout is_taken = refl
+  flag_plain task.GetBestCertificate is_taken = refl
+  flag_plain (task.TriggerTimeout view reason) is_taken = touched_where is_taken view
+  flag_plain task.NextTimeout is_taken = refl
   flag_plain task.Prune is_taken = refl
 
   refusal_plain : (asked : Task D) → of_consequence (after_refusal asked) ≡ []
   refusal_plain (task.SetProposal view proposal) = refl
-  refusal_plain task.Propose = refl
+  refusal_plain task.TryPropose = refl
   refusal_plain (task.Proposed view payload) = refl
-  refusal_plain (task.Supersede view) = refl
-  refusal_plain (task.Abandon view) = refl
-  refusal_plain (task.Release view) = refl
-  refusal_plain task.Verify = refl
+  refusal_plain (task.SupersedeProposalRequest view) = refl
+  refusal_plain (task.PendingHandoffAbandonment view) = refl
+  refusal_plain (task.ReleaseProposalRequest view) = refl
+  refusal_plain task.TryVerify = refl
   refusal_plain (task.Verified view) = refl
   refusal_plain (task.VerificationFailed view) = refl
-  refusal_plain task.Candidates = refl
-  refusal_plain (task.SetHandle view) = refl
+  refusal_plain task.CertifyCandidates = refl
+  refusal_plain (task.SetCertifyHandle view) = refl
   refusal_plain (task.Certified view is_success) = refl
-  refusal_plain (task.Notarize view) = refl
-  refusal_plain (task.Finalize view) = refl
-  refusal_plain (task.Nullify view reason) = refl
+  refusal_plain (task.ConstructNotarize view) = refl
+  refusal_plain (task.ConstructFinalize view) = refl
+  refusal_plain (task.ConstructNullify view reason) = refl
   refusal_plain (task.BroadcastNotarization view) = refl
   refusal_plain (task.BroadcastNullification view) = refl
   refusal_plain (task.BroadcastFinalization view) = refl
-  refusal_plain task.BestCertificate = refl
-  refusal_plain (task.GiveUp view reason) = refl
-  refusal_plain task.Timeout = refl
+  refusal_plain task.GetBestCertificate = refl
+  refusal_plain (task.TriggerTimeout view reason) = refl
+  refusal_plain task.NextTimeout = refl
   refusal_plain task.Prune = refl
 
   watch_plain : (asked : Task D) (is_abandoned : Bool) → of_consequence (after_watch asked is_abandoned) ≡ []
   watch_plain (task.SetProposal view proposal) is_abandoned = refl
-  watch_plain task.Propose is_abandoned = refl
+  watch_plain task.TryPropose is_abandoned = refl
   watch_plain (task.Proposed view payload) is_abandoned = refl
-  watch_plain (task.Supersede view) is_abandoned = refl
-  watch_plain (task.Abandon view) is_abandoned = asked_where is_abandoned view
-  watch_plain (task.Release view) is_abandoned = refl
-  watch_plain task.Verify is_abandoned = refl
+  watch_plain (task.SupersedeProposalRequest view) is_abandoned = refl
+  watch_plain (task.PendingHandoffAbandonment view) is_abandoned = asked_where is_abandoned view
+  watch_plain (task.ReleaseProposalRequest view) is_abandoned = refl
+  watch_plain task.TryVerify is_abandoned = refl
   watch_plain (task.Verified view) is_abandoned = refl
   watch_plain (task.VerificationFailed view) is_abandoned = refl
-  watch_plain task.Candidates is_abandoned = refl
-  watch_plain (task.SetHandle view) is_abandoned = refl
+  watch_plain task.CertifyCandidates is_abandoned = refl
+  watch_plain (task.SetCertifyHandle view) is_abandoned = refl
   watch_plain (task.Certified view is_success) is_abandoned = refl
-  watch_plain (task.Notarize view) is_abandoned = refl
-  watch_plain (task.Finalize view) is_abandoned = refl
-  watch_plain (task.Nullify view reason) is_abandoned = refl
+  watch_plain (task.ConstructNotarize view) is_abandoned = refl
+  watch_plain (task.ConstructFinalize view) is_abandoned = refl
+  watch_plain (task.ConstructNullify view reason) is_abandoned = refl
   watch_plain (task.BroadcastNotarization view) is_abandoned = refl
   watch_plain (task.BroadcastNullification view) is_abandoned = refl
   watch_plain (task.BroadcastFinalization view) is_abandoned = refl
-  watch_plain task.BestCertificate is_abandoned = refl
-  watch_plain (task.GiveUp view reason) is_abandoned = refl
-  watch_plain task.Timeout is_abandoned = refl
+  watch_plain task.GetBestCertificate is_abandoned = refl
+  watch_plain (task.TriggerTimeout view reason) is_abandoned = refl
+  watch_plain task.NextTimeout is_abandoned = refl
   watch_plain task.Prune is_abandoned = refl
 
   consequence : (what : Consequence D) (old new : Plan S D K G C) → of_consequence what ≡ [] → IsConsequence what old new → AreAmong (planned_causes new) (planned_causes old)
@@ -370,7 +370,7 @@ module _ {S D K G C : Type 0} where
         → Gives (reply_causes now (reply.Timeout moment reason) asked) old new
     timeout_on moment reason asked old new is = by_test (nat_le moment now) is
       where
-        by_test : (b : Bool) → HasPlanned (cond b (step.Ask (task.Nullify old.views.current reason) ∷ []) []) (record old { timeout = moment }) new
+        by_test : (b : Bool) → HasPlanned (cond b (step.Ask (task.ConstructNullify old.views.current reason) ∷ []) []) (record old { timeout = moment }) new
             → Gives (cond b (Expiry ∷ []) []) old new
         by_test true is = planned_more {old = record old { timeout = moment }} is
         by_test false is = planned_more {old = record old { timeout = moment }} is

@@ -115,26 +115,26 @@ shows_none S G C call.Prune leader kind view = refl
 -- a task passes no certificate
 no_task_hands_in : {D : Type 0} (bytes : D → List ℕ) (now : ℕ) (asked : Task D) → views_received bytes (call_of asked now) ≡ []
 no_task_hands_in bytes now (task.SetProposal v p) = refl
-no_task_hands_in bytes now task.Propose = refl
+no_task_hands_in bytes now task.TryPropose = refl
 no_task_hands_in bytes now (task.Proposed v payload) = refl
-no_task_hands_in bytes now (task.Supersede v) = refl
-no_task_hands_in bytes now (task.Abandon v) = refl
-no_task_hands_in bytes now (task.Release v) = refl
-no_task_hands_in bytes now task.Verify = refl
+no_task_hands_in bytes now (task.SupersedeProposalRequest v) = refl
+no_task_hands_in bytes now (task.PendingHandoffAbandonment v) = refl
+no_task_hands_in bytes now (task.ReleaseProposalRequest v) = refl
+no_task_hands_in bytes now task.TryVerify = refl
 no_task_hands_in bytes now (task.Verified v) = refl
 no_task_hands_in bytes now (task.VerificationFailed v) = refl
-no_task_hands_in bytes now task.Candidates = refl
-no_task_hands_in bytes now (task.SetHandle v) = refl
+no_task_hands_in bytes now task.CertifyCandidates = refl
+no_task_hands_in bytes now (task.SetCertifyHandle v) = refl
 no_task_hands_in bytes now (task.Certified v is_success) = refl
-no_task_hands_in bytes now (task.Notarize v) = refl
-no_task_hands_in bytes now (task.Finalize v) = refl
-no_task_hands_in bytes now (task.Nullify v reason) = refl
+no_task_hands_in bytes now (task.ConstructNotarize v) = refl
+no_task_hands_in bytes now (task.ConstructFinalize v) = refl
+no_task_hands_in bytes now (task.ConstructNullify v reason) = refl
 no_task_hands_in bytes now (task.BroadcastNotarization v) = refl
 no_task_hands_in bytes now (task.BroadcastNullification v) = refl
 no_task_hands_in bytes now (task.BroadcastFinalization v) = refl
-no_task_hands_in bytes now task.BestCertificate = refl
-no_task_hands_in bytes now (task.GiveUp v reason) = refl
-no_task_hands_in bytes now task.Timeout = refl
+no_task_hands_in bytes now task.GetBestCertificate = refl
+no_task_hands_in bytes now (task.TriggerTimeout v reason) = refl
+no_task_hands_in bytes now task.NextTimeout = refl
 no_task_hands_in bytes now task.Prune = refl
 
 module _ {S D K G C : Type 0} where

@@ -66,8 +66,8 @@ module _ {S D K G C : Type 0} where
   of_task (task.Verified view) = Message (task.Verified view) ∷ []
   of_task (task.VerificationFailed view) = Message (task.VerificationFailed view) ∷ []
   of_task (task.Certified view is_success) = Message (task.Certified view is_success) ∷ []
-  of_task (task.GiveUp view reason) = Message (task.GiveUp view reason) ∷ []
-  of_task (task.Nullify view reason) = Expiry ∷ []
+  of_task (task.TriggerTimeout view reason) = Message (task.TriggerTimeout view reason) ∷ []
+  of_task (task.ConstructNullify view reason) = Expiry ∷ []
   of_task _ = []
 
   -- what causes a step

@@ -54,9 +54,9 @@ pub data Consequence (D : Type 0) : Type 0 where
 module _ {D : Type 0} where
   -- a call was not allowed: a block that it was about is no longer needed
   abbrev pub after_refusal : Task D → Consequence D
-  after_refusal (task.Abandon view) = Stopped view
-  after_refusal (task.Supersede view) = Stopped view
-  after_refusal (task.Release view) = Stopped view
+  after_refusal (task.PendingHandoffAbandonment view) = Stopped view
+  after_refusal (task.SupersedeProposalRequest view) = Stopped view
+  after_refusal (task.ReleaseProposalRequest view) = Stopped view
   after_refusal (task.Proposed view _) = Ended view
   after_refusal _ = Nothing
 
@@ -65,14 +65,14 @@ module _ {D : Type 0} where
   after_flag (task.Proposed view _) is_taken = Built view
   after_flag (task.SetProposal view _) is_taken = if is_taken then Touched view else Nothing
   after_flag (task.Verified view) is_taken = if is_taken then Touched view else Nothing
-  after_flag (task.GiveUp view _) is_taken = if is_taken then Touched view else Nothing
-  after_flag (task.Release view) is_taken = Stopped view
-  after_flag (task.Supersede view) is_taken = if is_taken then Stopped view else Nothing
+  after_flag (task.TriggerTimeout view _) is_taken = if is_taken then Touched view else Nothing
+  after_flag (task.ReleaseProposalRequest view) is_taken = Stopped view
+  after_flag (task.SupersedeProposalRequest view) is_taken = if is_taken then Stopped view else Nothing
   after_flag _ is_taken = Nothing
 
   -- whether a block is abandoned; else another may replace it
   abbrev pub after_watch : Task D → Bool → Consequence D
-  after_watch (task.Abandon view) is_abandoned = Asked (if is_abandoned then task.Release view else task.Supersede view)
+  after_watch (task.PendingHandoffAbandonment view) is_abandoned = Asked (if is_abandoned then task.ReleaseProposalRequest view else task.SupersedeProposalRequest view)
   after_watch _ is_abandoned = Nothing
 
 -- a lone member builds no block on a parent that is not certified before it enters the view
@@ -121,19 +121,19 @@ module _ {S D K G C : Type 0} where
 
   -- the vote to nullify the view is sent once more, and with it the best certificate
   abbrev pub repeating : ℕ → List (Step S D K G C)
-  repeating view = Repeat view ∷ Ask task.BestCertificate ∷ Ask task.Timeout ∷ []
+  repeating view = Repeat view ∷ Ask task.GetBestCertificate ∷ Ask task.NextTimeout ∷ []
 
   -- a vote to nullify was cast, or the previous one is sent once more; if none is allowed, the member is asked again after the retry
   -- interval
   abbrev pub IsNullifyFollowed : ℕ → Option (Bool × Nullify S K G C) → Plan S D K G C → Plan S D K G C → Type 0
   IsNullifyFollowed now (Some (true, vote)) old new = HasPlanned (repeating vote.round.view) old new
-  IsNullifyFollowed now (Some (false, _)) old new = HasPlanned (Ask task.Timeout ∷ []) old new
+  IsNullifyFollowed now (Some (false, _)) old new = HasPlanned (Ask task.NextTimeout ∷ []) old new
   IsNullifyFollowed now None old new = new ≡ record old { timeout = min (now + old.options.retry) (2 ^ 64 - 1) }
 
   -- the current view times out, if its moment has come
   abbrev pub IsTimeoutFollowed : ℕ → ℕ → TimeoutReason → Plan S D K G C → Plan S D K G C → Type 0
   IsTimeoutFollowed now moment reason old new =
-      HasPlanned (if nat_le moment now then Ask (task.Nullify old.views.current reason) ∷ [] else [])
+      HasPlanned (if nat_le moment now then Ask (task.ConstructNullify old.views.current reason) ∷ [] else [])
       (record old { timeout = moment }) new
 
   -- a leader is reported to have signed two proposals of the view, if one did
@@ -145,7 +145,7 @@ module _ {S D K G C : Type 0} where
   abbrev pub certifying : List (Proposal D) → List (Step S D K G C)
   certifying [] = []
   certifying (proposal ∷ rest) =
-      Push (work.Certify proposal) ∷ Ask (task.SetHandle proposal.round.view) ∷ certifying rest
+      Push (work.Certify proposal) ∷ Ask (task.SetCertifyHandle proposal.round.view) ∷ certifying rest
 
   -- the same, and the notarizations that others wait for are asked for
   pub record AreCertified (now : ℕ) (proposals : List (Proposal D)) (wanted : List CertificateFetch)

@@ -4,7 +4,7 @@ use Rattle.std.specs.Option.{option_map_or}
 use Rattle.engine_planner.specs.declared.plan.Plan.{Plan}
 use Rattle.engine_planner.specs.declared.plan.Step.{Step}
 use Rattle.engine_planner.specs.declared.plan.Step.TheVariants.{Ask}
-use Rattle.engine_planner.specs.declared.task.Task.TheVariants.{Notarize, Finalize, BroadcastNotarization, BroadcastNullification, BroadcastFinalization}
+use Rattle.engine_planner.specs.declared.task.Task.TheVariants.{ConstructNotarize, ConstructFinalize, BroadcastNotarization, BroadcastNullification, BroadcastFinalization}
 use Rattle.engine_fetches.specs.declared.fetches.Fetch.{Fetch}
 use Rattle.engine_fetches.specs.Fetches.{due_at, IsEarliest}
 
@@ -29,7 +29,7 @@ module _ {S D K G C : Type 0} where
 
   -- to ask for this member's votes on the view
   abbrev pub asking_for_votes : ℕ → List (Step S D K G C)
-  asking_for_votes view = Ask (Notarize view) ∷ Ask (Finalize view) ∷ []
+  asking_for_votes view = Ask (ConstructNotarize view) ∷ Ask (ConstructFinalize view) ∷ []
 
   -- to ask for the certificates of the view that were not returned yet
   abbrev pub asking_for_certificates : ℕ → List (Step S D K G C)

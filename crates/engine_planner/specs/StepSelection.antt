@@ -8,13 +8,13 @@ use Rattle.engine_planner.specs.declared.plan.Plan.{Plan}
 use Rattle.engine_planner.specs.declared.plan.Step.{Step}
 use Rattle.engine_planner.specs.declared.plan.Step.TheVariants as step
 use Rattle.engine_planner.specs.declared.task.Task.{Task}
-use Rattle.engine_planner.specs.declared.task.Task.TheVariants.{Abandon, Release, Timeout, Prune}
+use Rattle.engine_planner.specs.declared.task.Task.TheVariants.{PendingHandoffAbandonment, ReleaseProposalRequest, NextTimeout, Prune}
 use Rattle.engine_planner.specs.PlanStates.{HasPlanned}
 
 -- a block of a view below the current one is abandoned; for another the member is asked whether it must be
 abbrev pub watching_one : {K D : Type 0} → ℕ → Building D K → Task D
 watching_one current building =
-    let view = building.context.round.view in if nat_lt view current then Release view else Abandon view
+    let view = building.context.round.view in if nat_lt view current then ReleaseProposalRequest view else PendingHandoffAbandonment view
 
 module _ {S D K G C : Type 0} where
   -- the same for each block to build
@@ -44,7 +44,7 @@ module _ {S D K G C : Type 0} where
 
   -- the member is asked for the timeout before that, once a moment
   abbrev pub IsTimeoutAsked : Bool → ℕ → Plan S D K G C → Plan S D K G C → Type 0
-  IsTimeoutAsked true now old new = HasPlanned (step.Ask Timeout ∷ []) (record old { is_timeout_due = false }) new
+  IsTimeoutAsked true now old new = HasPlanned (step.Ask NextTimeout ∷ []) (record old { is_timeout_due = false }) new
   IsTimeoutAsked false now old new = IsPruneAsked old.is_prune_due now old new
 
   -- the member is asked about the blocks before anything else

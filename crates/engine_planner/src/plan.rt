@@ -272,8 +272,8 @@ impl<S: CertificateScheme, D: Digest> Plan<S, D> {
     fn ask_for_votes(&mut self, view: View) -> Result<(), AllocError>
         ensures { OnOk result (HasPlanned (asking_for_votes view) self.old self.new) }
     {
-        self.ask(Task::Notarize(view))?;
-        self.ask(Task::Finalize(view))
+        self.ask(Task::ConstructNotarize(view))?;
+        self.ask(Task::ConstructFinalize(view))
     }
 
     /// Plans to ask for the certificates of the view that are to be broadcast.

@@ -9,30 +9,30 @@ use simplex_member::member::Call;
 use simplex_types::reasons::TimeoutReason;
 use simplex_types::types::{CertificateScheme, Digest, Proposal, View};
 
-/// A call of the member that passes no certificate.
+/// A call of the member that passes no certificate. A variant has the name of its `Call`.
 #[derive(Clone, Copy)]
 pub enum Task<D> {
     SetProposal(View, Proposal<D>),
-    Propose,
+    TryPropose,
     Proposed(View, D),
-    Supersede(View),
-    Abandon(View),
-    Release(View),
-    Verify,
+    SupersedeProposalRequest(View),
+    PendingHandoffAbandonment(View),
+    ReleaseProposalRequest(View),
+    TryVerify,
     Verified(View),
     VerificationFailed(View),
-    Candidates,
-    SetHandle(View),
+    CertifyCandidates,
+    SetCertifyHandle(View),
     Certified(View, bool),
-    Notarize(View),
-    Finalize(View),
-    Nullify(View, TimeoutReason),
+    ConstructNotarize(View),
+    ConstructFinalize(View),
+    ConstructNullify(View, TimeoutReason),
     BroadcastNotarization(View),
     BroadcastNullification(View),
     BroadcastFinalization(View),
-    BestCertificate,
-    GiveUp(View, TimeoutReason),
-    Timeout,
+    GetBestCertificate,
+    TriggerTimeout(View, TimeoutReason),
+    NextTimeout,
     Prune,
 }
 
@@ -44,28 +44,28 @@ impl<D: Digest> Task<D> {
     {
         match self {
             Task::SetProposal(view, proposal) => Call::SetProposal(view, proposal),
-            Task::Propose => Call::TryPropose,
+            Task::TryPropose => Call::TryPropose,
             Task::Proposed(view, payload) => Call::Proposed(view, payload, now),
-            Task::Supersede(view) => Call::SupersedeProposalRequest(view),
-            Task::Abandon(view) => Call::PendingHandoffAbandonment(view),
-            Task::Release(view) => Call::ReleaseProposalRequest(view),
-            Task::Verify => Call::TryVerify,
+            Task::SupersedeProposalRequest(view) => Call::SupersedeProposalRequest(view),
+            Task::PendingHandoffAbandonment(view) => Call::PendingHandoffAbandonment(view),
+            Task::ReleaseProposalRequest(view) => Call::ReleaseProposalRequest(view),
+            Task::TryVerify => Call::TryVerify,
             Task::Verified(view) => Call::Verified(view),
             Task::VerificationFailed(view) => {
                 Call::VerificationFailed(view, TimeoutReason::InvalidProposal, now)
             }
-            Task::Candidates => Call::CertifyCandidates,
-            Task::SetHandle(view) => Call::SetCertifyHandle(view, view.get()),
+            Task::CertifyCandidates => Call::CertifyCandidates,
+            Task::SetCertifyHandle(view) => Call::SetCertifyHandle(view, view.get()),
             Task::Certified(view, is_success) => Call::Certified(view, is_success, now),
-            Task::Notarize(view) => Call::ConstructNotarize(view),
-            Task::Finalize(view) => Call::ConstructFinalize(view),
-            Task::Nullify(view, reason) => Call::ConstructNullify(view, reason),
+            Task::ConstructNotarize(view) => Call::ConstructNotarize(view),
+            Task::ConstructFinalize(view) => Call::ConstructFinalize(view),
+            Task::ConstructNullify(view, reason) => Call::ConstructNullify(view, reason),
             Task::BroadcastNotarization(view) => Call::BroadcastNotarization(view),
             Task::BroadcastNullification(view) => Call::BroadcastNullification(view),
             Task::BroadcastFinalization(view) => Call::BroadcastFinalization(view),
-            Task::BestCertificate => Call::GetBestCertificate,
-            Task::GiveUp(view, reason) => Call::TriggerTimeout(view, reason, now),
-            Task::Timeout => Call::NextTimeout(now),
+            Task::GetBestCertificate => Call::GetBestCertificate,
+            Task::TriggerTimeout(view, reason) => Call::TriggerTimeout(view, reason, now),
+            Task::NextTimeout => Call::NextTimeout(now),
             Task::Prune => Call::Prune,
         }
     }

@@ -15,8 +15,7 @@ use Rattle.engine_outbox.specs.declared.output.Output.TheVariants as output
 use Rattle.simplex_engine.specs.Admission.{IsTurnedAway, ignoring, is_input_admitted, one_more}
 use Rattle.simplex_engine.specs.OwnSteps.{ForgetsNoOther}
 use Rattle.simplex_engine.specs.CertificateVotes.{IsBackedInput, KeepsVotes, TakesNone, TakesVotes, votes_of_input}
-use Rattle.simplex_engine.specs.Bounds.{HoldsAdmitted, HoldsFromKept, HoldsNoneAhead, StaysBounded}
-use Rattle.simplex_engine.specs.MissingCertificates.{FetchesItsMissing}
+use Rattle.simplex_engine.specs.Bounds.{HoldsAdmitted, HoldsNoneAhead, StaysBounded}
 use Rattle.simplex_engine.specs.FetchHeights.{FetchesNoHigher}
 use Rattle.simplex_engine.specs.Provenance.{input_causes, forgettable, held_by, IsCaused, IsCausedWith}
 use Rattle.simplex_engine.specs.DroppedInputs.{IsDropped}
@@ -28,10 +27,8 @@ use Rattle.simplex_engine.specs.Inputs.{subject_in}
 use Rattle.engine_outbox.specs.Journals.{IsRecordOf, journal_of}
 use Rattle.engine_outbox.specs.RecordReach.{IsShort}
 use Rattle.engine_planner.specs.PlannedWork.{AreAmong, constants_of}
-use Rattle.engine_planner.specs.PlanStates.{IsIdle}
-use Rattle.simplex_engine.specs.AtRest.{IsEngineAtRest}
-use Rattle.simplex_engine.specs.Timeouts.{WaitsForTimeout}
-use Rattle.simplex_engine.specs.BuildBounds.{BuildsAhead, BuildsNear}
+use Rattle.simplex_engine.specs.AtRest.{HasSettled, IsEngineAtRest, IsSettledAsStored, IsUnsettled, ReturnsFirst, StaysAtRest, unsettled}
+use Rattle.simplex_engine.specs.BuildBounds.{BuildsNear}
 use Rattle.simplex_engine.specs.MemberViews.{TracksViews, StaysStoredEarly}
 use Rattle.simplex_engine.specs.Failures.{IsFailure}
 use Rattle.ffi_member.specs.declared.journal.NotWritten.{NotWritten}
@@ -45,7 +42,8 @@ use Rattle.ffi_engine.specs.declared.held.HeldEngine.{HeldEngine}
 use Rattle.ffi_engine.specs.declared.flat.FlatInput.{FlatInput}
 use Rattle.ffi_engine.specs.declared.flat.FlatOutput.{FlatOutput}
 use Rattle.ffi_engine.specs.declared.flat.FlatTaken.{FlatTaken}
-use Rattle.ffi_engine.specs.Inputs.{PassesBytes, HasInputNumbers, HostInput, IsNoInput, IsToldAs}
+use Rattle.ffi_engine.specs.declared.input_kind.InputKind.TheVariants as of
+use Rattle.ffi_engine.specs.Inputs.{PassesBytes, HasInputNumbers, HostInput, IsNoInput, IsToldAs, input_number}
 use Rattle.ffi_engine.specs.Outputs.{HasOutputOf, HostEngine, HostOutput, other_signature, first_bytes_in}
 
 -- nothing was returned or loaded yet, and nothing is lost
@@ -76,7 +74,9 @@ pub record IsTaken (now : ℕ) (input : HostInput) (old : HeldEngine) (r : FlatT
   pub dropped : IfOk answer (λ is_of_use. IsFalse is_of_use → IsDropped now input old.engine new.engine)
   pub unadmitted : IsFalse (is_input_admitted certificate_bytes old.engine.core.member.facts input)
       → IfOk answer (λ is_of_use. IsFalse is_of_use
-      × IsTurnedAway input (ignoring old.engine) new.engine)
+      × IsTurnedAway input (unsettled (ignoring old.engine)) new.engine)
+  -- the next poll looks for what is due, also at the moment of the last one
+  pub to_settle : has_failed old.engine.core ≡ false → IsUnsettled new.engine
   -- an admitted input is acted on
   pub acted : IsTrue (is_input_admitted certificate_bytes old.engine.core.member.facts input) → IfOk answer
       (IsActedOn same_host_payload host_leader certificate_bytes AreTheSignatures host_keys now input old.engine
@@ -117,7 +117,7 @@ Takes now input old r new = HasLost old r.status new ⊎ IsTaken now input old r
 -- which leaders are drawn, or there was no memory for its bytes
 abbrev pub IsInputNotPassed : HeldEngine → FlatInput → FlatTaken → HeldEngine → Type 0
 IsInputNotPassed old f r new =
-    (new ≡ old) × (((r.status ≡ 6) × (IsNoInput f ⊎ ((old.draws ≡ 1) × (f.kind ≡ 2))))
+    (new ≡ old) × (((r.status ≡ 6) × (IsNoInput f ⊎ ((old.draws ≡ 1) × (f.kind ≡ input_number of.Vote))))
     ⊎ ((r.status ≡ 7) × PassesBytes f))
 
 -- the input that the flat one represents was passed to the engine, at a moment
@@ -192,33 +192,39 @@ HoldsRecord given held =
     → IsWhole certificate_bytes held.engine.core
     → IsRecordOf certificate_bytes held.engine.core.member (journal_of given)
 
--- an engine has nothing more to do at a moment, builds no block and stores no vote of past views, has a short record, and asks for exactly
--- the missing certificates; if each proposal to verify or certify and each block to build was returned, queued or planned, it was returned,
--- or a lone member waits for the block's view; if no stored vote was above those that are taken, each stored vote is a member's, and of a
--- view whose votes are taken
+-- an engine is at rest at a moment, with a short record; if each proposal to verify or certify and each block to build was returned, queued
+-- or planned, it was returned, or a lone member waits for the block's view; if no stored vote was above those that are taken, each stored
+-- vote is a member's, and of a view whose votes are taken
 pub record IsAtRest (now : ℕ) (old new : HostEngine) : Type 0 where
-  pub settled : IsEngineAtRest same_host_payload host_leader certificate_bytes now new
-  -- the member's next timeout, asked for last, lies after the moment and is waited for
-  pub timed : WaitsForTimeout same_host_payload host_leader now new
-  pub idle : IsIdle now new.plan
-  pub ahead : BuildsAhead new.core new.plan
-  pub lowest : HoldsFromKept new.core new.batcher
-  pub lacking : FetchesItsMissing new.core new.plan.repair
+  pub rest : IsEngineAtRest same_host_payload host_leader certificate_bytes now new
   pub short : (given : List HostOutput) → IsJournaled certificate_bytes given old.core
       → IsShort new.plan.options.long_record new.core.member.facts
   pub waiting : (given : List HostOutput) → HasReportedAll given old → AllIsReturned given new
   pub admitted : HoldsNoneAhead host_keys old.core old.batcher → HoldsAdmitted host_keys new.core new.batcher
 
--- the result of a poll at a moment: an output is returned; nothing is left to be done then; or the engine has failed
-abbrev pub IsOutcome : ℕ → HeldEngine → FlatOutput → HeldEngine → Type 0
-IsOutcome now old r new =
-    ((out : HostOutput) × IsReturned out old.stored r new)
-    ⊎ (IsNothing 0 r new × IsAtRest now old.engine new.engine)
-    ⊎ ((fault : Fault) × IsFailure (has_failed old.engine.core) fault × IsNothing (fault_status fault) r new
-    × (has_failed new.engine.core ≡ true))
+-- the moment that an engine stores as that at which it settled is one, as it is from the start on
+abbrev pub SettledAsStored : HostEngine → Type 0
+SettledAsStored engine = IsSettledAsStored same_host_payload host_leader certificate_bytes engine
+
+-- what a poll at a moment returns, by what the engine returned: an output; nothing, and the engine is at rest; or the engine has failed
+abbrev pub IsOutcome : ℕ → Result (Option HostOutput) Fault → HostEngine → FlatStored → FlatOutput → HeldEngine → Type 0
+IsOutcome now (Ok (Some out)) engine stored r new = IsReturned out stored r new
+IsOutcome now (Ok None) engine stored r new = IsNothing 0 r new × (SettledAsStored engine → IsAtRest now engine new.engine)
+IsOutcome now (Err fault) engine stored r new =
+    IsFailure (has_failed engine.core) fault × IsNothing (fault_status fault) r new × (has_failed new.engine.core ≡ true)
 
 -- an engine that has lost nothing is polled at a moment
 pub record IsAsked (now : ℕ) (old : HeldEngine) (r : FlatOutput) (new : HeldEngine) : Type 0 where
+  -- what the engine returned: first what is queued, in order; then all that is due is done, once at a moment; then what that queued
+  pub answer : Result (Option HostOutput) Fault
+  pub outcome : IsOutcome now answer old.engine old.stored r new
+  pub front : has_failed old.engine.core ≡ false
+      → ReturnsFirst old.engine.core.outbox.queue.items answer old.engine new.engine
+  pub settles : old.engine.core.outbox.queue.items ≡ [] → OnOk answer (HasSettled now new.engine)
+  pub stays : has_failed old.engine.core ≡ false → old.engine.core.outbox.queue.items ≡ [] → HasSettled now old.engine
+      → StaysAtRest answer old.engine new.engine
+  pub settled : (given : List HostOutput) → IsJournaled certificate_bytes given old.engine.core
+      → SettledAsStored old.engine → OnOk answer (SettledAsStored new.engine)
   -- the output is appended to all that were returned
   pub given : (given : List HostOutput) → IsAllReturned given old → IsAllReturned (given ++ option_to_list new.last) new
   -- no other proposal is queued to be reported as final
@@ -263,7 +269,6 @@ pub record IsAsked (now : ℕ) (old : HeldEngine) (r : FlatOutput) (new : HeldEn
   pub ignored : has_failed new.engine.core ≡ false → new.engine.plan.ignored ≡ old.engine.plan.ignored
   -- the options stay, and so does whether there are other members
   pub constants : has_failed new.engine.core ≡ false → constants_of new.engine.plan ≡ constants_of old.engine.plan
-  pub outcome : IsOutcome now old r new
   -- an engine that had failed returns only that, and is unchanged
   pub refused : has_failed old.engine.core ≡ true → IsNothing 2 r new × (new.engine ≡ old.engine)
 

@@ -21,6 +21,8 @@ use Rattle.ffi_member.specs.Numbers.{certificate_number, flag_number, reason_num
 use Rattle.ffi_member.specs.Replies.{IsContext}
 use Rattle.ffi_engine.specs.declared.flat.FlatInput.{FlatInput}
 use Rattle.ffi_engine.specs.declared.flat.FlatSubject.{FlatSubject}
+use Rattle.ffi_engine.specs.declared.input_kind.InputKind.{InputKind}
+use Rattle.ffi_engine.specs.declared.input_kind.InputKind.TheVariants as of
 
 -- an input, a certificate and a vote of an engine of the host
 abbrev pub HostInput : Type 0
@@ -64,28 +66,44 @@ IsCertificate f bytes (certificate.Finalization it) =
     (f.kind ≡ certificate_number kind.Finalization) × IsFlatProposal f.proposal it.proposal
     × (certificate_bytes it.certificate ≡ bytes)
 
+-- the number of an input's kind
+abbrev pub input_number : InputKind → ℕ
+input_number of.Proposal = 1
+input_number of.Vote = 2
+input_number of.Certificate = 3
+input_number of.Verified = 4
+input_number of.Built = 5
+input_number of.Certified = 6
+input_number of.GivenUp = 7
+
+abbrev pub IsInputKind : ℕ → Type 0
+IsInputKind number = (0 < number) × (number < 8)
+
+abbrev pub IsNoInputKind : ℕ → Type 0
+IsNoInputKind number = (number ≡ 0) ⊎ (8 ≤ number)
+
 -- the input that a flat one represents, with these bytes
 abbrev pub IsToldAs : FlatInput → List ℕ → HostInput → Type 0
 IsToldAs f bytes (input.Proposal from q) =
-    (f.kind ≡ 1) × (from ≡ f.subject.member) × IsFlatProposal f.subject.proposal q
-IsToldAs f bytes (input.Vote v) = (f.kind ≡ 2) × IsVote f.subject bytes v
-IsToldAs f bytes (input.Certificate c) = (f.kind ≡ 3) × IsCertificate f.subject bytes c
-IsToldAs f bytes (input.Verified v success) = (f.kind ≡ 4) × (v ≡ f.view) × (flag_number success ≡ f.success)
+    (f.kind ≡ input_number of.Proposal) × (from ≡ f.subject.member) × IsFlatProposal f.subject.proposal q
+IsToldAs f bytes (input.Vote v) = (f.kind ≡ input_number of.Vote) × IsVote f.subject bytes v
+IsToldAs f bytes (input.Certificate c) = (f.kind ≡ input_number of.Certificate) × IsCertificate f.subject bytes c
+IsToldAs f bytes (input.Verified v success) = (f.kind ≡ input_number of.Verified) × (v ≡ f.view) × (flag_number success ≡ f.success)
 IsToldAs f bytes (input.Built c payload) =
-    (f.kind ≡ 5) × IsContext f.context c × (c.leader.0 ≡ f.subject.member)
+    (f.kind ≡ input_number of.Built) × IsContext f.context c × (c.leader.0 ≡ f.subject.member)
     × (bytes_in_digest payload ≡ f.subject.proposal.payload)
-IsToldAs f bytes (input.Certified v success) = (f.kind ≡ 6) × (v ≡ f.view) × (flag_number success ≡ f.success)
-IsToldAs f bytes (input.GivenUp v reason) = (f.kind ≡ 7) × (v ≡ f.view) × (reason_number reason ≡ f.reason)
+IsToldAs f bytes (input.Certified v success) = (f.kind ≡ input_number of.Certified) × (v ≡ f.view) × (flag_number success ≡ f.success)
+IsToldAs f bytes (input.GivenUp v reason) = (f.kind ≡ input_number of.GivenUp) × (v ≡ f.view) × (reason_number reason ≡ f.reason)
 
 -- it passes a signature or a certificate
 abbrev pub PassesBytes : FlatInput → Type 0
-PassesBytes f = ((f.kind ≡ 2) ⊎ (f.kind ≡ 3)) × HasKind f.subject
+PassesBytes f = ((f.kind ≡ input_number of.Vote) ⊎ (f.kind ≡ input_number of.Certificate)) × HasKind f.subject
 
 -- one of its numbers is not valid for an input
 abbrev pub IsNoInput : FlatInput → Type 0
-IsNoInput f = (f.kind ≡ 0) ⊎ (8 ≤ f.kind) ⊎ (10 ≤ f.reason) ⊎ (2 ≤ f.success)
-    ⊎ (((f.kind ≡ 2) ⊎ (f.kind ≡ 3)) × IsNoKind f.subject)
+IsNoInput f = IsNoInputKind f.kind ⊎ (10 ≤ f.reason) ⊎ (2 ≤ f.success)
+    ⊎ (((f.kind ≡ input_number of.Vote) ⊎ (f.kind ≡ input_number of.Certificate)) × IsNoKind f.subject)
 
 -- each of them is valid, also if the kind does not read it
 abbrev pub HasInputNumbers : FlatInput → Type 0
-HasInputNumbers f = (0 < f.kind) × (f.kind < 8) × (f.reason < 10) × (f.success < 2)
+HasInputNumbers f = IsInputKind f.kind × (f.reason < 10) × (f.success < 2)

@@ -1,12 +1,13 @@
 //! An engine behind a handle, with its last output: the host reads that output's bytes, which never takes memory.
 
-ghost use Rattle.std.specs.Prelude.{◌≡◌, ◌++◌, ◌+◌, ◌-◌, ◌^◌, [], true, false, min, length, Contains, None, OnOk};
+ghost use Rattle.std.specs.Prelude.{◌≡◌, ◌++◌, ◌+◌, ◌-◌, ◌^◌, [], true, false, min, length, Contains, None, OnOk, IfSome};
 ghost use Rattle.ffi_member.specs.Journals.{framed};
 ghost use Rattle.ffi_member.specs.Resumption.{IsFlatStored};
 ghost use Rattle.ffi_member.specs.Statuses.{not_written_number};
 
 use crate::flat::{FlatInput, FlatOutput, FlatTaken};
 use crate::input::{HostInput, input_of};
+use crate::input_kind::is_number_of_votes;
 use crate::output::{
     HostEngine, HostOutput, NOTHING, NOTHING_STORED, flat_output, other_signature, output_of,
     signature_in,
@@ -51,9 +52,10 @@ impl HeldEngine {
     ghost use Rattle.laws_safety.specs.Lawful.{IsLawful};
     ghost use Rattle.laws_safety.specs.MemberHistory.{OfEachHistory, MayBeHistoryOf};
     ghost use Rattle.laws_safety.specs.RecordsOnce.{HoldsEachEntryOnce};
+    ghost use Rattle.laws_safety.specs.LifetimeLaws.{CurrentTimesOut};
     ghost use Rattle.engine_outbox.specs.EmittedVotes.{AllAreReturned};
     ghost use Rattle.engine_outbox.specs.Outputs.{AreBehind};
-    ghost use Rattle.engine_outbox.specs.Finalizations.{finals_in, RiseByView, WereAccepted};
+    ghost use Rattle.engine_outbox.specs.Finalizations.{finals_in, EndsAt, RiseByView, WereAccepted};
     ghost use Rattle.engine_outbox.specs.Continuity.{IsTraced};
     ghost use Rattle.simplex_codec.specs.Digests.{bytes_in_digest};
     ghost use Rattle.engine_outbox.specs.Signatures.{IsSignedBy};
@@ -85,7 +87,7 @@ impl HeldEngine {
     pub fn handle(&mut self, flat: &FlatInput, bytes: &[u8], now: u64) -> FlatTaken
         ensures { IsHandled now self.old flat.now bytes.now result self.new }
     {
-        if self.draws == 1 && flat.kind == 2 {
+        if self.draws == 1 && is_number_of_votes(flat.kind) {
             return untaken(STATUS_NO_INPUT);
         }
         match input_of(self.alloc, flat, bytes) {
@@ -236,9 +238,11 @@ impl HeldEngine {
     /// - `finals`: of each proposal that it reported as final, its member accepted the finalization.
     /// - `signed`: each vote that it returned is its member's, an order to sign exactly the vote's own bytes with the member's key.
     /// - `rising`: the views of the proposals that it reported as final rise.
+    /// - `last`: the last of them, returned or queued, is of the member's last finalized view.
     /// - `lawful`: what its member has done keeps the voting rules, over all its lifetimes.
     /// - `ran`: a network of `agreement` may have it as member `i`.
     /// - `once`: its record holds each entry once: of each view at most seven.
+    /// - `times_out`: the member's current view has a timeout, and lies above the last finalized one.
     pub fn keeps_the_laws(&self)
         ensures behind { (given : _) → IsAllReturned given self.now → self.now.is_lost ≡ false → AreBehind [] given }
         ensures stored { (given : _) → IsAllReturned given self.now → self.now.is_lost ≡ false
@@ -262,6 +266,9 @@ impl HeldEngine {
             × IsOrder bytes_in_digest key vote.subject vote.signature }
         ensures rising { (given : _) → IsAllReturned given self.now → self.now.is_lost ≡ false
             → RiseByView (finals_in given) }
+        ensures last { (given : _) → IsAllReturned given self.now → self.now.is_lost ≡ false
+            → IfSome self.now.engine.core.member.facts.life (λ x.
+            EndsAt x.finalized (finals_in (given ++ self.now.engine.core.outbox.queue.items))) }
         ensures lawful { OfEachHistory same_host_payload host_leader self.now.engine.core.member.facts
             (λ term_length i all. IsLawful term_length all) }
         ensures ran { OfEachHistory same_host_payload host_leader self.now.engine.core.member.facts
@@ -269,6 +276,8 @@ impl HeldEngine {
         ensures once { OfEachHistory same_host_payload host_leader self.now.engine.core.member.facts
             (λ term_length i all.
             HoldsEachEntryOnce self.now.engine.core.member.facts) }
+        ensures times_out { OfEachHistory same_host_payload host_leader self.now.engine.core.member.facts
+            (λ term_length i all. IfSome self.now.engine.core.member.facts.life CurrentTimesOut) }
     {
         self.engine.keeps_the_laws();
     }

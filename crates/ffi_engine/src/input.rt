@@ -6,6 +6,7 @@ ghost use Rattle.ffi_member.specs.Replies.{IsContext};
 ghost use Rattle.ffi_engine.specs.Inputs.{PassesBytes, HasKind, HasInputNumbers, IsCertificate, IsNoInput, IsNoKind, IsOn, IsToldAs, IsVote};
 
 use crate::flat::{FlatInput, FlatSubject};
+use crate::input_kind::{InputKind, input_kind_of};
 use bytes::Bytes;
 use engine_votes::votes::Vote;
 use ffi_member::flat::FlatContext;
@@ -56,28 +57,30 @@ fn input_of_kind(
     ensures made { IfOk result (λ made. MatchOption made (IsNoInput flat.now)
         (λ input. HasInputNumbers flat.now × IsToldAs flat.now bytes.now input)) }
 {
+    let Some(kind) = input_kind_of(flat.kind) else {
+        return Ok(None);
+    };
     let view = View::new(flat.view);
-    Ok(match flat.kind {
-        1 => Some(Input::Proposal(
+    Ok(match kind {
+        InputKind::Proposal => Some(Input::Proposal(
             Participant::new(flat.subject.member),
             proposal_of(&flat.subject.proposal),
         )),
-        2 => match vote_of(alloc, &flat.subject, bytes)? {
+        InputKind::Vote => match vote_of(alloc, &flat.subject, bytes)? {
             Some(vote) => Some(Input::Vote(vote)),
             None => None,
         },
-        3 => match certificate_of(alloc, &flat.subject, bytes)? {
+        InputKind::Certificate => match certificate_of(alloc, &flat.subject, bytes)? {
             Some(certificate) => Some(Input::Certificate(certificate)),
             None => None,
         },
-        4 => Some(Input::Verified(view, success)),
-        5 => Some(Input::Built(
+        InputKind::Verified => Some(Input::Verified(view, success)),
+        InputKind::Built => Some(Input::Built(
             context_of(&flat.context, flat.subject.member),
             HostDigest::from(flat.subject.proposal.payload),
         )),
-        6 => Some(Input::Certified(view, success)),
-        7 => Some(Input::GivenUp(view, reason)),
-        _ => None,
+        InputKind::Certified => Some(Input::Certified(view, success)),
+        InputKind::GivenUp => Some(Input::GivenUp(view, reason)),
     })
 }
 

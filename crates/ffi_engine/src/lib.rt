@@ -5,6 +5,7 @@ pub mod begin;
 pub mod flat;
 pub mod held;
 pub mod input;
+pub mod input_kind;
 pub mod null_handle;
 pub mod output;
 pub mod send;

@@ -28,6 +28,7 @@ use Rattle.engine_planner.specs.Causes.{Cause, WorkItem, Expiry, reply_causes}
 use Rattle.simplex_engine.specs.Provenance.{forgettable, received_in, is_final}
 use Rattle.simplex_engine.specs.Failures.{IsFailure}
 use Rattle.simplex_engine.specs.FetchHeights.{highest_received, resolves_above}
+use Rattle.laws_engine.specs.Polls.{ReturnQueue}
 
 -- fetches
 
@@ -234,3 +235,19 @@ other_votes = refl
 
 other_certificates : are_alike (nullification 3) (notarization 3) ≡ false
 other_certificates = refl
+
+-- polls of an engine that has settled
+
+-- they return what is queued, in order, and then nothing, however often
+returned_in_order : ReturnQueue {A = ℕ} (1 ∷ 2 ∷ []) (Some 1 ∷ Some 2 ∷ None ∷ None ∷ [])
+returned_in_order = (refl, (refl, (refl, (refl, tt))))
+
+-- and not nothing before the queue is empty, another output first, or more than was queued
+nothing_too_early : ReturnQueue {A = ℕ} (1 ∷ []) (None ∷ []) → ⊥
+nothing_too_early (is, rest) = absurd (cc)
+
+another_first : ReturnQueue {A = ℕ} (1 ∷ 2 ∷ []) (Some 2 ∷ []) → ⊥
+another_first (is, rest) = absurd (cc)
+
+more_than_queued : ReturnQueue {A = ℕ} (1 ∷ []) (Some 1 ∷ Some 1 ∷ []) → ⊥
+more_than_queued (first, (second, rest)) = absurd (cc)

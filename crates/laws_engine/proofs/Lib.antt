@@ -3,3 +3,4 @@ pub mod Nullifying
 pub mod Examples
 pub mod Votes
 pub mod Offers
+pub mod PollsEnd

@@ -46,7 +46,7 @@ module _ {S D K G C : Type 0} where
       by_matter test passes (Message asked) is = absurd (false≢true is)
 
   task_expires : (now view : ℕ) (asked : Task D) → ConstructNullify view ≡ call_of asked now → of_task {S = S} {K = K} {G = G} {C = C} asked ≡ Expiry ∷ []
-  task_expires now view (task.Nullify v reason) is = refl
+  task_expires now view (task.ConstructNullify v reason) is = refl
   task_expires now view asked is = absurd (cc)
 
 module _ {S D K G C : Type 0} (now : ℕ) where

@@ -105,7 +105,7 @@ module _ {S D K G C : Type 0} where
   told_before causes given inside (VerificationFailed view reason now) is = outside_before causes given inside (Message (task.VerificationFailed view)) refl is
   told_before causes given inside (Proposed view payload now) is = outside_before causes given inside (Message (task.Proposed view payload)) refl is
   told_before causes given inside (Certified view success now) is = outside_before causes given inside (Message (task.Certified view success)) refl is
-  told_before causes given inside (TriggerTimeout view reason now) is = outside_before causes given inside (Message (task.GiveUp view reason)) refl is
+  told_before causes given inside (TriggerTimeout view reason now) is = outside_before causes given inside (Message (task.TriggerTimeout view reason)) refl is
   told_before causes given inside (SetProposal view proposal) (inl is) = inl (outside_before causes given inside (Message (task.SetProposal view proposal)) refl is)
   told_before causes given inside (SetProposal view proposal) (inr (from, is)) = inr (from, outside_before causes given inside (Arrival from proposal) refl is)
   told_before causes given inside (AddNotarization c) is = outside_before causes given inside (Quorum (certificate_subject (Notarized c))) refl is
@@ -120,7 +120,7 @@ module _ {S D K G C : Type 0} where
   task_told causes now (task.VerificationFailed view) is = is
   task_told causes now (task.Proposed view payload) is = is
   task_told causes now (task.Certified view success) is = is
-  task_told causes now (task.GiveUp view reason) is = is
+  task_told causes now (task.TriggerTimeout view reason) is = is
   task_told causes now (task.SetProposal view proposal) is = inl is
   task_told causes now asked is = tt
 

@@ -24,7 +24,7 @@ module _ {S D K G C : Type 0} where
   IsToldBy causes (VerificationFailed view _ _) = IsIn (Message (task.VerificationFailed view)) causes
   IsToldBy causes (Proposed view payload _) = IsIn (Message (task.Proposed view payload)) causes
   IsToldBy causes (Certified view is_success _) = IsIn (Message (task.Certified view is_success)) causes
-  IsToldBy causes (TriggerTimeout view reason _) = IsIn (Message (task.GiveUp view reason)) causes
+  IsToldBy causes (TriggerTimeout view reason _) = IsIn (Message (task.TriggerTimeout view reason)) causes
   IsToldBy causes (SetProposal view proposal) =
       IsIn (Message (task.SetProposal view proposal)) causes ⊎ ((from : ℕ) × IsIn (Arrival from proposal) causes)
   IsToldBy causes (AddNotarization c) = IsIn (Quorum (certificate_subject (Notarized c))) causes

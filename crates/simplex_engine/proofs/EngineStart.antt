@@ -1,5 +1,5 @@
 -- An engine that begins, and why none does.
-use Rattle.std.proofs.Common.{◌≡◌, ◌∙◌, ap, sym, subst, inl, ℕ, ◌==◌, true, false, true≢false, List, [], ◌∷◌, length, reverse, Option, Result, Ok, Err}
+use Rattle.std.proofs.Common.{◌≡◌, ◌∙◌, ap, sym, subst, inl, ℕ, ◌==◌, false, true≢false, List, [], ◌∷◌, length, reverse, Option, None, Result, Ok, Err}
 use Rattle.std.specs.Prelude.{IfErr}
 use Rattle.simplex_types.specs.Certificates.{ArtifactFacts}
 use Rattle.simplex_resolver.specs.RecordCalls.{calls_of}
@@ -37,9 +37,9 @@ pub begun_with : {S L D K G C : Type 0} (bytes : D → List ℕ) (keys_of : S �
     (company : Company S D K G C) (member : MemberFacts K L D) (engine : Engine S L D K G C) → IsCompanyOf keys_of keys me term_length company
     → engine.batcher ≡ company.batcher
     → IsPlanOf bytes company.term_length company.peers company.is_alone options member engine.plan
-    → engine.core.member.facts ≡ member → engine.forgotten ≡ 0
+    → engine.core.member.facts ≡ member → engine.forgotten ≡ 0 → engine.settled_at ≡ None
     → HasStartedWith bytes keys_of keys me term_length options engine
-begun_with bytes keys_of keys me term_length options company member engine is batcher plan of forgotten = record {
+begun_with bytes keys_of keys me term_length options company member engine is batcher plan of forgotten settled_at = record {
   votes = subst (AreGiven []) (sym batcher) is.votes;
   keys_now = ap (λ b. keys_of b.scheme) batcher ∙ is.keys_now;
   plan = subst (λ m. IsPlanOf bytes term_length (others_of keys me) (length keys == 1) options m engine.plan) (sym of)
@@ -47,6 +47,7 @@ begun_with bytes keys_of keys me term_length options company member engine is ba
       (subst (λ p. IsPlanOf bytes company.term_length p (length keys == 1) options member engine.plan) is.peers
       (subst (λ b. IsPlanOf bytes company.term_length company.peers b options member engine.plan) is.alone plan)));
   forgotten = forgotten;
+  settled_at = settled_at;
 }
 
 -- none begins where the resolver refuses the record of a member that does, or is out of memory

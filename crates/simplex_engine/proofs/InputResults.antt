@@ -156,7 +156,7 @@ module _ {S L D K G C : Type 0} (same : D → D → Bool) (elect : Elect L) (byt
   acted_left (input.Certified view success) old left batcher steps is_of_use acted vain =
       asked_left same elect now (task.Certified view success) (facts_of old) left is_of_use acted vain
   acted_left (input.GivenUp view reason) old left batcher steps is_of_use acted vain =
-      asked_left same elect now (task.GiveUp view reason) (facts_of old) left is_of_use acted vain
+      asked_left same elect now (task.TriggerTimeout view reason) (facts_of old) left is_of_use acted vain
 
   -- one that was turned away
   turned_left : (what : Input S D K G C) (old new : Engine S L D K G C) → IsTurnedAway what old new → IsLeftByInput now what (facts_of old) (facts_of new)

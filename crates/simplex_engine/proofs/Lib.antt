@@ -7,6 +7,7 @@ mod BuildBounds
 mod ApplicationWork
 mod Requests
 mod ReplyWork
+mod AtRest
 mod Provenance
 mod Tells
 mod InputResults

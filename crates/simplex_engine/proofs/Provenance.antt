@@ -582,26 +582,26 @@ module _ {S L D K G C : Type 0} (bytes : D → List ℕ) (bytes_of : C → List 
 module _ (S K G C : Type 0) {D : Type 0} where
   pub task_lacks_none : (asked : Task D) → HasNoMissingCertificate (of_task {S = S} {D = D} {K = K} {G = G} {C = C} asked)
   task_lacks_none (task.SetProposal v p) kind view = refl
-  task_lacks_none task.Propose kind view = refl
+  task_lacks_none task.TryPropose kind view = refl
   task_lacks_none (task.Proposed v payload) kind view = refl
-  task_lacks_none (task.Supersede v) kind view = refl
-  task_lacks_none (task.Abandon v) kind view = refl
-  task_lacks_none (task.Release v) kind view = refl
-  task_lacks_none task.Verify kind view = refl
+  task_lacks_none (task.SupersedeProposalRequest v) kind view = refl
+  task_lacks_none (task.PendingHandoffAbandonment v) kind view = refl
+  task_lacks_none (task.ReleaseProposalRequest v) kind view = refl
+  task_lacks_none task.TryVerify kind view = refl
   task_lacks_none (task.Verified v) kind view = refl
   task_lacks_none (task.VerificationFailed v) kind view = refl
-  task_lacks_none task.Candidates kind view = refl
-  task_lacks_none (task.SetHandle v) kind view = refl
+  task_lacks_none task.CertifyCandidates kind view = refl
+  task_lacks_none (task.SetCertifyHandle v) kind view = refl
   task_lacks_none (task.Certified v is_success) kind view = refl
-  task_lacks_none (task.Notarize v) kind view = refl
-  task_lacks_none (task.Finalize v) kind view = refl
-  task_lacks_none (task.Nullify v reason) kind view = refl
+  task_lacks_none (task.ConstructNotarize v) kind view = refl
+  task_lacks_none (task.ConstructFinalize v) kind view = refl
+  task_lacks_none (task.ConstructNullify v reason) kind view = refl
   task_lacks_none (task.BroadcastNotarization v) kind view = refl
   task_lacks_none (task.BroadcastNullification v) kind view = refl
   task_lacks_none (task.BroadcastFinalization v) kind view = refl
-  task_lacks_none task.BestCertificate kind view = refl
-  task_lacks_none (task.GiveUp v reason) kind view = refl
-  task_lacks_none task.Timeout kind view = refl
+  task_lacks_none task.GetBestCertificate kind view = refl
+  task_lacks_none (task.TriggerTimeout v reason) kind view = refl
+  task_lacks_none task.NextTimeout kind view = refl
   task_lacks_none task.Prune kind view = refl
 
 -- a task that passes no verdict needs no offer

@@ -1,6 +1,6 @@
 -- For the code of the engine.
 -- That the work which a reply asks for is planned.
-use Rattle.std.proofs.Common.{◌≡◌, ◌∙◌, refl, ap, sym, ℕ, Bool, true, List, [], ◌∷◌, ◌++◌, map, Option, Some, None, Result, Ok, Err}
+use Rattle.std.proofs.Common.{◌≡◌, ◌∙◌, refl, ap, sym, ℕ, true, List, [], ◌∷◌, map, Some, Result, Ok, Err}
 use Rattle.std.specs.Prelude.{OnOk}
 use Rattle.std.proofs.lemmas.Bool.{false≢true}
 use Rattle.simplex_types.specs.Certificates.{certificate_facts}
@@ -48,26 +48,26 @@ module _ {S D K G C : Type 0} (bytes : D → List ℕ) (bytes_of : C → List �
   -- no task passes a certificate to the member
   evidence_by_task : (asked : Task D) (leader : K) → AreAmong (evidence_in {S = S} {D = D} {K = K} {G = G} {C = C} (call_of asked now) leader) []
   evidence_by_task (task.SetProposal v p) leader = among_none []
-  evidence_by_task task.Propose leader = among_none []
+  evidence_by_task task.TryPropose leader = among_none []
   evidence_by_task (task.Proposed v payload) leader = among_none []
-  evidence_by_task (task.Supersede v) leader = among_none []
-  evidence_by_task (task.Abandon v) leader = among_none []
-  evidence_by_task (task.Release v) leader = among_none []
-  evidence_by_task task.Verify leader = among_none []
+  evidence_by_task (task.SupersedeProposalRequest v) leader = among_none []
+  evidence_by_task (task.PendingHandoffAbandonment v) leader = among_none []
+  evidence_by_task (task.ReleaseProposalRequest v) leader = among_none []
+  evidence_by_task task.TryVerify leader = among_none []
   evidence_by_task (task.Verified v) leader = among_none []
   evidence_by_task (task.VerificationFailed v) leader = among_none []
-  evidence_by_task task.Candidates leader = among_none []
-  evidence_by_task (task.SetHandle v) leader = among_none []
+  evidence_by_task task.CertifyCandidates leader = among_none []
+  evidence_by_task (task.SetCertifyHandle v) leader = among_none []
   evidence_by_task (task.Certified v is_success) leader = among_none []
-  evidence_by_task (task.Notarize v) leader = among_none []
-  evidence_by_task (task.Finalize v) leader = among_none []
-  evidence_by_task (task.Nullify v reason) leader = among_none []
+  evidence_by_task (task.ConstructNotarize v) leader = among_none []
+  evidence_by_task (task.ConstructFinalize v) leader = among_none []
+  evidence_by_task (task.ConstructNullify v reason) leader = among_none []
   evidence_by_task (task.BroadcastNotarization v) leader = among_none []
   evidence_by_task (task.BroadcastNullification v) leader = among_none []
   evidence_by_task (task.BroadcastFinalization v) leader = among_none []
-  evidence_by_task task.BestCertificate leader = among_none []
-  evidence_by_task (task.GiveUp v reason) leader = among_none []
-  evidence_by_task task.Timeout leader = among_none []
+  evidence_by_task task.GetBestCertificate leader = among_none []
+  evidence_by_task (task.TriggerTimeout v reason) leader = among_none []
+  evidence_by_task task.NextTimeout leader = among_none []
   evidence_by_task task.Prune leader = among_none []
 
   -- by the reply to a task

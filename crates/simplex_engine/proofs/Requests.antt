@@ -54,45 +54,45 @@ module _ {K D : Type 0} where
       gone at = ap is_some (find-filtered (λ k. not (k == v)) w o.contexts ∙ ap (λ b. cond (not b) (find nat_cmp w o.contexts) None) (eq-eqb w v (sym at)))
 
 module _ {K L D : Type 0} (same : D → D → Bool) (elect : Elect L) (x : StateFacts K L D) (o : OutstandingWork K D) where
-  by_request : (request : Option (ProposalRequest D K)) → AreOpen task.Propose (call.Requested request) o (with_open_request o request)
+  by_request : (request : Option (ProposalRequest D K)) → AreOpen task.TryPropose (call.Requested request) o (with_open_request o request)
   by_request None view is = (inr is, refl)
   by_request (Some request) view is = elim (now_open o (request_context request) view is) [
     | inl now ↦ (inl (or_left ((request_context request).round.view == view) false (eq-eqb (request_context request).round.view view (sym now))), refl)
     | inr before ↦ (inr before, refl)
   ]
 
-  superseded : (v : ℕ) (replaced : Bool) → AreOpen (task.Supersede v) (call.Answered replaced) o (cond replaced (without_context o v) o)
+  superseded : (v : ℕ) (replaced : Bool) → AreOpen (task.SupersedeProposalRequest v) (call.Answered replaced) o (cond replaced (without_context o v) o)
   superseded v true view is = (let kept = closed_other o v view is in (inr kept.0, kept.1))
   superseded v false view is = (inr is, refl)
 
-  by_verify : (verify : Verify D K) → AreOpen task.Verify (call.Standing verify) o (with_verification o verify)
+  by_verify : (verify : Verify D K) → AreOpen task.TryVerify (call.Standing verify) o (with_verification o verify)
   by_verify (verify.Ready context proposal) view is = (inr is, refl)
   by_verify (verify.Resolve proposal lacks kind target) view is = (inr is, refl)
   by_verify verify.Wait view is = (inr is, refl)
 
   -- a call that returns
   open_by_answer : (asked : Task D) (now : ℕ) → AreOpen asked (answer same elect x o (call_of asked now)) o (outstanding_work_after same elect x o (call_of asked now))
-  open_by_answer task.Propose now view is = by_request (propose_answer same elect x) view is
+  open_by_answer task.TryPropose now view is = by_request (propose_answer same elect x) view is
   open_by_answer (task.Proposed v payload) now view is = (let kept = closed_other o v view is in (inr kept.0, kept.1))
-  open_by_answer (task.Supersede v) now view is = superseded v (option_map_or (λ context. supersede_answer same elect x context) (context_at o v) false) view is
-  open_by_answer (task.Release v) now view is = (let kept = closed_other o v view is in (inr kept.0, kept.1))
-  open_by_answer (task.Abandon v) now view is = (inr is, refl)
-  open_by_answer task.Verify now view is = by_verify (verify_answer same elect x) view is
+  open_by_answer (task.SupersedeProposalRequest v) now view is = superseded v (option_map_or (λ context. supersede_answer same elect x context) (context_at o v) false) view is
+  open_by_answer (task.ReleaseProposalRequest v) now view is = (let kept = closed_other o v view is in (inr kept.0, kept.1))
+  open_by_answer (task.PendingHandoffAbandonment v) now view is = (inr is, refl)
+  open_by_answer task.TryVerify now view is = by_verify (verify_answer same elect x) view is
   open_by_answer (task.SetProposal v p) now view is = (inr is, touched D (set_proposal_answer x v) v view)
   open_by_answer (task.Verified v) now view is = (inr is, touched D (verified_answer same elect x v) v view)
-  open_by_answer (task.GiveUp v reason) now view is = (inr is, touched D (trigger_answer x v reason) v view)
+  open_by_answer (task.TriggerTimeout v reason) now view is = (inr is, touched D (trigger_answer x v reason) v view)
   open_by_answer (task.VerificationFailed v) now view is = (inr is, refl)
-  open_by_answer task.Candidates now view is = (inr is, refl)
-  open_by_answer (task.SetHandle v) now view is = (inr is, refl)
+  open_by_answer task.CertifyCandidates now view is = (inr is, refl)
+  open_by_answer (task.SetCertifyHandle v) now view is = (inr is, refl)
   open_by_answer (task.Certified v success) now view is = (inr is, refl)
-  open_by_answer (task.Notarize v) now view is = (inr is, refl)
-  open_by_answer (task.Finalize v) now view is = (inr is, refl)
-  open_by_answer (task.Nullify v reason) now view is = (inr is, refl)
+  open_by_answer (task.ConstructNotarize v) now view is = (inr is, refl)
+  open_by_answer (task.ConstructFinalize v) now view is = (inr is, refl)
+  open_by_answer (task.ConstructNullify v reason) now view is = (inr is, refl)
   open_by_answer (task.BroadcastNotarization v) now view is = (inr is, refl)
   open_by_answer (task.BroadcastNullification v) now view is = (inr is, refl)
   open_by_answer (task.BroadcastFinalization v) now view is = (inr is, refl)
-  open_by_answer task.BestCertificate now view is = (inr is, refl)
-  open_by_answer task.Timeout now view is = (inr is, refl)
+  open_by_answer task.GetBestCertificate now view is = (inr is, refl)
+  open_by_answer task.NextTimeout now view is = (inr is, refl)
   open_by_answer task.Prune now view is = (inr is, refl)
 
   -- a call on a request that is not open is not allowed
@@ -104,26 +104,26 @@ module _ {K L D : Type 0} (same : D → D → Bool) (elect : Elect L) (x : State
 
   open_by_refusal : (asked : Task D) (now view : ℕ) → is_allowed x o (call_of asked now) ≡ false → is_open o view ≡ true → ends asked refusal view ≡ false
   open_by_refusal (task.Proposed v payload) now view none is = not_open v view none is
-  open_by_refusal (task.Supersede v) now view none is = not_open v view none is
-  open_by_refusal (task.Abandon v) now view none is = not_open v view none is
-  open_by_refusal (task.Release v) now view none is = absurd (false≢true (sym none))
-  open_by_refusal task.Propose now view none is = refl
-  open_by_refusal task.Verify now view none is = refl
+  open_by_refusal (task.SupersedeProposalRequest v) now view none is = not_open v view none is
+  open_by_refusal (task.PendingHandoffAbandonment v) now view none is = not_open v view none is
+  open_by_refusal (task.ReleaseProposalRequest v) now view none is = absurd (false≢true (sym none))
+  open_by_refusal task.TryPropose now view none is = refl
+  open_by_refusal task.TryVerify now view none is = refl
   open_by_refusal (task.SetProposal v p) now view none is = refl
   open_by_refusal (task.Verified v) now view none is = refl
-  open_by_refusal (task.GiveUp v reason) now view none is = refl
+  open_by_refusal (task.TriggerTimeout v reason) now view none is = refl
   open_by_refusal (task.VerificationFailed v) now view none is = refl
-  open_by_refusal task.Candidates now view none is = refl
-  open_by_refusal (task.SetHandle v) now view none is = refl
+  open_by_refusal task.CertifyCandidates now view none is = refl
+  open_by_refusal (task.SetCertifyHandle v) now view none is = refl
   open_by_refusal (task.Certified v success) now view none is = refl
-  open_by_refusal (task.Notarize v) now view none is = refl
-  open_by_refusal (task.Finalize v) now view none is = refl
-  open_by_refusal (task.Nullify v reason) now view none is = refl
+  open_by_refusal (task.ConstructNotarize v) now view none is = refl
+  open_by_refusal (task.ConstructFinalize v) now view none is = refl
+  open_by_refusal (task.ConstructNullify v reason) now view none is = refl
   open_by_refusal (task.BroadcastNotarization v) now view none is = refl
   open_by_refusal (task.BroadcastNullification v) now view none is = refl
   open_by_refusal (task.BroadcastFinalization v) now view none is = refl
-  open_by_refusal task.BestCertificate now view none is = refl
-  open_by_refusal task.Timeout now view none is = refl
+  open_by_refusal task.GetBestCertificate now view none is = refl
+  open_by_refusal task.NextTimeout now view none is = refl
   open_by_refusal task.Prune now view none is = refl
 
   -- what is requested is not above the first view of the next term
@@ -135,27 +135,27 @@ module _ {K L D : Type 0} (same : D → D → Bool) (elect : Elect L) (x : State
       (false_from_ne_true _ (λ above. absurd (omega (arith, ltb-true w (request_context request).round.view above, requested_ahead x same elect request is, up)))) refl
 
   near_by_answer : (w : ℕ) → next_term_start x.terms.term_length x.current ≤ w → (asked : Task D) (now : ℕ) → list_any (nat_lt w) (views_requested (answer same elect x o (call_of asked now))) ≡ false
-  near_by_answer w up task.Propose now = none_above w up (propose_answer same elect x) refl
-  near_by_answer w up task.Verify now = refl
+  near_by_answer w up task.TryPropose now = none_above w up (propose_answer same elect x) refl
+  near_by_answer w up task.TryVerify now = refl
   near_by_answer w up (task.Proposed v payload) now = refl
-  near_by_answer w up (task.Supersede v) now = refl
-  near_by_answer w up (task.Abandon v) now = refl
-  near_by_answer w up (task.Release v) now = refl
+  near_by_answer w up (task.SupersedeProposalRequest v) now = refl
+  near_by_answer w up (task.PendingHandoffAbandonment v) now = refl
+  near_by_answer w up (task.ReleaseProposalRequest v) now = refl
   near_by_answer w up (task.SetProposal v p) now = refl
   near_by_answer w up (task.Verified v) now = refl
-  near_by_answer w up (task.GiveUp v reason) now = refl
+  near_by_answer w up (task.TriggerTimeout v reason) now = refl
   near_by_answer w up (task.VerificationFailed v) now = refl
-  near_by_answer w up task.Candidates now = refl
-  near_by_answer w up (task.SetHandle v) now = refl
+  near_by_answer w up task.CertifyCandidates now = refl
+  near_by_answer w up (task.SetCertifyHandle v) now = refl
   near_by_answer w up (task.Certified v success) now = refl
-  near_by_answer w up (task.Notarize v) now = refl
-  near_by_answer w up (task.Finalize v) now = refl
-  near_by_answer w up (task.Nullify v reason) now = refl
+  near_by_answer w up (task.ConstructNotarize v) now = refl
+  near_by_answer w up (task.ConstructFinalize v) now = refl
+  near_by_answer w up (task.ConstructNullify v reason) now = refl
   near_by_answer w up (task.BroadcastNotarization v) now = refl
   near_by_answer w up (task.BroadcastNullification v) now = refl
   near_by_answer w up (task.BroadcastFinalization v) now = refl
-  near_by_answer w up task.BestCertificate now = refl
-  near_by_answer w up task.Timeout now = refl
+  near_by_answer w up task.GetBestCertificate now = refl
+  near_by_answer w up task.NextTimeout now = refl
   near_by_answer w up task.Prune now = refl
 
 module _ {K L D : Type 0} (same : D → D → Bool) (elect : Elect L) (m left : MemberFacts K L D) (asked : Task D) (now : ℕ) (told : ReplyFacts K D) where

@@ -1,5 +1,5 @@
 -- The state in which an engine begins, and why none begins.
-use Rattle.std.specs.Prelude.{◌≡◌, ◌⊎◌, ℕ, ◌-◌, ◌^◌, ◌==◌, min, max, Bool, true, false, List, [], ◌∷◌, length, reverse, Option}
+use Rattle.std.specs.Prelude.{◌≡◌, ◌⊎◌, ℕ, ◌-◌, ◌^◌, ◌==◌, min, max, Bool, true, false, List, [], ◌∷◌, length, reverse, Option, None}
 use Rattle.simplex_types.specs.Certificates.{ArtifactFacts}
 use Rattle.simplex_resolver.specs.RecordCalls.{calls_of}
 use Rattle.simplex_resolver.specs.RecordRules.{record_error}
@@ -68,8 +68,8 @@ pub record IsCompanyOf {S D K G C : Type 0} (keys_of : S → List K) (keys : Lis
   pub term : company.term_length ≡ term_length
   pub alone : company.is_alone ≡ (length keys == 1)
 
--- an engine begins with these options, of a member among others with these keys: its batcher makes certificates by their number, and no
--- view was forgotten in this lifetime
+-- an engine begins with these options, of a member among others with these keys: its batcher makes certificates by their number; in this
+-- lifetime no view was forgotten, and the engine has never settled
 pub record HasStartedWith {S L D K G C : Type 0} (bytes : D → List ℕ) (keys_of : S → List K) (keys : List K)
     (me : Option ℕ) (term_length : ℕ)
     (options : Options) (engine : Engine S L D K G C) : Type 0 where
@@ -78,6 +78,7 @@ pub record HasStartedWith {S L D K G C : Type 0} (bytes : D → List ℕ) (keys_
   pub plan : IsPlanOf bytes term_length (others_of keys me) (length keys == 1) options
       engine.core.member.facts engine.plan
   pub forgotten : engine.forgotten ≡ 0
+  pub settled_at : engine.settled_at ≡ None
 
 -- ---- why none begins
 

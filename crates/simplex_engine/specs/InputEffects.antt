@@ -97,4 +97,4 @@ module _ {S L D K G C : Type 0} (same : D → D → Bool) (elect : Elect L) (byt
   IsActedOn (input.Certified view success) old left held steps =
       HasDoneTask same elect (task.Certified view success) now old.core.member.facts left
   IsActedOn (input.GivenUp view reason) old left held steps =
-      HasDoneTask same elect (task.GiveUp view reason) now old.core.member.facts left
+      HasDoneTask same elect (task.TriggerTimeout view reason) now old.core.member.facts left

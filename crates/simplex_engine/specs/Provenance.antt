@@ -85,7 +85,7 @@ module _ {S D K G C : Type 0} where
   input_causes bytes_of batcher (input.Verified view is_valid) = Message (verification_of is_valid view) ∷ []
   input_causes bytes_of batcher (input.Built context payload) = Message (task.Proposed context.round.view payload) ∷ []
   input_causes bytes_of batcher (input.Certified view is_success) = Message (task.Certified view is_success) ∷ []
-  input_causes bytes_of batcher (input.GivenUp view reason) = Message (task.GiveUp view reason) ∷ []
+  input_causes bytes_of batcher (input.GivenUp view reason) = Message (task.TriggerTimeout view reason) ∷ []
 
 module _ {S L D K G C : Type 0} where
   -- what an engine may report without a cause: that the views below the lowest one which its member retains may be forgotten

@@ -3,7 +3,7 @@ use Rattle.std.specs.Prelude.{◌≡◌, ℕ, ◌+◌, ◌-◌, ◌^◌, min, Bo
 use Rattle.simplex_types.specs.declared.types.messages.Proposal.{Proposal}
 use Rattle.simplex_voter.specs.Facts.{Elect}
 use Rattle.simplex_member.specs.Calls.{told}
-use Rattle.simplex_member.specs.MemberFacts.{MemberFacts, IsCall}
+use Rattle.simplex_member.specs.MemberFacts.{IsCall}
 use Rattle.simplex_member.specs.declared.member.calls.Reply.{Reply}
 use Rattle.engine_fetches.specs.declared.fetches.FetchKind.{FetchKind}
 use Rattle.engine_fetches.specs.Fetches.{opened}

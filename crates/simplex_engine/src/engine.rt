@@ -3,7 +3,7 @@
 //! It holds no network, clock or disk, and no key but the scheme's. Moments are milliseconds and never decrease.
 #![tactic(auto, using(engine_outbox::proofs::Continuity::stays, engine_outbox::proofs::Continuity::goes_further, crate::proofs::CertificateVotes::takes_nothing, crate::proofs::CertificateVotes::takes_no_more, crate::proofs::CertificateVotes::takes_anyway))]
 
-ghost use Rattle.std.specs.Prelude.{◌≡◌, ◌++◌, [], length, Contains, None, Err, if◌then◌else◌, IfOk, IfErr, IfSome, OnOk, OnErr, IsNone, IsFalse, IsTrue, true, false};
+ghost use Rattle.std.specs.Prelude.{◌≡◌, ◌++◌, [], length, Contains, None, Err, if◌then◌else◌, IfOk, IfErr, IfSome, OnOk, OnErr, IsNone, IsFalse, IsTrue, Ok, true, false, ◌↔◌};
 ghost use Rattle.std.specs.Option.{option_copied};
 ghost use Rattle.simplex_types.specs.declared.types.fault.Fault.TheVariants.{OutOfMemory, Failed};
 ghost use Rattle.simplex_engine.specs.Failures.{IsFailure};
@@ -42,6 +42,8 @@ pub struct Engine<S: CertificateScheme, L: Elector<S>, D: Digest> {
     plan: Plan<S, D>,
     /// All views below this one were forgotten by the last `Work::Forget`.
     forgotten: View,
+    /// The moment at which all that was due was done last, if no input came since: at this moment only the queue is left to return.
+    settled_at: Option<u64>,
 }
 
 impl<S: Assembly<D>, L: Elector<S>, D: Digest> Engine<S, L, D> {
@@ -60,17 +62,16 @@ impl<S: Assembly<D>, L: Elector<S>, D: Digest> Engine<S, L, D> {
     ghost use Rattle.engine_outbox.specs.Signatures.{IsSignedBy};
     ghost use Rattle.engine_outbox.specs.HostStops.{EachStopIsLawful};
     ghost use Rattle.engine_outbox.specs.declared.output.Output.TheVariants as output;
-    ghost use Rattle.simplex_engine.specs.AtRest.{IsEngineAtRest, ReturnsFirst};
-    ghost use Rattle.simplex_engine.specs.Timeouts.{fetches_of, timeout_of, WaitsForTimeout};
+    ghost use Rattle.simplex_engine.specs.AtRest.{HasSettled, IsEngineAtRest, IsSettledAsStored, IsUnsettled, ReturnsFirst, StaysAtRest, unsettled};
+    ghost use Rattle.simplex_engine.specs.Timeouts.{fetches_of, timeout_of};
     ghost use Rattle.laws_safety.specs.LifetimeLaws.{CurrentTimesOut};
     ghost use Rattle.engine_planner.specs.PlannedWork.{constants_of, AreAmong};
-    ghost use Rattle.engine_planner.specs.PlanStates.{IsIdle, IsWake};
+    ghost use Rattle.engine_planner.specs.PlanStates.{IsWake};
     ghost use Rattle.simplex_engine.specs.Inputs.{subject_in, returned_outputs};
     ghost use Rattle.simplex_engine.specs.OwnSteps.{ForgetsNoOther};
     ghost use Rattle.simplex_engine.specs.CertificateVotes.{votes_of_input, KeepsVotes, TakesVotes, TakesNone, IsBackedInput};
-    ghost use Rattle.simplex_engine.specs.Bounds.{HoldsFromKept, HoldsNoneAhead, StaysBounded, HoldsAdmitted};
-    ghost use Rattle.simplex_engine.specs.BuildBounds.{BuildsAhead, BuildsNear};
-    ghost use Rattle.simplex_engine.specs.MissingCertificates.{FetchesItsMissing};
+    ghost use Rattle.simplex_engine.specs.Bounds.{HoldsNoneAhead, StaysBounded, HoldsAdmitted};
+    ghost use Rattle.simplex_engine.specs.BuildBounds.{BuildsNear};
     ghost use Rattle.simplex_engine.specs.FetchHeights.{FetchesNoHigher};
     ghost use Rattle.simplex_engine.specs.MemberViews.{TracksViews, StaysStoredEarly};
     ghost use Rattle.simplex_engine.specs.DroppedInputs.{IsDropped};
@@ -111,6 +112,7 @@ impl<S: Assembly<D>, L: Elector<S>, D: Digest> Engine<S, L, D> {
     /// - `fetch_heights`: no fetch appears of a view above both the next term's first view and the views of all entries of the record.
     /// - `ignored`: exactly the ignored inputs are counted.
     /// - `bounded`: stored votes remain votes of members, and of no view above those whose votes are taken.
+    /// - `to_settle`: the next `poll` looks for what is due, also at the moment of the last one.
     /// - `failed`, `error`, `refused`: after an error the engine has failed. An engine that had failed returns `Failed` and is unchanged.
     ///
     /// # Errors
@@ -129,7 +131,7 @@ impl<S: Assembly<D>, L: Elector<S>, D: Digest> Engine<S, L, D> {
         ensures dropped { IfOk result (λ is_of_use. IsFalse is_of_use → IsDropped now input self.old self.new) }
         ensures unadmitted { IsFalse (is_input_admitted S.certificate_bytes self.old.core.member.facts input)
             → IfOk result (λ is_of_use.
-            IsFalse is_of_use × IsTurnedAway input (ignoring self.old) self.new) }
+            IsFalse is_of_use × IsTurnedAway input (unsettled (ignoring self.old)) self.new) }
         ensures bounded { StaysBounded S.participants self.old.core self.old.batcher self.new.core self.new.batcher }
         ensures acted { IsTrue (is_input_admitted S.certificate_bytes self.old.core.member.facts input)
             → IfOk result (IsActedOn D.eq L.elect S.certificate_bytes S.IsMadeOf S.participants now input self.old
@@ -138,6 +140,7 @@ impl<S: Assembly<D>, L: Elector<S>, D: Digest> Engine<S, L, D> {
         ensures due_work { OnOk result (KeepsReports self.old self.new) }
         ensures ignored { IfOk result (λ is_of_use. self.new.plan.ignored
             ≡ (if is_of_use then self.old.plan.ignored else one_more self.old.plan.ignored)) }
+        ensures to_settle { has_failed self.old.core ≡ false → IsUnsettled self.new }
         ensures failed { OnErr result (has_failed self.new.core ≡ true) }
         ensures error { IfErr result (IsFailure (has_failed self.old.core)) }
         ensures refused { has_failed self.old.core ≡ true → (result ≡ Err Failed) × (self.new ≡ self.old) }
@@ -150,7 +153,9 @@ impl<S: Assembly<D>, L: Elector<S>, D: Digest> Engine<S, L, D> {
         if self.core.has_failed() {
             return Err(Fault::Failed);
         }
-        match self.take(input, now) {
+        let taken = self.take(input, now);
+        self.settled_at = None;
+        match taken {
             Ok(is_of_use) => Ok(is_of_use),
             Err(_) => {
                 self.core.fail();
@@ -162,12 +167,18 @@ impl<S: Assembly<D>, L: Elector<S>, D: Digest> Engine<S, L, D> {
     /// Returns the next output to carry out, at a moment in milliseconds. `None`: there is no output before another input, or before the
     /// moment that `wake` returns.
     ///
+    /// At one moment, with no input in between, `poll` comes to `None`: first it returns what is queued; then it does all that is due, once;
+    /// then it returns what that queued (`front`, `settles`, `stays`; `polls_end` of `laws_engine`).
+    ///
     /// - `front`: until the engine fails, `poll` returns a queued output before it does anything else. It returns the first one and changes
     ///   nothing else.
+    /// - `settles`: where nothing was queued, all that is due at this moment is done now.
+    /// - `stays`: where this was done at this moment before, and nothing is queued, `poll` returns `None` and changes nothing.
+    /// - `settled`: the moment that the engine stores as that at which it settled is such a moment.
     /// - `given`, `traced`: the returned output is appended to the list of outputs. What the member has done still traces that list, and
     ///   its votes stay signed under the member's key.
     /// - `does`, `told`: the member accepts no certificate, and nothing more is queued to be reported as final.
-    /// - `held`, `lowest`: only votes of views below the lowest retained one are forgotten. After `None` no vote of those views is left.
+    /// - `held`: only votes of views below the lowest retained one are forgotten.
     /// - `votes`, `bounded`, `failed`, `error`, `refused`, `ignored`, `constants`: as of `handle`; no input is counted.
     /// - `due_work`, `works`: as of `handle`. Work that was queued or planned was returned, or is still queued or planned.
     /// - `provenance`: as of `handle`, without an input. The member votes to nullify only after its timeout, and receives early proposals of
@@ -178,16 +189,19 @@ impl<S: Assembly<D>, L: Elector<S>, D: Digest> Engine<S, L, D> {
     ///
     /// After `None`:
     ///
-    /// - `none`: the whole record was returned to be stored. From the last finalized view on, the member has cast each vote that its rule
-    ///   allows, and each certificate was returned. The last time it was asked, the member had no work for the application.
-    /// - `timed`: asked for its next timeout at this moment, after all other calls, the member named one after the moment, and `timeout`
-    ///   returns it: no timeout is due.
-    /// - `idle`: no step is queued, the timeout was asked for, and no fetch is due.
+    /// - `rest`: the engine is at rest (`IsEngineAtRest`):
+    ///   - the whole record was returned to be stored;
+    ///   - from the last finalized view on, the member has cast each vote that its rule allows, and each certificate was returned; asked
+    ///     last, the member had no work for the application;
+    ///   - asked for its next timeout at this moment, after all other calls, the member named one after the moment, and `timeout` returns
+    ///     it: no timeout is due;
+    ///   - no step is planned, and no fetch is due;
+    ///   - each block to build is of the current view and was asked for, or is of a later view;
+    ///   - no stored vote is of a view below the lowest retained one;
+    ///   - each fetch is of a view above the last finalized one, and of a certificate that the state does not have; the nullification of
+    ///     each such view that the resolver has open is being fetched.
     /// - `waiting`: each proposal to verify or certify and each block to build was returned, except where a lone member waits for the view.
-    /// - `ahead`: each block to build is of the current view and was asked for, or is of a later view.
     /// - `short`: the record has at most `long_record` entries, or a pruning would drop no more of its views than it would retain.
-    /// - `lacking`: each fetch is of a view above the last finalized one, and of a certificate that the state does not have. The
-    ///   nullification of each such view that the resolver has open is being fetched.
     /// - `admitted`: each stored vote is a member's and of a view that takes votes: at most three of a member in a view.
     ///
     /// # Errors
@@ -196,27 +210,32 @@ impl<S: Assembly<D>, L: Elector<S>, D: Digest> Engine<S, L, D> {
     pub fn poll(&mut self, now: u64) -> Result<Option<Output<S, D, Stored>>, Fault>
         ensures front { has_failed self.old.core ≡ false
             → ReturnsFirst self.old.core.outbox.queue.items result self.old self.new }
+        ensures settles { self.old.core.outbox.queue.items ≡ [] → OnOk result (HasSettled now self.new) }
+        ensures stays { has_failed self.old.core ≡ false → self.old.core.outbox.queue.items ≡ [] → HasSettled now self.old
+            → StaysAtRest result self.old self.new }
         ensures given { HasReturned S.certificate_bytes (returned_outputs result) self.old.core self.new.core }
         ensures does { ExtendsHistoryOn D.eq L.elect None self.old.core.member.facts self.new.core.member.facts }
         ensures traced { EmitsOn D.eq L.elect S.certificate_bytes S.IsSignature None (returned_outputs result)
             self.old.core self.new.core }
         ensures told { ReportsNoMore (returned_outputs result) self.old.core.outbox self.new.core.outbox }
-        ensures none { IfOk result (λ out. IsNone out → IsEngineAtRest D.eq L.elect S.certificate_bytes now self.new) }
-        ensures timed { IfOk result (λ out. IsNone out → WaitsForTimeout D.eq L.elect now self.new) }
-        ensures idle { IfOk result (λ out. IsNone out → IsIdle now self.new.plan) }
-        ensures ahead { IfOk result (λ out. IsNone out → BuildsAhead self.new.core self.new.plan) }
+        ensures settled { (given : _) → IsJournaled S.certificate_bytes given self.old.core
+            → IsSettledAsStored D.eq L.elect S.certificate_bytes self.old
+            → OnOk result (IsSettledAsStored D.eq L.elect S.certificate_bytes self.new) }
+        ensures rest { IsSettledAsStored D.eq L.elect S.certificate_bytes self.old
+            → IfOk result (λ out. IsNone out → IsEngineAtRest D.eq L.elect S.certificate_bytes now self.new) }
         ensures short { (given : _) → IsJournaled S.certificate_bytes given self.old.core
+            → IsSettledAsStored D.eq L.elect S.certificate_bytes self.old
             → IfOk result (λ out. IsNone out → IsShort self.new.plan.options.long_record self.new.core.member.facts) }
-        ensures lowest { IfOk result (λ out. IsNone out → HoldsFromKept self.new.core self.new.batcher) }
-        ensures lacking { IfOk result (λ out. IsNone out → FetchesItsMissing self.new.core self.new.plan.repair) }
-        ensures admitted { HoldsNoneAhead S.participants self.old.core self.old.batcher
+        ensures admitted { IsSettledAsStored D.eq L.elect S.certificate_bytes self.old
+            → HoldsNoneAhead S.participants self.old.core self.old.batcher
             → IfOk result (λ out. IsNone out → HoldsAdmitted S.participants self.new.core self.new.batcher) }
         ensures votes { TakesNone self.old.batcher self.new.batcher }
         ensures held { ForgetsNoOther self.new.core self.old.batcher self.new.batcher }
         ensures bounded { StaysBounded S.participants self.old.core self.old.batcher self.new.core self.new.batcher }
         ensures due_work { OnOk result
             ((given : _) → HasReportedAll given self.old → HasReportedAll (given ++ returned_outputs result) self.new) }
-        ensures waiting { IfOk result
+        ensures waiting { IsSettledAsStored D.eq L.elect S.certificate_bytes self.old
+            → IfOk result
             (λ out. IsNone out → (given : _) → HasReportedAll given self.old → AllIsReturned given self.new) }
         ensures works { OnOk result
             (AreAmong (work_ahead self.old) (work_in (returned_outputs result) ++ work_ahead self.new)) }
@@ -245,27 +264,34 @@ impl<S: Assembly<D>, L: Elector<S>, D: Digest> Engine<S, L, D> {
         }
     }
 
-    /// Takes all due steps, then returns the next output.
+    /// Takes all due steps, unless that was done at this moment, then returns the next output.
     fn poll_after_work(&mut self, now: u64) -> Result<Option<Output<S, D, Stored>>, Fault>
+        requires empty { self.old.core.outbox.queue.items ≡ [] }
+        ensures settles { OnOk result (HasSettled now self.new) }
+        ensures stays { HasSettled now self.old → (result ≡ Ok None) × (self.new ≡ self.old) }
         ensures given { HasReturned S.certificate_bytes (returned_outputs result) self.old.core self.new.core }
         ensures does { ExtendsHistoryOn D.eq L.elect None self.old.core.member.facts self.new.core.member.facts }
         ensures traced { EmitsOn D.eq L.elect S.certificate_bytes S.IsSignature None (returned_outputs result)
             self.old.core self.new.core }
         ensures told { ReportsNoMore (returned_outputs result) self.old.core.outbox self.new.core.outbox }
-        ensures none { IfOk result (λ out. IsNone out → IsEngineAtRest D.eq L.elect S.certificate_bytes now self.new) }
-        ensures timed { IfOk result (λ out. IsNone out → WaitsForTimeout D.eq L.elect now self.new) }
-        ensures idle { IfOk result (λ out. IsNone out → IsIdle now self.new.plan) }
-        ensures ahead { IfOk result (λ out. IsNone out → BuildsAhead self.new.core self.new.plan) }
+        ensures settled { (given : _) → IsJournaled S.certificate_bytes given self.old.core
+            → IsSettledAsStored D.eq L.elect S.certificate_bytes self.old
+            → OnOk result (IsSettledAsStored D.eq L.elect S.certificate_bytes self.new) }
+        ensures rest { IsSettledAsStored D.eq L.elect S.certificate_bytes self.old
+            → IfOk result (λ out. IsNone out → IsEngineAtRest D.eq L.elect S.certificate_bytes now self.new) }
         ensures short { (given : _) → IsJournaled S.certificate_bytes given self.old.core
+            → IsSettledAsStored D.eq L.elect S.certificate_bytes self.old
             → IfOk result (λ out. IsNone out → IsShort self.new.plan.options.long_record self.new.core.member.facts) }
-        ensures lowest { IfOk result (λ out. IsNone out → HoldsFromKept self.new.core self.new.batcher) }
-        ensures lacking { IfOk result (λ out. IsNone out → FetchesItsMissing self.new.core self.new.plan.repair) }
+        ensures admitted { IsSettledAsStored D.eq L.elect S.certificate_bytes self.old
+            → HoldsNoneAhead S.participants self.old.core self.old.batcher
+            → IfOk result (λ out. IsNone out → HoldsAdmitted S.participants self.new.core self.new.batcher) }
         ensures votes { TakesNone self.old.batcher self.new.batcher }
         ensures held { ForgetsNoOther self.new.core self.old.batcher self.new.batcher }
         ensures bounded { StaysBounded S.participants self.old.core self.old.batcher self.new.core self.new.batcher }
         ensures due_work { OnOk result
             ((given : _) → HasReportedAll given self.old → HasReportedAll (given ++ returned_outputs result) self.new) }
-        ensures waiting { IfOk result
+        ensures waiting { IsSettledAsStored D.eq L.elect S.certificate_bytes self.old
+            → IfOk result
             (λ out. IsNone out → (given : _) → HasReportedAll given self.old → AllIsReturned given self.new) }
         ensures works { OnOk result
             (AreAmong (work_ahead self.old) (work_in (returned_outputs result) ++ work_ahead self.new)) }
@@ -283,12 +309,28 @@ impl<S: Assembly<D>, L: Elector<S>, D: Digest> Engine<S, L, D> {
             (IsCaused D.eq L.elect D.bytes S.certificate_bytes now (forgettable self.new.core.member.facts)
             (work_in (returned_outputs result)) (held_by self.new) self.old self.new) }
     {
+        if self.has_settled(now) {
+            return Ok(None);
+        }
         match self.work(now) {
-            Ok(()) => Ok(self.core.next()),
+            Ok(()) => {
+                self.settled_at = Some(now);
+                Ok(self.core.next())
+            }
             Err(_) => {
                 self.core.fail();
                 Err(Fault::OutOfMemory)
             }
+        }
+    }
+
+    /// Returns whether all that is due at a moment was done at that moment, and no input came since.
+    fn has_settled(&self, now: u64) -> bool
+        ensures { IsTrue result ↔ HasSettled now self.now }
+    {
+        match self.settled_at {
+            Some(moment) => moment == now,
+            None => false,
         }
     }
 

@@ -68,7 +68,7 @@ impl<S: CertificateScheme, D: Digest> Plan<S, D> {
     {
         if self.is_timeout_due {
             self.is_timeout_due = false;
-            return self.ask(Task::Timeout);
+            return self.ask(Task::NextTimeout);
         }
         self.plan_upkeep(now)
     }
@@ -116,8 +116,8 @@ fn watching_one<D: Digest, P: Copy>(current: View, building: &Building<D, P>) ->
 {
     let view = building.context.round.view;
     if view < current {
-        Task::Release(view)
+        Task::ReleaseProposalRequest(view)
     } else {
-        Task::Abandon(view)
+        Task::PendingHandoffAbandonment(view)
     }
 }

@@ -4,7 +4,7 @@ ghost use Rattle.std.specs.Prelude.{◌≡◌, ◌==◌, [], ◌∷◌, OnOk, If
 ghost use Rattle.simplex_resolver.specs.Steps.{highest_named};
 ghost use Rattle.engine_fetches.specs.Repairs.{IsUnrepaired};
 ghost use Rattle.engine_planner.specs.PlanStates.{HasPlanned, touching};
-ghost use Rattle.engine_planner.specs.declared.task.Task.TheVariants.{Release, Supersede};
+ghost use Rattle.engine_planner.specs.declared.task.Task.TheVariants.{ReleaseProposalRequest, SupersedeProposalRequest};
 ghost use Rattle.engine_planner.specs.Consequences.{Consequence, Nothing, Touched, Built, Stopped, Asked, after_refusal, after_flag, after_watch, IsConsequence, lacking, IsVerifyFollowed, waits, IsRequestFollowed, IsBroadcastFollowed, repeating, IsNullifyFollowed, IsTimeoutFollowed, certifying, AreCertified, IsVerdictFollowed, IsVerdictReportedAbove, IsUnjudged, IsFollowed, IsUnfollowed};
 
 use super::certificates::is_genesis;
@@ -58,9 +58,9 @@ impl<S: CertificateScheme, D: Digest> Plan<S, D> {
         ensures { OnOk result (IsConsequence (after_refusal task) self.old self.new) }
     {
         match task {
-            Task::Abandon(view) | Task::Supersede(view) | Task::Release(view) => {
-                self.stop_building(view)
-            }
+            Task::PendingHandoffAbandonment(view)
+            | Task::SupersedeProposalRequest(view)
+            | Task::ReleaseProposalRequest(view) => self.stop_building(view),
             Task::Proposed(view, _) => {
                 self.end_building(view);
                 Ok(())
@@ -75,11 +75,11 @@ impl<S: CertificateScheme, D: Digest> Plan<S, D> {
     {
         match task {
             Task::Proposed(view, _) => self.follow_proposed(view),
-            Task::SetProposal(view, _) | Task::Verified(view) | Task::GiveUp(view, _) => {
+            Task::SetProposal(view, _) | Task::Verified(view) | Task::TriggerTimeout(view, _) => {
                 self.touch_where(is_taken, view)
             }
-            Task::Release(view) => self.stop_building(view),
-            Task::Supersede(view) => self.stop_where(is_taken, view),
+            Task::ReleaseProposalRequest(view) => self.stop_building(view),
+            Task::SupersedeProposalRequest(view) => self.stop_where(is_taken, view),
             _ => Ok(()),
         }
     }
@@ -115,20 +115,20 @@ impl<S: CertificateScheme, D: Digest> Plan<S, D> {
         ensures { OnOk result (IsConsequence (after_watch task is_abandoned) self.old self.new) }
     {
         match task {
-            Task::Abandon(view) => self.ask_of_build(view, is_abandoned),
+            Task::PendingHandoffAbandonment(view) => self.ask_of_build(view, is_abandoned),
             _ => Ok(()),
         }
     }
 
     /// Asks to release a block that is abandoned, or else whether another replaces it.
     fn ask_of_build(&mut self, view: View, is_abandoned: bool) -> Result<(), AllocError>
-        ensures { OnOk result (IsConsequence (Asked (if is_abandoned then Release view else Supersede view))
-            self.old self.new) }
+        ensures { OnOk result (IsConsequence (Asked
+            (if is_abandoned then ReleaseProposalRequest view else SupersedeProposalRequest view)) self.old self.new) }
     {
         if is_abandoned {
-            self.ask(Task::Release(view))
+            self.ask(Task::ReleaseProposalRequest(view))
         } else {
-            self.ask(Task::Supersede(view))
+            self.ask(Task::SupersedeProposalRequest(view))
         }
     }
 
@@ -219,7 +219,7 @@ impl<S: CertificateScheme, D: Digest> Plan<S, D> {
         ensures { OnOk result (HasPlanned (certifying (proposal ∷ [])) self.old self.new) }
     {
         self.push(Work::Certify(proposal))?;
-        self.ask(Task::SetHandle(proposal.round.view))
+        self.ask(Task::SetCertifyHandle(proposal.round.view))
     }
 
     /// Follows a verdict, and passes it to the resolver.
@@ -274,7 +274,7 @@ impl<S: CertificateScheme, D: Digest> Plan<S, D> {
     {
         match answer {
             Some((true, vote)) => self.repeat(vote.round.view),
-            Some((false, _)) => self.ask(Task::Timeout),
+            Some((false, _)) => self.ask(Task::NextTimeout),
             None => {
                 self.timeout = now.saturating_add(self.options.retry);
                 Ok(())
@@ -287,8 +287,8 @@ impl<S: CertificateScheme, D: Digest> Plan<S, D> {
         ensures { OnOk result (HasPlanned (repeating view) self.old self.new) }
     {
         self.plan(Step::Repeat(view))?;
-        self.ask(Task::BestCertificate)?;
-        self.ask(Task::Timeout)
+        self.ask(Task::GetBestCertificate)?;
+        self.ask(Task::NextTimeout)
     }
 
     /// Plans the vote to nullify the current view, if its moment has come.
@@ -302,7 +302,7 @@ impl<S: CertificateScheme, D: Digest> Plan<S, D> {
     {
         self.timeout = moment;
         if moment <= now {
-            self.ask(Task::Nullify(self.views.current, reason))?;
+            self.ask(Task::ConstructNullify(self.views.current, reason))?;
         }
         Ok(())
     }

@@ -69,26 +69,26 @@ module _ (S D K G C : Type 0) (top : ℕ) where
 
   task_low : (asked : Task D) → list_any above (of_task asked) ≡ false
   task_low (task.SetProposal v p) = refl
-  task_low task.Propose = refl
+  task_low task.TryPropose = refl
   task_low (task.Proposed v payload) = refl
-  task_low (task.Supersede v) = refl
-  task_low (task.Abandon v) = refl
-  task_low (task.Release v) = refl
-  task_low task.Verify = refl
+  task_low (task.SupersedeProposalRequest v) = refl
+  task_low (task.PendingHandoffAbandonment v) = refl
+  task_low (task.ReleaseProposalRequest v) = refl
+  task_low task.TryVerify = refl
   task_low (task.Verified v) = refl
   task_low (task.VerificationFailed v) = refl
-  task_low task.Candidates = refl
-  task_low (task.SetHandle v) = refl
+  task_low task.CertifyCandidates = refl
+  task_low (task.SetCertifyHandle v) = refl
   task_low (task.Certified v is_success) = refl
-  task_low (task.Notarize v) = refl
-  task_low (task.Finalize v) = refl
-  task_low (task.Nullify v reason) = refl
+  task_low (task.ConstructNotarize v) = refl
+  task_low (task.ConstructFinalize v) = refl
+  task_low (task.ConstructNullify v reason) = refl
   task_low (task.BroadcastNotarization v) = refl
   task_low (task.BroadcastNullification v) = refl
   task_low (task.BroadcastFinalization v) = refl
-  task_low task.BestCertificate = refl
-  task_low (task.GiveUp v reason) = refl
-  task_low task.Timeout = refl
+  task_low task.GetBestCertificate = refl
+  task_low (task.TriggerTimeout v reason) = refl
+  task_low task.NextTimeout = refl
   task_low task.Prune = refl
 
   work_low : (it : Work S D K G C) → list_any above (of_work it) ≡ false

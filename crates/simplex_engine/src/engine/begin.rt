@@ -269,6 +269,7 @@ fn begin<S: Assembly<D>, L: Elector<S>, D: Digest>(
         batcher: company.batcher,
         plan,
         forgotten: View::zero(),
+        settled_at: None,
     })
 }
 
@@ -293,14 +294,14 @@ fn plan_of<S: Scheme<D>, L: Elector<S>, D: Digest>(
 fn resolver_of<S: CertificateScheme, D: Digest>(
     alloc: Global,
     term_length: TermLength,
-    record: &[Artifact<S, D>],
+    entries: &[Artifact<S, D>],
 ) -> Result<LawfulResolver, StartError>
     ensures told { IfOk result
         (HasReceivedCalls term_length
-        (Replayed ∷ calls_of D.bytes (reverse (entries_of S.certificate_bytes record.now)))) }
-    ensures refused { IfErr result (IsNotReplayed (entries_of S.certificate_bytes record.now)) }
+        (Replayed ∷ calls_of D.bytes (reverse (entries_of S.certificate_bytes entries.now)))) }
+    ensures refused { IfErr result (IsNotReplayed (entries_of S.certificate_bytes entries.now)) }
 {
-    match LawfulResolver::start(alloc, term_length, record) {
+    match LawfulResolver::start(alloc, term_length, entries) {
         Ok(resolver) => Ok(resolver),
         Err(error) => Err(StartError::Replay(error)),
     }

@@ -42,9 +42,9 @@ impl<S: Assembly<D>, L: Elector<S>, D: Digest> Engine<S, L, D> {
         ensures provenance { OnOk result
             (IsCausedWithoutInput D.eq L.elect D.bytes S.certificate_bytes now self.old self.new) }
     {
-        let mut has_none = self.ask_for(Task::Verify, now)?;
-        has_none &= self.ask_for(Task::Propose, now)?;
-        has_none &= self.ask_for(Task::Candidates, now)?;
+        let mut has_none = self.ask_for(Task::TryVerify, now)?;
+        has_none &= self.ask_for(Task::TryPropose, now)?;
+        has_none &= self.ask_for(Task::CertifyCandidates, now)?;
         self.ask(Task::Prune, now)?;
         has_none &= self.ask_timeout(now)?;
         Ok(has_none)
@@ -59,9 +59,9 @@ impl<S: Assembly<D>, L: Elector<S>, D: Digest> Engine<S, L, D> {
         ensures provenance { OnOk result
             (IsCausedWithoutInput D.eq L.elect D.bytes S.certificate_bytes now self.old self.new) }
     {
-        let reply = self.core.call(Task::Timeout.call(now));
+        let reply = self.core.call(Task::NextTimeout.call(now));
         let is_later = is_later(&reply, now);
-        self.follow(Task::Timeout, reply, now)?;
+        self.follow(Task::NextTimeout, reply, now)?;
         Ok(is_later)
     }
 

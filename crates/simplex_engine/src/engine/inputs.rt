@@ -57,7 +57,7 @@ impl<S: Assembly<D>, L: Elector<S>, D: Digest> Engine<S, L, D> {
             Input::Verified(view, is_valid) => self.ask(verification(view, is_valid), now),
             Input::Built(context, payload) => self.build(&context, payload, now),
             Input::Certified(view, is_success) => self.judge(view, is_success, now),
-            Input::GivenUp(view, reason) => self.ask(Task::GiveUp(view, reason), now),
+            Input::GivenUp(view, reason) => self.ask(Task::TriggerTimeout(view, reason), now),
         }
     }
 

@@ -17,6 +17,7 @@ impl<S: Assembly<D>, L: Elector<S>, D: Digest> Engine<S, L, D> {
     ghost use Rattle.simplex_engine.specs.OwnSteps.{ContinuesWithoutInput, ContinuesWithPruning};
     ghost use Rattle.simplex_engine.specs.NothingDue.{HasNothingNew};
     ghost use Rattle.engine_planner.specs.PlanStates.{IsIdle};
+    ghost use Rattle.simplex_engine.specs.AtRest.{IsSettled};
     ghost use Rattle.simplex_engine.specs.Bounds.{HoldsFromKept};
     ghost use Rattle.simplex_engine.specs.BuildBounds.{BuildsAhead};
     ghost use Rattle.simplex_engine.specs.MissingCertificates.{FetchesItsMissing};
@@ -32,24 +33,15 @@ impl<S: Assembly<D>, L: Elector<S>, D: Digest> Engine<S, L, D> {
 
     /// Takes all steps that are due, until the member has nothing new, and queues the new entries of the record.
     ///
-    /// - `quiet`: the member has cast its votes and returned its certificates. Asked last for work, it had none; asked then for its next
-    ///   timeout, it named one after the moment, for which the engine waits.
-    /// - `idle`, `ahead`: nothing is due at the moment, and no block is to be built of a past view.
+    /// - `settled`: all that was due at the moment is done (`IsSettled`).
     /// - `short`: a pruning would drop no more views of the record than it retains, or the record has few entries.
-    /// - `lowest`, `lacking`: no stored vote is of a view below the lowest retained one, and exactly the missing certificates are asked
-    ///   for.
     /// - `provenance`: everything is caused by what was there before and by the member's replies, except that views may be forgotten below
     ///   the lowest one that the member retains then. Missing certificates are still asked for.
     pub(super) fn work(&mut self, now: u64) -> Result<(), Fault>
         ensures alone { ContinuesWithPruning D.eq L.elect S.certificate_bytes S.IsSignature self.old self.new }
-        ensures whole { OnOk result (IsWhole S.certificate_bytes self.new.core) }
-        ensures quiet { OnOk result (HasNothingNew D.eq L.elect now self.new.plan.timeout self.new.core.member.facts) }
-        ensures idle { OnOk result (IsIdle now self.new.plan) }
-        ensures ahead { OnOk result (BuildsAhead self.new.core self.new.plan) }
+        ensures settled { OnOk result (IsSettled D.eq L.elect S.certificate_bytes now self.new) }
         ensures short { (given : _) → IsJournaled S.certificate_bytes given self.old.core
             → OnOk result (IsShort self.new.plan.options.long_record self.new.core.member.facts) }
-        ensures lowest { OnOk result (HoldsFromKept self.new.core self.new.batcher) }
-        ensures lacking { OnOk result (FetchesItsMissing self.new.core self.new.plan.repair) }
         ensures due_work { OnOk result (KeepsApplicationWork self.old self.new) }
         ensures provenance { OnOk result
             (IsCausedWithPruning D.eq L.elect D.bytes S.certificate_bytes now self.old self.new) }
@@ -61,14 +53,9 @@ impl<S: Assembly<D>, L: Elector<S>, D: Digest> Engine<S, L, D> {
     /// Takes all steps, drops what is stored of views that are not retained, and queues the new entries of the record.
     fn finish(&mut self, now: u64) -> Result<(), Fault>
         ensures alone { ContinuesWithPruning D.eq L.elect S.certificate_bytes S.IsSignature self.old self.new }
-        ensures whole { OnOk result (IsWhole S.certificate_bytes self.new.core) }
-        ensures quiet { OnOk result (HasNothingNew D.eq L.elect now self.new.plan.timeout self.new.core.member.facts) }
-        ensures idle { OnOk result (IsIdle now self.new.plan) }
-        ensures ahead { OnOk result (BuildsAhead self.new.core self.new.plan) }
+        ensures settled { OnOk result (IsSettled D.eq L.elect S.certificate_bytes now self.new) }
         ensures short { (given : _) → IsJournaled S.certificate_bytes given self.old.core
             → OnOk result (IsShort self.new.plan.options.long_record self.new.core.member.facts) }
-        ensures lowest { OnOk result (HoldsFromKept self.new.core self.new.batcher) }
-        ensures lacking { OnOk result (FetchesItsMissing self.new.core self.new.plan.repair) }
         ensures due_work { OnOk result (KeepsApplicationWork self.old self.new) }
         ensures provenance { OnOk result
             (IsCausedWithPruning D.eq L.elect D.bytes S.certificate_bytes now self.old self.new) }

@@ -10,6 +10,12 @@ returns c =
         | inr (going, asked) ↦ inr (
           going,
           record {
+            answer = asked.answer;
+            outcome = asked.outcome;
+            front = asked.front;
+            settles = asked.settles;
+            stays = asked.stays;
+            settled = asked.settled;
             given = asked.given;
             told = asked.told;
             traced = asked.traced;
@@ -26,7 +32,6 @@ returns c =
             early = asked.early;
             ignored = asked.ignored;
             constants = asked.constants;
-            outcome = asked.outcome;
             refused = asked.refused;
           },
         )

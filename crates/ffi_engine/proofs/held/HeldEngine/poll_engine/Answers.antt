@@ -1,17 +1,19 @@
 -- How the contract of `poll_engine` follows where the engine gives something out, where it has nothing more to do, and where it fails.
-use Rattle.std.proofs.Common.{List, [], None, ap, inl, inr, refl, sym, subst, ◌∙◌}
-use Rattle.std.specs.Prelude.{◌++◌, IsOk, option_to_list}
+use Rattle.std.proofs.Common.{List, [], Some, None, Ok, Err, ap, inr, refl, sym, subst, ◌∙◌}
+use Rattle.std.specs.Prelude.{◌++◌, IsOk, OnOk, option_to_list}
 use Rattle.std.proofs.lemmas.Bool.{false≢true}
 use Rattle.simplex_codec.specs.Digests.{bytes_in_digest}
 use Rattle.ffi_scheme.specs.Host.{certificate_bytes, IsOrder}
 use Rattle.engine_planner.specs.PlannedWork.{AreAmong}
 use Rattle.engine_outbox.specs.Outputs.{work_in}
 use Rattle.simplex_engine.specs.Provenance.{forgettable, held_by, IsCaused}
+use Rattle.simplex_engine.specs.AtRest.{HasSettled, ReturnsFirst, StaysAtRest}
 use Rattle.simplex_engine.specs.ApplicationWork.{work_ahead, HasReportedAll}
 use Rattle.engine_outbox.specs.Finalizations.{ReportsNoMore}
 use Rattle.engine_outbox.specs.Continuity.{EmitsOn, IsJournaled}
 use Rattle.ffi_member.specs.Numbers.{fault_status}
 use Rattle.ffi_member.specs.MemberHandles.{host_leader, same_host_payload}
+use Rattle.ffi_engine.specs.EngineHandles.{SettledAsStored}
 use Rattle.ffi_engine.specs.Outputs.{HostOutput}
 use Rattle.ffi_engine.proofs.Given.{all_given, comes_given, has_told, same_error, tells_no_more, traced_given, works_given}
 use Rattle.ffi_engine.proofs.held.HeldEngine.poll_engine.Goals as goal
@@ -24,6 +26,13 @@ returns-in-Ok-Some c =
       inr (
         going,
         record {
+          answer = Ok (Some c.in-Ok-Some.output);
+          outcome = c.give_out.ensures.given;
+          front = λ lives. subst (λ answer. ReturnsFirst c.args.self.now.engine.core.outbox.queue.items answer c.args.self.now.engine c.give_out.new.self.engine) (c.in-Ok-Some.is ∙ ap Ok c.in-Ok-Some.field-0-is)
+              (rw rest.0 (c.poll.ensures.front lives));
+          settles = λ empty. subst (λ answer. OnOk answer (HasSettled c.args.now c.give_out.new.self.engine)) (c.in-Ok-Some.is ∙ ap Ok c.in-Ok-Some.field-0-is) (rw rest.0 (c.poll.ensures.settles empty));
+          stays = λ lives empty at. subst (λ answer. StaysAtRest answer c.args.self.now.engine c.give_out.new.self.engine) (c.in-Ok-Some.is ∙ ap Ok c.in-Ok-Some.field-0-is) (rw rest.0 (c.poll.ensures.stays lives empty at));
+          settled = λ before kept is. subst (λ answer. OnOk answer (SettledAsStored c.give_out.new.self.engine)) (c.in-Ok-Some.is ∙ ap Ok c.in-Ok-Some.field-0-is) (rw rest.0 (c.poll.ensures.settled before kept is));
           given = all_given c.in-Ok-Some.output c.args.self.now.stored c.give_out.result c.args.self.now c.give_out.new.self going
               (rw rest.0 given) c.give_out.ensures.given;
           told = tells_no_more c.in-Ok-Some.output c.args.self.now.stored c.give_out.result c.args.self.now c.give_out.new.self
@@ -46,7 +55,6 @@ returns-in-Ok-Some c =
           early = λ _. rw rest.0 c.in-Ok-Some.ensures.early;
           ignored = λ _. rw rest.0 c.in-Ok-Some.ensures.ignored;
           constants = λ _. rw rest.0 c.in-Ok-Some.ensures.constants;
-          outcome = inl (c.in-Ok-Some.output, c.give_out.ensures.given);
           refused = λ had. absurd (false≢true (subst IsOk (sym c.in-Ok-Some.is ∙ (c.poll.ensures.refused had).0) refl));
         },
       ),
@@ -63,6 +71,20 @@ returns-in-Ok-None c =
       inr (
         going,
         record {
+          answer = Ok None;
+          outcome = (
+            record { status_is = told.status; nothing = told.nothing.0; last = c.requires.last },
+            λ settled. record {
+              rest = (rw none at c.in-Ok-None.ensures.rest settled) refl;
+              short = λ before kept. (rw none at c.in-Ok-None.ensures.short before kept settled) refl;
+              waiting = (rw none at c.in-Ok-None.ensures.waiting settled) refl;
+              admitted = λ before. (rw none at c.in-Ok-None.ensures.admitted settled before) refl;
+            },
+          );
+          front = λ lives. subst (λ answer. ReturnsFirst c.args.self.now.engine.core.outbox.queue.items answer c.args.self.now.engine c.poll.new.self) (c.in-Ok-None.is ∙ ap Ok c.in-Ok-None.field-0-is) (c.poll.ensures.front lives);
+          settles = λ empty. subst (λ answer. OnOk answer (HasSettled c.args.now c.poll.new.self)) (c.in-Ok-None.is ∙ ap Ok c.in-Ok-None.field-0-is) (c.poll.ensures.settles empty);
+          stays = λ lives empty at. subst (λ answer. StaysAtRest answer c.args.self.now.engine c.poll.new.self) (c.in-Ok-None.is ∙ ap Ok c.in-Ok-None.field-0-is) (c.poll.ensures.stays lives empty at);
+          settled = λ before kept is. subst (λ answer. OnOk answer (SettledAsStored c.poll.new.self)) (c.in-Ok-None.is ∙ ap Ok c.in-Ok-None.field-0-is) (c.poll.ensures.settled before kept is);
           given = λ before all alive. subst (λ last. IsJournaled certificate_bytes (before ++ option_to_list last) c.poll.new.self.core)
               (sym c.requires.last) (given before (all going));
           told = λ alive. subst (λ last. ReportsNoMore (option_to_list last) c.args.self.now.engine.core.outbox c.poll.new.self.core.outbox)
@@ -86,20 +108,6 @@ returns-in-Ok-None c =
           early = λ _. c.in-Ok-None.ensures.early;
           ignored = λ _. c.in-Ok-None.ensures.ignored;
           constants = λ _. c.in-Ok-None.ensures.constants;
-          outcome = inr (inl (
-            record { status_is = told.status; nothing = told.nothing.0; last = c.requires.last },
-            record {
-              settled = (rw none at c.in-Ok-None.ensures.none) refl;
-              timed = (rw none at c.in-Ok-None.ensures.timed) refl;
-              idle = (rw none at c.in-Ok-None.ensures.idle) refl;
-              lowest = (rw none at c.in-Ok-None.ensures.lowest) refl;
-              lacking = (rw none at c.in-Ok-None.ensures.lacking) refl;
-              ahead = (rw none at c.in-Ok-None.ensures.ahead) refl;
-              short = λ before kept. (rw none at c.in-Ok-None.ensures.short before kept) refl;
-              waiting = (rw none at c.in-Ok-None.ensures.waiting) refl;
-              admitted = λ before. (rw none at c.in-Ok-None.ensures.admitted before) refl;
-            },
-          ));
           refused = λ had. absurd (false≢true (subst IsOk (sym c.in-Ok-None.is ∙ (c.poll.ensures.refused had).0) refl));
         },
       ),
@@ -115,6 +123,16 @@ returns-in-Err c =
       inr (
         going,
         record {
+          answer = Err c.in-Err.fault;
+          outcome = (
+            c.in-Err.ensures.error,
+            record { status_is = told.status ∙ c.number_of_fault-in-Err.ensures; nothing = told.nothing.0; last = c.requires.last },
+            failed,
+          );
+          front = λ lives. subst (λ answer. ReturnsFirst c.args.self.now.engine.core.outbox.queue.items answer c.args.self.now.engine c.poll.new.self) c.in-Err.is (c.poll.ensures.front lives);
+          settles = λ empty. tt;
+          stays = λ lives empty at. subst (λ answer. StaysAtRest answer c.args.self.now.engine c.poll.new.self) c.in-Err.is (c.poll.ensures.stays lives empty at);
+          settled = λ before kept is. tt;
           given = λ before all alive. subst (λ last. IsJournaled certificate_bytes (before ++ option_to_list last) c.poll.new.self.core)
               (sym c.requires.last) (c.in-Err.ensures.given before (all going));
           told = λ alive. subst (λ last. ReportsNoMore (option_to_list last) c.args.self.now.engine.core.outbox c.poll.new.self.core.outbox)
@@ -134,12 +152,6 @@ returns-in-Err c =
           early = λ alive. absurd (false≢true (sym alive ∙ failed));
           ignored = λ alive. absurd (false≢true (sym alive ∙ failed));
           constants = λ alive. absurd (false≢true (sym alive ∙ failed));
-          outcome = inr (inr (
-            c.in-Err.fault,
-            c.in-Err.ensures.error,
-            record { status_is = told.status ∙ c.number_of_fault-in-Err.ensures; nothing = told.nothing.0; last = c.requires.last },
-            failed,
-          ));
           refused = λ had.
               let only = c.poll.ensures.refused had in (
                 record {

@@ -54,8 +54,8 @@ returns-clause-provenance g c =
     comes_on
     (comes_on
     (comes_on
-    (comes_on (c.in_ok-has_none.ensures.provenance [] (λ kind view. refl) (inl (task.Verify, refl, among_none _, tt))) c.in_ok-has_none-2.ensures.due_work.risen c.in_ok-has_none-2.ensures.due_work.works
-    (c.in_ok-has_none-2.ensures.provenance [] (λ kind view. refl) (inl (task.Propose, refl, among_none _, tt))))
-    c.in_ok-has_none-3.ensures.due_work.risen c.in_ok-has_none-3.ensures.due_work.works (c.in_ok-has_none-3.ensures.provenance [] (λ kind view. refl) (inl (task.Candidates, refl, among_none _, tt))))
+    (comes_on (c.in_ok-has_none.ensures.provenance [] (λ kind view. refl) (inl (task.TryVerify, refl, among_none _, tt))) c.in_ok-has_none-2.ensures.due_work.risen c.in_ok-has_none-2.ensures.due_work.works
+    (c.in_ok-has_none-2.ensures.provenance [] (λ kind view. refl) (inl (task.TryPropose, refl, among_none _, tt))))
+    c.in_ok-has_none-3.ensures.due_work.risen c.in_ok-has_none-3.ensures.due_work.works (c.in_ok-has_none-3.ensures.provenance [] (λ kind view. refl) (inl (task.CertifyCandidates, refl, among_none _, tt))))
     c.in_ok-ask.ensures.due_work.risen c.in_ok-ask.ensures.due_work.works (c.in_ok-ask.ensures.provenance [] (λ kind view. refl) (inl (task.Prune, refl, among_none _, tt))))
     c.in_ok-has_none-4.ensures.due_work.risen c.in_ok-has_none-4.ensures.due_work.works c.in_ok-has_none-4.ensures.provenance

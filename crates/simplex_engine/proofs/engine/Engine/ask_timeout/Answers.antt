@@ -28,7 +28,7 @@ returns g c =
     let bytes = g.D.Digest.bytes in
     let bytes_of = g.S.CertificateScheme.certificate_bytes in
     let before = c.args.self.now.core.member.facts in
-    let asked = call_of task.Timeout c.args.now in
+    let asked = call_of task.NextTimeout c.args.now in
     let answer = told bytes_of c.call-reply.result in
     let left = c.follow.new.self in
     let goes = subst (Continues same elect bytes_of g.S.Scheme.IsSignature None c.args.self.now.core) (sym c.follow.ensures.core) (c.call-reply.ensures.quiet c.call.ensures.plain) in
@@ -41,11 +41,11 @@ returns g c =
         answer = answer;
         answered = answered;
         awaited = awaited c.args.now left.plan.timeout answer (sym c.is_later-is_later.ensures ∙ is)
-            (stores bytes bytes_of c.args.now task.Timeout c.call-reply.result follows.seen left.plan follows.followed);
+            (stores bytes bytes_of c.args.now task.NextTimeout c.call-reply.result follows.seen left.plan follows.followed);
       };
-      due_work = tells_called c.args.self.now left task.Timeout c.args.now answer answered goes c.in_ok-follow.ensures.seen c.in_ok-follow.ensures.planned;
-      provenance = comes_called asked c.call-reply.result (λ kind view. refl) (inl (task.Timeout, refl, among_none _, tt)) answered
+      due_work = tells_called c.args.self.now left task.NextTimeout c.args.now answer answered goes c.in_ok-follow.ensures.seen c.in_ok-follow.ensures.planned;
+      provenance = comes_called asked c.call-reply.result (λ kind view. refl) (inl (task.NextTimeout, refl, among_none _, tt)) answered
           (hand_asked c.args.self.now left [] (reply_causes c.args.now c.call-reply.result asked)
           (ap (λ core. work_in core.outbox.queue.items) c.follow.ensures.core ∙ ap (λ outbox. work_in outbox.queue.items) c.call-reply.ensures.outbox) c.in_ok-follow.ensures.causes) c.in_ok-follow.ensures.asks
-          (planned_ahead left (planned_reply bytes bytes_of c.args.now task.Timeout c.call-reply.result follows.seen left.plan follows.followed));
+          (planned_ahead left (planned_reply bytes bytes_of c.args.now task.NextTimeout c.call-reply.result follows.seen left.plan follows.followed));
     }

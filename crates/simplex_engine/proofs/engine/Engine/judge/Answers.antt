@@ -1,5 +1,5 @@
 -- That a verdict is passed on just where the member offered the proposal.
-use Rattle.std.proofs.Common.{true, false, refl, sym, subst, ◌∙◌, inl, [], ◌∷◌}
+use Rattle.std.proofs.Common.{refl, sym, ◌∙◌, inl, [], ◌∷◌}
 use Rattle.std.proofs.lemmas.Bool.{false≢true}
 use Rattle.engine_outbox.proofs.Continuity.{stays}
 use Rattle.simplex_engine.proofs.Tells.{tells_still}

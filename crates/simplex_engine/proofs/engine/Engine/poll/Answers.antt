@@ -11,7 +11,8 @@ use Rattle.simplex_engine.specs.AtRest.{ReturnsFirst}
 use Rattle.engine_outbox.proofs.Finalizations.{tells_still}
 use Rattle.simplex_engine.proofs.OwnSteps.{forgets_nothing}
 use Rattle.simplex_engine.proofs.BuildBounds.{come_beside, early_anyway, near_same}
-use Rattle.simplex_engine.proofs.Bounds.{bounded_same, bounded_admitted}
+use Rattle.simplex_engine.proofs.AtRest.{none_first, stored_beside}
+use Rattle.simplex_engine.proofs.Bounds.{bounded_same}
 use Rattle.engine_outbox.proofs.Continuity.{stays, gives_then, gives_none, gives_later, does_nothing_more, where_ok}
 use Rattle.engine_outbox.specs.Continuity.{EmitsTraced}
 use Rattle.engine_outbox.specs.Signatures.{EmitsSigned}
@@ -48,12 +49,9 @@ pub returns-in-Some-clause-bounded : goal.returns-in-Some-clause-bounded
 returns-in-Some-clause-bounded g c = bounded_same g.S.CertificateScheme.participants c.args.self.now.core c.next.new.self c.args.self.now.batcher c.next.ensures.same.0
 
 pub returns-in-None-clause-admitted : goal.returns-in-None-clause-admitted
-returns-in-None-clause-admitted g c = λ within.
-    let keys_of = g.S.CertificateScheme.participants in
-    let same = bounded_same keys_of c.args.self.now.core c.next.new.self c.args.self.now.batcher c.next.ensures.same.0 in
-    where_ok c.poll_after_work.result c.poll_after_work.ensures.lowest
-    (λ out lowest none. bounded_admitted keys_of c.poll_after_work.new.self.core c.poll_after_work.new.self.batcher
-    (c.poll_after_work.ensures.bounded.stays (same.stays within)) (lowest none))
+returns-in-None-clause-admitted g c is within =
+    c.poll_after_work.ensures.admitted (stored_beside g.D.PartialEq.eq g.L.Elector.elect g.S.CertificateScheme.certificate_bytes c.args.self.now c.next.new.self c.next.ensures.same.0 c.next.ensures.same.1 is)
+    ((bounded_same g.S.CertificateScheme.participants c.args.self.now.core c.next.new.self c.args.self.now.batcher c.next.ensures.same.0).stays within)
 
 pub returns-in-Some-clause-due_work : goal.returns-in-Some-clause-due_work
 returns-in-Some-clause-due_work g c =
@@ -66,8 +64,8 @@ returns-in-None-clause-due_work g c =
     (subst (λ out. c.args.self.now.core.outbox.queue.items ≡ option_to_list out ++ c.next.new.self.outbox.queue.items) c.in-None.is c.next.ensures.front) given told))
 
 pub returns-in-None-clause-waiting : goal.returns-in-None-clause-waiting
-returns-in-None-clause-waiting g c =
-    where_ok c.poll_after_work.result c.poll_after_work.ensures.waiting (λ out all none given told. all none given (still_told c.args.self.now c.next.new.self c.next.ensures.same.0
+returns-in-None-clause-waiting g c is =
+    where_ok c.poll_after_work.result (c.poll_after_work.ensures.waiting (stored_beside g.D.PartialEq.eq g.L.Elector.elect g.S.CertificateScheme.certificate_bytes c.args.self.now c.next.new.self c.next.ensures.same.0 c.next.ensures.same.1 is)) (λ out all none given told. all none given (still_told c.args.self.now c.next.new.self c.next.ensures.same.0
     (subst (λ out. c.args.self.now.core.outbox.queue.items ≡ option_to_list out ++ c.next.new.self.outbox.queue.items) c.in-None.is c.next.ensures.front) given told))
 
 pub returns-then-has_failed-clause-held : goal.returns-then-has_failed-clause-held
@@ -87,7 +85,41 @@ returns-in-None-clause-works g c =
     (subst (λ out. c.args.self.now.core.outbox.queue.items ≡ option_to_list out ++ c.next.new.self.outbox.queue.items) c.in-None.is c.next.ensures.front)))
 
 pub returns-in-None-clause-short : goal.returns-in-None-clause-short
-returns-in-None-clause-short g c = λ given kept. c.poll_after_work.ensures.short (given ++ option_to_list c.next.result) (c.next.ensures.kept given kept)
+returns-in-None-clause-short g c = λ given kept is. c.poll_after_work.ensures.short (given ++ option_to_list c.next.result) (c.next.ensures.kept given kept)
+    (stored_beside g.D.PartialEq.eq g.L.Elector.elect g.S.CertificateScheme.certificate_bytes c.args.self.now c.next.new.self c.next.ensures.same.0 c.next.ensures.same.1 is)
+
+pub returns-in-None-clause-rest : goal.returns-in-None-clause-rest
+returns-in-None-clause-rest g c is = c.poll_after_work.ensures.rest (stored_beside g.D.PartialEq.eq g.L.Elector.elect g.S.CertificateScheme.certificate_bytes c.args.self.now c.next.new.self c.next.ensures.same.0 c.next.ensures.same.1 is)
+
+pub returns-in-Some-clause-settled : goal.returns-in-Some-clause-settled
+returns-in-Some-clause-settled g c given kept is = stored_beside g.D.PartialEq.eq g.L.Elector.elect g.S.CertificateScheme.certificate_bytes c.args.self.now c.next.new.self c.next.ensures.same.0 c.next.ensures.same.1 is
+
+pub returns-in-None-clause-settled : goal.returns-in-None-clause-settled
+returns-in-None-clause-settled g c given kept is = c.poll_after_work.ensures.settled (given ++ option_to_list c.next.result) (c.next.ensures.kept given kept)
+    (stored_beside g.D.PartialEq.eq g.L.Elector.elect g.S.CertificateScheme.certificate_bytes c.args.self.now c.next.new.self c.next.ensures.same.0 c.next.ensures.same.1 is)
+
+pub returns-in-Some-clause-settles : goal.returns-in-Some-clause-settles
+returns-in-Some-clause-settles g c empty =
+    none_first (sym (subst (λ out. c.args.self.now.core.outbox.queue.items ≡ option_to_list out ++ c.next.new.self.outbox.queue.items) c.in-Some.is c.next.ensures.front) ∙ empty)
+
+pub returns-then-has_failed-clause-stays : goal.returns-then-has_failed-clause-stays
+returns-then-has_failed-clause-stays g c lives = absurd (true≢false (sym c.if-has_failed.true ∙ c.has_failed.ensures ∙ lives))
+
+pub returns-in-Some-clause-stays : goal.returns-in-Some-clause-stays
+returns-in-Some-clause-stays g c lives empty =
+    none_first (sym (subst (λ out. c.args.self.now.core.outbox.queue.items ≡ option_to_list out ++ c.next.new.self.outbox.queue.items) c.in-Some.is c.next.ensures.front) ∙ empty)
+
+pub returns-in-None-clause-stays : goal.returns-in-None-clause-stays
+returns-in-None-clause-stays g c lives empty at =
+    let is = c.poll_after_work.ensures.stays at in
+    record {
+      nothing = is.0;
+      queue = ap (λ engine. engine.core.outbox.queue.items) is.1 ∙ c.next.ensures.none (subst IsNone (sym c.in-None.is) refl);
+      member = ap (λ engine. engine.core.member) is.1 ∙ c.next.ensures.same.0;
+      batcher = ap (λ engine. engine.batcher) is.1;
+      plan = ap (λ engine. engine.plan) is.1;
+      settled_at = ap (λ engine. engine.settled_at) is.1;
+    }
 
 pub returns-in-Some-clause-near : goal.returns-in-Some-clause-near
 returns-in-Some-clause-near g c = near_same c.args.self.now (record c.args.self.now { core = c.next.new.self }) c.next.ensures.same.0 refl
@@ -173,7 +205,7 @@ returns-in-Some-clause-front g c lives =
     let new = record old { core = c.next.new.self } in
     subst (λ queue. ReturnsFirst {E = Fault} queue (Ok (Some c.in-Some.output)) old new)
     (sym (subst (λ out. old.core.outbox.queue.items ≡ option_to_list out ++ c.next.new.self.outbox.queue.items) c.in-Some.is c.next.ensures.front))
-    (refl, refl, c.next.ensures.same.0, refl, refl)
+    (refl, refl, c.next.ensures.same.0, refl, refl, refl)
 
 pub returns-in-None-clause-front : goal.returns-in-None-clause-front
 returns-in-None-clause-front g c lives =

@@ -54,7 +54,7 @@ returns-in-Certified g c =
 
 pub returns-in-GivenUp : goal.returns-in-GivenUp
 returns-in-GivenUp g c =
-    let asked = task.GiveUp c.in-GivenUp.view c.in-GivenUp.reason in
+    let asked = task.TriggerTimeout c.in-GivenUp.view c.in-GivenUp.reason in
     taken_alone g.D.PartialEq.eq g.L.Elector.elect g.D.Digest.bytes g.S.CertificateScheme.certificate_bytes g.S.Assembly.IsMadeOf g.S.CertificateScheme.participants c.args.now
     c.args.input (input.GivenUp c.in-GivenUp.view c.in-GivenUp.reason) c.args.self.now c.ask-in-GivenUp.new.self c.ask-in-GivenUp.result c.in-GivenUp.is c.ask-in-GivenUp.ensures.continues c.ask-in-GivenUp.ensures.batcher tt c.ask-in-GivenUp.ensures.due_work
     (on_ok c.ask-in-GivenUp.result c.ask-in-GivenUp.ensures.provenance (λ provenance. provenance (Message asked ∷ []) (λ kind view. refl) (inl (asked, refl, among_more (Message asked ∷ []) (pending_causes c.args.self.now), tt))))

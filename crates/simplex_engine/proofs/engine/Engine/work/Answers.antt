@@ -15,13 +15,8 @@ use Rattle.simplex_engine.proofs.engine.Engine.work.Goals as goal
 pub returns : goal.returns
 returns g c = record {
   alone = forgets_further (record { continues = stays c.args.self.now.core; batcher = refl }) c.finish.ensures.alone;
-  whole = c.finish.ensures.whole;
-  quiet = c.finish.ensures.quiet;
-  idle = c.finish.ensures.idle;
-  ahead = c.finish.ensures.ahead;
+  settled = c.finish.ensures.settled;
   short = c.finish.ensures.short;
-  lowest = c.finish.ensures.lowest;
-  lacking = c.finish.ensures.lacking;
   due_work = on_ok c.finish.result c.finish.ensures.due_work
       (tells_further (tells_planned c.args.self.now (record c.args.self.now { plan = c.begin.new.self }) refl
       (plans_begun c.args.self.now.plan c.begin.new.self c.begin.ensures)));

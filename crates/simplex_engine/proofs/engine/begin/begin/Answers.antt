@@ -13,7 +13,7 @@ returns-clause-begun g c = λ keys me term_length is.
     begun_with g.D.Digest.bytes g.S.CertificateScheme.participants keys me term_length (with_a_retry c.args.options) company c.args.member.facts _ is refl
     (subst (λ options. IsPlanOf g.D.Digest.bytes company.term_length company.peers company.is_alone options c.args.member.facts c.in_ok-plan.plan)
     c.with_a_retry.ensures c.in_ok-plan.ensures.plan)
-    (ap (λ member. member.facts) c.in_ok-core.ensures.member) c.zero.ensures
+    (ap (λ member. member.facts) c.in_ok-core.ensures.member) c.zero.ensures refl
 
 pub returns-in_err-core-clause-refused : goal.returns-in_err-core-clause-refused
 returns-in_err-core-clause-refused g c =
