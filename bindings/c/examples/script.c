@@ -7,6 +7,9 @@
  * which grows after each line; each `prune` prunes the record too and puts what is left in place of the journal, and before each
  * `restart-pruned` the member goes on from the journal. How many entries were taken away is told behind the last line, to standard error.
  *
+ * It serves some lines more than the program, about what a member knows: `known V`, `withheld KIND V`, `shown KIND V` (a certificate),
+ * `entries COUNT` and `scan CUT` (the journal without its last bytes).
+ *
  *     cc -O2 -I../include script.c ../../libsimplex.a -o script
  */
 #include "simplex.h"
@@ -228,6 +231,68 @@ static void views(void) {
     else printf("view %" PRIu64 " %" PRIu64 " %" PRIu64 "\n", it.current, it.last_finalized, it.min_active);
 }
 
+/* How many bytes there are, and their FNV-1a hash. */
+static void say_sum(const uint8_t *bytes, uint64_t count) {
+    uint64_t hash = 0xcbf29ce484222325;
+    for (uint64_t i = 0; i < count; i++) hash = (hash ^ bytes[i]) * 0x100000001b3;
+    printf("%" PRIu64 ":%" PRIu64, count, hash);
+}
+
+static void known(uint64_t view) {
+    struct simplex_view it = simplex_member_view(member, view);
+    if (it.status) { puts(FAULTS[it.status]); return; }
+    printf("known ");
+    if (it.leader == SIMPLEX_NOBODY) printf("-"); else printf("%" PRIu32, it.leader);
+    printf(" %s %s %s %s ", flag(it.is_tracked), flag(it.admits_vote), flag(it.admits_certificate), flag(it.voted_nullify));
+    if (it.has_forwardable) printf("%" PRIu64 "\n", number_of(it.forwardable.payload)); else puts("-");
+}
+
+static void withheld(uint32_t kind, uint64_t view) {
+    struct simplex_withheld it = simplex_member_withheld(member, kind, view);
+    if (it.status) puts(FAULTS[it.status]); else printf("withheld %" PRIu32 "\n", it.reason);
+}
+
+static void shown(uint32_t kind, uint64_t view) {
+    struct simplex_found it = simplex_member_certificate(member, kind, view);
+    if (it.status || !it.has) { puts(it.status ? FAULTS[it.status] : "none"); return; }
+    uint8_t *bytes = bytes_of(SIMPLEX_SHOWN, it.bytes);
+    printf("shown ");
+    say_sum(bytes, it.bytes);
+    puts("");
+    free(bytes);
+}
+
+static void say_entries(uint64_t count) {
+    struct simplex_entries it = simplex_member_entries(member, count);
+    if (it.status) ends("entries", it.status);
+    uint8_t *bytes = bytes_of(SIMPLEX_SHOWN, it.bytes);
+    printf("entries ");
+    say_sum(bytes, it.bytes);
+    printf(" %" PRIu64 " %" PRIu64 " %" PRIu64 " %" PRIu64 " %s\n", it.stored.entries, it.stored.closed, it.stored.retention,
+           it.stored.least_retention, flag(it.stored.is_pruned));
+    free(bytes);
+}
+
+static void say_scan(uint64_t cut) {
+    struct simplex_entries it = simplex_member_entries(member, 0);
+    if (it.status) ends("entries", it.status);
+    uint8_t *bytes = bytes_of(SIMPLEX_SHOWN, it.bytes);
+    struct simplex_scan scan = simplex_scan(bytes, it.bytes - (cut < it.bytes ? cut : it.bytes));
+    printf("scan %" PRIu64 " %" PRIu64 " %s\n", scan.entries, scan.bytes, (const char *[]){"whole", "cut", "broken"}[scan.ending]);
+    free(bytes);
+}
+
+/* The lines that the program has not: what the member knows. */
+static int knows(const char *word, const uint64_t *n) {
+    if (!strcmp(word, "known")) known(n[0]);
+    else if (!strcmp(word, "withheld")) withheld((uint32_t)n[0], n[1]);
+    else if (!strcmp(word, "shown")) shown((uint32_t)n[0], n[1]);
+    else if (!strcmp(word, "entries")) say_entries(n[0]);
+    else if (!strcmp(word, "scan")) say_scan(n[0]);
+    else return 0;
+    return 1;
+}
+
 /* The lines of a word and a view. */
 static const struct { const char *word; uint32_t kind; } OF_VIEW[] = {{"propose", SIMPLEX_TRY_PROPOSE}, {"verify", SIMPLEX_TRY_VERIFY},
     {"candidates", SIMPLEX_CERTIFY_CANDIDATES}, {"best", SIMPLEX_GET_BEST_CERTIFICATE}, {"prune", SIMPLEX_PRUNE},
@@ -292,7 +357,7 @@ int main(int argc, char **argv) {
             /* Where a resume is refused, a restart in place is refused alike. */
             if (resumed != restart(n[0], 1, n[1]) && resumed) ends("resume", resumed);
             if (compacts) store(simplex_member_entries(member, 0), 0);
-        } else if (!answers(word, kind, n)) ends(word, SIMPLEX_NO_CALL);
+        } else if (!knows(word, n) && !answers(word, kind, n)) ends(word, SIMPLEX_NO_CALL);
         if (compacts) grow();
         if (compacts && !strcmp(word, "prune")) compact();
     }
