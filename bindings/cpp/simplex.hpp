@@ -1,5 +1,6 @@
 /*
- * An engine of the Simplex consensus protocol, for C++17: a header over libsimplex.a.
+ * An engine of the Simplex consensus protocol, for C++17: a header over libsimplex.a. For hosts that write their own it has the member that
+ * decides in an engine (simplex_member.hpp) and its peer resolver (simplex_resolver.hpp).
  *
  *     c++ -std=c++17 -Ibindings/c/include -Ibindings/cpp host.cpp bindings/libsimplex.a
  *
@@ -29,7 +30,7 @@ namespace simplex {
 using Bytes = std::vector<std::uint8_t>;
 using Digest = std::array<std::uint8_t, 32>;
 using View = std::uint64_t;
-using Member = std::uint32_t;
+using Participant = std::uint32_t; /* a member's index */
 using Millis = std::uint64_t;
 
 /* A call that failed. what() is the status' text. After an error of handle or poll the engine has failed, except for the statuses
@@ -115,13 +116,13 @@ struct Subject {
 
 struct Vote {
     Subject subject;
-    Member signer;
+    Participant signer;
     Bytes signature;
 };
 
 /* The signature of one member in a certificate. */
 struct Signature {
-    Member signer;
+    Participant signer;
     Bytes bytes;
 };
 
@@ -136,7 +137,7 @@ struct Certificate {
 /* In what a block is built or verified. */
 struct Context {
     Round round;
-    Member leader = 0;
+    Participant leader = 0;
     View parent = 0;
     Digest parent_payload{};
 };
@@ -166,9 +167,9 @@ struct Finalized {
 /* How a member is set up. All members of an epoch have the same, except for the signer and the floor. */
 struct Config {
     std::uint32_t members = 0;
-    std::optional<Member> signer;
+    std::optional<Participant> signer;
     std::uint64_t epoch = 0;
-    std::vector<Member> leaders;              /* each term's leader, round-robin */
+    std::vector<Participant> leaders;              /* each term's leader, round-robin */
     bool draws = false;                       /* certificates name leaders: simplex.h, simplex_settings */
     std::uint32_t term_length = 1;
     std::uint64_t optimistic_views = 0;
@@ -183,7 +184,7 @@ struct Config {
 
     Config() = default;
     /* Members that lead round-robin, one view each, from genesis, with the usual times. */
-    Config(std::uint32_t members, std::optional<Member> signer, std::uint64_t epoch, const Digest &genesis);
+    Config(std::uint32_t members, std::optional<Participant> signer, std::uint64_t epoch, const Digest &genesis);
 };
 
 struct Options {
@@ -194,7 +195,7 @@ struct Options {
 
 /* The inputs. simplex_input_kind in simplex.h says when to pass each. */
 namespace input {
-struct Proposal { Member from; simplex::Proposal proposal; };
+struct Proposal { Participant from; simplex::Proposal proposal; };
 struct Verified { View view; bool is_valid; };
 struct Built { Context context; Digest payload; };
 struct Certified { View view; bool is_success; };
@@ -206,16 +207,16 @@ using Input = std::variant<input::Proposal, Vote, Certificate, input::Verified, 
 namespace output {
 struct Store { Entries entries; };
 struct Replace { Entries entries; };
-struct Sign { Subject subject; Member signer; Bytes text; };
+struct Sign { Subject subject; Participant signer; Bytes text; };
 struct Broadcast { Certificate certificate; };
 struct Verify { Context context; Proposal proposal; };
 struct Build { Context context; };
 struct StopBuilding { View view; };
 struct Certify { Proposal proposal; };
-struct Fetch { FetchKind kind; View view; std::optional<Member> of; };
+struct Fetch { FetchKind kind; View view; std::optional<Participant> of; };
 struct Final { Proposal proposal; };
 struct Equivocated { Vote one; Vote other; };
-struct ProposedTwice { View view; Member leader; };
+struct ProposedTwice { View view; Participant leader; };
 struct Forget { View view; };
 }  // namespace output
 using Output = std::variant<output::Store, output::Replace, output::Sign, output::Broadcast, output::Verify, output::Build, output::StopBuilding,
@@ -242,7 +243,7 @@ struct Views {
     std::uint64_t epoch;
     View current, last_finalized, min_active;
     bool is_tracked, admits_vote, admits_certificate, voted_nullify;
-    std::optional<Member> leader;
+    std::optional<Participant> leader;
     std::optional<Proposal> forwardable;
 };
 
@@ -291,5 +292,7 @@ inline bool is_this_version() noexcept { return simplex_version() == SIMPLEX_VER
 }  // namespace simplex
 
 #include "simplex_inline.hpp"
+#include "simplex_member.hpp"
+#include "simplex_resolver.hpp"
 
 #endif

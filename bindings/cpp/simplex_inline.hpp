@@ -31,18 +31,18 @@ inline Proposal proposal_of(const simplex_proposal &it) {
     return made;
 }
 
-inline struct simplex_subject flat(const Subject &it, Member member) { return {static_cast<std::uint32_t>(it.kind), member, flat(it.proposal)}; }
+inline struct simplex_subject flat(const Subject &it, Participant member) { return {static_cast<std::uint32_t>(it.kind), member, flat(it.proposal)}; }
 
 inline Subject subject_of(std::uint32_t kind, const simplex_proposal &it) { return {static_cast<Kind>(kind), proposal_of(it)}; }
 
-inline Context context_of(const simplex_output &it) {
-    Context made{{it.context.round.epoch, it.context.round.view}, it.subject.member, it.context.parent, {}};
-    std::copy(std::begin(it.context.payload), std::end(it.context.payload), made.parent_payload.begin());
+inline Context context_of(const simplex_context &it, Participant leader) {
+    Context made{{it.round.epoch, it.round.view}, leader, it.parent, {}};
+    std::copy(std::begin(it.payload), std::end(it.payload), made.parent_payload.begin());
     return made;
 }
 
-inline std::optional<Member> member_of(std::uint32_t index) {
-    return index == SIMPLEX_NOBODY ? std::nullopt : std::optional<Member>(index);
+inline std::optional<Participant> member_of(std::uint32_t index) {
+    return index == SIMPLEX_NOBODY ? std::nullopt : std::optional<Participant>(index);
 }
 
 /* An input as the library takes it. */
@@ -99,8 +99,8 @@ std::optional<Output> output_of(const simplex_output &it, Read bytes) {
     case SIMPLEX_REPLACE: return output::Replace{{bytes(SIMPLEX_OF_OUTPUT), {it.stored}}};
     case SIMPLEX_VOTE: return output::Sign{subject(), it.subject.member, bytes(SIMPLEX_OF_OUTPUT)};
     case SIMPLEX_BROADCAST: return output::Broadcast{{subject(), bytes(SIMPLEX_OF_OUTPUT)}};
-    case SIMPLEX_VERIFY: return output::Verify{context_of(it), proposal};
-    case SIMPLEX_BUILD: return output::Build{context_of(it)};
+    case SIMPLEX_VERIFY: return output::Verify{context_of(it.context, it.subject.member), proposal};
+    case SIMPLEX_BUILD: return output::Build{context_of(it.context, it.subject.member)};
     case SIMPLEX_STOP_BUILDING: return output::StopBuilding{it.view};
     case SIMPLEX_CERTIFY: return output::Certify{proposal};
     case SIMPLEX_ASK: return output::Fetch{static_cast<FetchKind>(it.fetch), it.view, member_of(it.member)};
@@ -147,6 +147,45 @@ inline Bytes floor_certificate(const Config &it) {
 
 inline simplex_options flat(const Options &it) { return {it.retry, it.on_its_way, it.long_record}; }
 
+/* All bytes that wait; `part` returns those from a byte on, and none where there are no more. */
+template <class Part>
+Bytes all_bytes(Part part) {
+    Bytes all;
+    for (;;) {
+        const simplex_chunk chunk = part(static_cast<std::uint64_t>(all.size()));
+        require(chunk.status);
+        if (chunk.count == 0) return all;
+        all.insert(all.end(), chunk.bytes, chunk.bytes + chunk.count);
+    }
+}
+
+inline Views views_of(const simplex_view &it) {
+    require(it.status);
+    const auto forwardable = it.has_forwardable ? std::optional<Proposal>(proposal_of(it.forwardable)) : std::nullopt;
+    return {it.epoch,           it.current,          it.last_finalized,      it.min_active, it.is_tracked != 0, it.admits_vote != 0,
+            it.admits_certificate != 0, it.voted_nullify != 0, member_of(it.leader), forwardable};
+}
+
+inline std::optional<Withheld> withheld_of(const simplex_withheld &it) {
+    require(it.status);
+    if (it.reason == SIMPLEX_NOT_WITHHELD) return std::nullopt;
+    return static_cast<Withheld>(it.reason);
+}
+
+/* The certificate in bytes that are served: the text of its votes, 17 bytes of a nullification and else 57, and its own bytes after it. */
+inline Certificate served_of(const Bytes &all) {
+    const bool is_nullification = all.at(0) == 1;
+    Subject subject{is_nullification ? Kind::Nullification : all[0] == 0 ? Kind::Notarization : Kind::Finalization, {}};
+    const std::size_t length = is_nullification ? 17 : 57;
+    if (all.size() < length) throw std::logic_error("libsimplex.a has another version than simplex.hpp");
+    subject.proposal.round = {number_at(&all[1], 8), number_at(&all[9], 8)};
+    if (!is_nullification) {
+        subject.proposal.parent = number_at(&all[17], 8);
+        std::copy(all.begin() + 25, all.begin() + 57, subject.proposal.payload.begin());
+    }
+    return {subject, Bytes(all.begin() + static_cast<std::ptrdiff_t>(length), all.end())};
+}
+
 }  // namespace detail
 
 inline Bytes Subject::text() const {
@@ -160,7 +199,7 @@ inline std::optional<std::vector<Signature>> Certificate::signatures() const {
     std::vector<Signature> made;
     for (std::size_t place = 0; place < bytes.size();) {
         if (bytes.size() - place < 12) return std::nullopt;
-        const auto signer = static_cast<Member>(detail::number_at(&bytes[place], 4));
+        const auto signer = static_cast<Participant>(detail::number_at(&bytes[place], 4));
         const std::uint64_t length = detail::number_at(&bytes[place + 4], 8);
         place += 12;
         if (length > bytes.size() - place || (!made.empty() && made.back().signer >= signer)) return std::nullopt;
@@ -185,9 +224,9 @@ inline std::optional<Stored> Stored::from_bytes(const std::array<std::uint8_t, 3
     return Stored{{number(0), number(1), number(2), number(3), bytes[32], 0}};
 }
 
-inline Config::Config(std::uint32_t members_, std::optional<Member> signer_, std::uint64_t epoch_, const Digest &genesis)
+inline Config::Config(std::uint32_t members_, std::optional<Participant> signer_, std::uint64_t epoch_, const Digest &genesis)
     : members(members_), signer(signer_), epoch(epoch_), floor(genesis) {
-    for (Member member = 0; member < members; member++) leaders.push_back(member);
+    for (Participant member = 0; member < members; member++) leaders.push_back(member);
 }
 
 inline Engine Engine::begun(std::uint32_t status, simplex_engine *at) {
@@ -232,13 +271,7 @@ inline std::optional<Output> Engine::poll(Millis now) {
 }
 
 inline Bytes Engine::bytes(std::uint32_t which) const {
-    Bytes all;
-    for (;;) {
-        const simplex_chunk chunk = simplex_engine_bytes(at_.get(), which, all.size());
-        detail::require(chunk.status);
-        if (chunk.count == 0) return all;
-        all.insert(all.end(), chunk.bytes, chunk.bytes + chunk.count);
-    }
+    return detail::all_bytes([this, which](std::uint64_t from) { return simplex_engine_bytes(at_.get(), which, from); });
 }
 
 inline State Engine::state() const {
@@ -257,26 +290,10 @@ inline std::vector<OpenFetch> Engine::fetches() const {
     }
 }
 
-inline Views Engine::view(View view) const {
-    const simplex_view it = simplex_engine_view(at_.get(), view);
-    detail::require(it.status);
-    return {it.epoch,
-            it.current,
-            it.last_finalized,
-            it.min_active,
-            it.is_tracked != 0,
-            it.admits_vote != 0,
-            it.admits_certificate != 0,
-            it.voted_nullify != 0,
-            detail::member_of(it.leader),
-            it.has_forwardable ? std::optional<Proposal>(detail::proposal_of(it.forwardable)) : std::nullopt};
-}
+inline Views Engine::view(View view) const { return detail::views_of(simplex_engine_view(at_.get(), view)); }
 
 inline std::optional<Withheld> Engine::withheld(Kind kind, View view) const {
-    const simplex_withheld it = simplex_engine_withheld(at_.get(), static_cast<std::uint32_t>(kind), view);
-    detail::require(it.status);
-    if (it.reason == SIMPLEX_NOT_WITHHELD) return std::nullopt;
-    return static_cast<Withheld>(it.reason);
+    return detail::withheld_of(simplex_engine_withheld(at_.get(), static_cast<std::uint32_t>(kind), view));
 }
 
 inline std::optional<Certificate> Engine::certificate(Kind kind, View view) const {
@@ -290,18 +307,7 @@ inline std::optional<Certificate> Engine::serve(View view) const {
     const simplex_served it = simplex_engine_serve(at_.get(), view);
     detail::require(it.status);
     if (it.has == 0) return std::nullopt;
-    const Bytes all = bytes(SIMPLEX_SHOWN_OF_ENGINE);
-    /* The text of the certificate's votes, and the certificate after it: 17 bytes of a nullification, else 57. */
-    const bool is_nullification = all.at(0) == 1;
-    Subject subject{is_nullification ? Kind::Nullification : all[0] == 0 ? Kind::Notarization : Kind::Finalization, {}};
-    const std::size_t length = is_nullification ? 17 : 57;
-    if (all.size() < length) throw std::logic_error("libsimplex.a has another version than simplex.hpp");
-    subject.proposal.round = {detail::number_at(&all[1], 8), detail::number_at(&all[9], 8)};
-    if (!is_nullification) {
-        subject.proposal.parent = detail::number_at(&all[17], 8);
-        std::copy(all.begin() + 25, all.begin() + 57, subject.proposal.payload.begin());
-    }
-    return Certificate{subject, Bytes(all.begin() + static_cast<std::ptrdiff_t>(length), all.end())};
+    return detail::served_of(bytes(SIMPLEX_SHOWN_OF_ENGINE));
 }
 
 }  // namespace simplex

@@ -89,11 +89,11 @@ Bytes bytes(std::uint64_t number) { return Bytes(number * 8, static_cast<std::ui
 
 Input input_of(const std::string &word, const Numbers &it) {
     const auto kind = [&it] { return static_cast<Kind>(it.at(0)); };
-    if (word == "proposal") return input::Proposal{static_cast<Member>(it.at(0)), proposal(it, 1)};
-    if (word == "vote") return Vote{{kind(), proposal(it, 2)}, static_cast<Member>(it.at(1)), bytes(it.at(5))};
+    if (word == "proposal") return input::Proposal{static_cast<Participant>(it.at(0)), proposal(it, 1)};
+    if (word == "vote") return Vote{{kind(), proposal(it, 2)}, static_cast<Participant>(it.at(1)), bytes(it.at(5))};
     if (word == "certificate") return Certificate{{kind(), proposal(it, 1)}, bytes(it.at(4))};
     if (word == "built") {
-        return input::Built{{{EPOCH, it.at(0)}, static_cast<Member>(it.at(3)), it.at(1), payload(it.at(2))}, payload(it.at(4))};
+        return input::Built{{{EPOCH, it.at(0)}, static_cast<Participant>(it.at(3)), it.at(1), payload(it.at(2))}, payload(it.at(4))};
     }
     if (word == "verified") return input::Verified{it.at(0), it.at(1) == 1};
     if (word == "certified") return input::Certified{it.at(0), it.at(1) == 1};
@@ -192,8 +192,8 @@ private:
 Config config_of(char **words) {
     const auto number = [words](int place) { return std::stoul(words[place]); };
     const auto members = static_cast<std::uint32_t>(number(1));
-    const auto me = static_cast<Member>(number(2));
-    Config config(members, me < members ? std::optional<Member>(me) : std::nullopt, EPOCH, Digest{});
+    const auto me = static_cast<Participant>(number(2));
+    Config config(members, me < members ? std::optional<Participant>(me) : std::nullopt, EPOCH, Digest{});
     config.term_length = static_cast<std::uint32_t>(number(3));
     config.optimistic_views = number(4);
     return config;

@@ -48,14 +48,14 @@ std::optional<Certificate> Node::served(const output::Fetch &fetch) const {
     return engine->serve(fetch.view);
 }
 
-void Node::receive_vote(Member from, const Vote &vote, Millis now) {
+void Node::receive_vote(Participant from, const Vote &vote, Millis now) {
     if (vote.signature != signature(vote.signer, vote.subject.text()) || vote.subject.proposal.round.epoch != EPOCH) return;
     if (vote.subject.kind == Kind::Notarization) engine->handle(input::Proposal{from, vote.subject.proposal}, now);
     engine->handle(vote, now);
 }
 
 /* Signatures and certificates are verified before the engine receives them. */
-void Node::receive(Member from, const Message &message, Millis now, Queue &out) {
+void Node::receive(Participant from, const Message &message, Millis now, Queue &out) {
     if (!engine) return;
     std::visit(Overloaded{[&](const Block &it) {
                               blocks_[it.digest()] = it;
@@ -143,13 +143,13 @@ void Node::deliver(Queue &out) {
 }
 
 void Node::send_to_others(const Message &message, Queue &out) const {
-    for (Member to = 0; to < members_; to++) {
+    for (Participant to = 0; to < members_; to++) {
         if (to != me_) out.push_back({me_, to, message});
     }
 }
 
 Network::Network(std::uint32_t members) {
-    for (Member member = 0; member < members; member++) {
+    for (Participant member = 0; member < members; member++) {
         nodes.emplace_back(member, members);
         begin(member);
     }

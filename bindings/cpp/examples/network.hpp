@@ -36,7 +36,7 @@ inline void append(Bytes &bytes, std::uint64_t number, int count) {
 }
 
 /* Returns a member's signature on a text. */
-inline Bytes signature(Member signer, const Bytes &text) {
+inline Bytes signature(Participant signer, const Bytes &text) {
     Bytes signed_bytes, made;
     append(signed_bytes, signer, 4);
     signed_bytes.insert(signed_bytes.end(), text.begin(), text.end());
@@ -71,7 +71,7 @@ struct AskBlock {
 using Message = std::variant<Block, AskBlock, Vote, Certificate, output::Fetch>;
 
 struct Sent {
-    Member from, to;
+    Participant from, to;
     Message message;
 };
 using Queue = std::deque<Sent>;
@@ -85,26 +85,26 @@ struct Disk {
 /* A member: its engine while its process lives, its disk, its blocks, and the chain that it delivered. */
 class Node {
 public:
-    Node(Member me, std::uint32_t members) : me_(me), members_(members) {}
+    Node(Participant me, std::uint32_t members) : me_(me), members_(members) {}
 
     std::optional<Engine> engine;
     Disk disk;
     std::vector<Block> chain;
 
     void begin(Millis now, Queue &out);
-    void receive(Member from, const Message &message, Millis now, Queue &out);
+    void receive(Participant from, const Message &message, Millis now, Queue &out);
     void settle(Millis now, Queue &out);
 
 private:
     bool is_good(const Certificate &certificate) const;
     std::optional<Certificate> served(const output::Fetch &fetch) const;
-    void receive_vote(Member from, const Vote &vote, Millis now);
+    void receive_vote(Participant from, const Vote &vote, Millis now);
     void carry_out(const Output &output, Millis now, Queue &out);
     void sign(const output::Sign &order, Queue &out);
     void deliver(Queue &out);
     void send_to_others(const Message &message, Queue &out) const;
 
-    Member me_;
+    Participant me_;
     std::uint32_t members_;
     std::map<Digest, Block> blocks_;
     std::optional<Proposal> finalized_;
@@ -117,7 +117,7 @@ public:
     /* Delivers a message; where none is on its way, advances the clock to the next moment at which an engine polls. */
     void step();
     /* Begins a lifetime of a member from its disk. */
-    void begin(Member member) { nodes[member].begin(now_, sent_); }
+    void begin(Participant member) { nodes[member].begin(now_, sent_); }
 
     std::vector<Node> nodes;
 
