@@ -45,7 +45,7 @@ type Views struct {
 	Epoch                                                  uint64
 	Current, LastFinalized, MinActive                      View
 	IsTracked, AdmitsVote, AdmitsCertificate, VotedNullify bool
-	Leader                                                 *Member
+	Leader                                                 *Participant
 	Forwardable                                            *Proposal
 }
 
@@ -100,7 +100,7 @@ func bytesAt(bytes []byte) *C.uint8_t {
 	return (*C.uint8_t)(unsafe.Pointer(&bytes[0]))
 }
 
-func members(all []Member) *C.uint32_t {
+func members(all []Participant) *C.uint32_t {
 	if len(all) == 0 {
 		return nil
 	}
@@ -134,9 +134,14 @@ func (it *Engine) Poll(now Millis) (Output, error) {
 }
 
 func (it *Engine) bytes(which C.uint32_t) []byte {
+	return allBytes(func(from C.uint64_t) C.struct_simplex_chunk { return C.simplex_engine_bytes(it.at, which, from) })
+}
+
+// allBytes returns all bytes that wait; part returns those from a byte on, and none where there are no more.
+func allBytes(part func(from C.uint64_t) C.struct_simplex_chunk) []byte {
 	var all []byte
 	for {
-		chunk := C.simplex_engine_bytes(it.at, which, C.uint64_t(len(all)))
+		chunk := part(C.uint64_t(len(all)))
 		if chunk.status != C.SIMPLEX_OK || chunk.count == 0 {
 			return all
 		}
@@ -168,6 +173,10 @@ func (it *Engine) Fetches() []OpenFetch {
 func (it *Engine) View(view View) (Views, error) {
 	shown := C.simplex_engine_view(it.at, C.uint64_t(view))
 	runtime.KeepAlive(it)
+	return viewsOf(shown)
+}
+
+func viewsOf(shown C.struct_simplex_view) (Views, error) {
 	if err := errorOf(shown.status); err != nil {
 		return Views{}, err
 	}

@@ -8,7 +8,7 @@ import (
 )
 
 func settings() Config {
-	me := Member(1)
+	me := Participant(1)
 	return NewConfig(4, &me, 1, Digest{})
 }
 
@@ -60,10 +60,10 @@ func TestSettingsAreRefusedByTheirStatus(t *testing.T) {
 	other.Leaders = other.Leaders[:3]
 	_, err := Start(other, DefaultOptions(), 0)
 	expect(t, err, OtherTable)
-	me := Member(4)
+	me := Participant(4)
 	_, err = Start(NewConfig(4, &me, 1, Digest{}), DefaultOptions(), 0)
 	expect(t, err, NoSuchMember)
-	me = ^Member(0)
+	me = ^Participant(0)
 	_, err = Start(NewConfig(4, &me, 1, Digest{}), DefaultOptions(), 0)
 	expect(t, err, NoSuchMember)
 	if !strings.Contains(OtherTable.Error(), "table of leaders") {
@@ -84,7 +84,7 @@ func TestAJournalIsRefusedByItsStatus(t *testing.T) {
 	other[len(other)-1] ^= 1
 	_, err = Resume(settings(), DefaultOptions(), 0, stored.Stored, other)
 	expect(t, err, Damaged)
-	me := Member(2)
+	me := Participant(2)
 	_, err = Resume(NewConfig(4, &me, 1, Digest{}), DefaultOptions(), 0, stored.Stored, stored.Bytes)
 	expect(t, err, ForeignSigner)
 }

@@ -10,6 +10,9 @@ type Status uint32
 const (
 	OutOfMemory   Status = C.SIMPLEX_OUT_OF_MEMORY
 	Failed        Status = C.SIMPLEX_FAILED
+	ViewTooLarge  Status = C.SIMPLEX_VIEW_TOO_LARGE
+	TimeOverflow  Status = C.SIMPLEX_TIME_OVERFLOW
+	NotAllowed    Status = C.SIMPLEX_NOT_ALLOWED
 	NoCall        Status = C.SIMPLEX_NO_CALL
 	NotMade       Status = C.SIMPLEX_NOT_MADE
 	NoSuchMember  Status = C.SIMPLEX_NO_SUCH_MEMBER

@@ -11,7 +11,7 @@ type Input interface {
 
 // ProposalInput is a proposal and the member that sent it, whose signature the host has verified.
 type ProposalInput struct {
-	From     Member
+	From     Participant
 	Proposal Proposal
 }
 

@@ -11,8 +11,8 @@ type Digest [32]byte
 // View is the number of a view.
 type View = uint64
 
-// Member is the index of a member.
-type Member = uint32
+// Participant is the index of a member.
+type Participant = uint32
 
 // Millis is a moment or a time in milliseconds.
 type Millis = uint64
@@ -101,7 +101,7 @@ type Subject struct {
 // Vote is a member's vote, signed.
 type Vote struct {
 	Subject   Subject
-	Signer    Member
+	Signer    Participant
 	Signature []byte
 }
 
@@ -113,14 +113,14 @@ type Certificate struct {
 
 // Signature is the signature of one member in a certificate.
 type Signature struct {
-	Signer Member
+	Signer Participant
 	Bytes  []byte
 }
 
 // Context is in what a block is built or verified.
 type Context struct {
 	Round         Round
-	Leader        Member
+	Leader        Participant
 	Parent        View
 	ParentPayload Digest
 }
@@ -168,7 +168,7 @@ func (it Proposal) flat() C.struct_simplex_proposal {
 	return C.struct_simplex_proposal{round: it.Round.flat(), parent: C.uint64_t(it.Parent), payload: it.Payload.flat()}
 }
 
-func (it Subject) flat(member Member) C.struct_simplex_subject {
+func (it Subject) flat(member Participant) C.struct_simplex_subject {
 	return C.struct_simplex_subject{kind: C.uint32_t(it.Kind), member: C.uint32_t(member), proposal: it.Proposal.flat()}
 }
 
@@ -200,14 +200,14 @@ func subjectOf(kind C.uint32_t, proposal C.struct_simplex_proposal) Subject {
 }
 
 func contextOf(it C.struct_simplex_context, leader C.uint32_t) Context {
-	return Context{roundOf(it.round), Member(leader), View(it.parent), digestOf(it.payload)}
+	return Context{roundOf(it.round), Participant(leader), View(it.parent), digestOf(it.payload)}
 }
 
 // memberOf returns a member; nil where the library has none.
-func memberOf(index C.uint32_t) *Member {
+func memberOf(index C.uint32_t) *Participant {
 	if index == C.SIMPLEX_NOBODY {
 		return nil
 	}
-	member := Member(index)
+	member := Participant(index)
 	return &member
 }

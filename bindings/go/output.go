@@ -18,7 +18,7 @@ type ReplaceOutput struct{ Entries Entries }
 // SignOutput: sign the text with the signer's key, send the vote to all, and pass it to this engine too.
 type SignOutput struct {
 	Subject Subject
-	Signer  Member
+	Signer  Participant
 	Text    []byte
 }
 
@@ -44,7 +44,7 @@ type CertifyOutput struct{ Proposal Proposal }
 type FetchOutput struct {
 	Kind FetchKind
 	View View
-	Of   *Member
+	Of   *Participant
 }
 
 // FinalOutput: the proposal and its ancestors are final. The ancestors are not reported.
@@ -56,7 +56,7 @@ type EquivocatedOutput struct{ One, Other Vote }
 // ProposedTwiceOutput: the view's leader signed two proposals.
 type ProposedTwiceOutput struct {
 	View   View
-	Leader Member
+	Leader Participant
 }
 
 // ForgetOutput: drop what is stored of the views below this one.
@@ -78,7 +78,7 @@ func (ForgetOutput) isOutput()        {}
 
 // outputOf returns the output of numbers and of bytes, which read reads; nil where there is none.
 func outputOf(it *C.struct_simplex_output, read func(which C.uint32_t) []byte) Output {
-	subject, view, member := subjectOf(it.subject.kind, it.subject.proposal), View(it.view), Member(it.subject.member)
+	subject, view, member := subjectOf(it.subject.kind, it.subject.proposal), View(it.view), Participant(it.subject.member)
 	context := contextOf(it.context, it.subject.member)
 	switch it.kind {
 	case C.SIMPLEX_NOTHING:
@@ -104,10 +104,10 @@ func outputOf(it *C.struct_simplex_output, read func(which C.uint32_t) []byte) O
 	case C.SIMPLEX_FINAL:
 		return FinalOutput{subject.Proposal}
 	case C.SIMPLEX_EQUIVOCATED:
-		other := Vote{subjectOf(it.other.kind, it.other.proposal), Member(it.other.member), read(C.SIMPLEX_OTHER_OF_OUTPUT)}
+		other := Vote{subjectOf(it.other.kind, it.other.proposal), Participant(it.other.member), read(C.SIMPLEX_OTHER_OF_OUTPUT)}
 		return EquivocatedOutput{Vote{subject, member, read(C.SIMPLEX_OF_OUTPUT)}, other}
 	case C.SIMPLEX_PROPOSED_TWICE:
-		return ProposedTwiceOutput{view, Member(it.member)}
+		return ProposedTwiceOutput{view, Participant(it.member)}
 	case C.SIMPLEX_FORGET:
 		return ForgetOutput{view}
 	}

@@ -8,10 +8,10 @@ import "encoding/binary"
 // Config is how a member is set up. All members of an epoch have the same, except for the signer and the floor.
 type Config struct {
 	Members         uint32
-	Signer          *Member // nil for a member that only follows
+	Signer          *Participant // nil for a member that only follows
 	Epoch           uint64
-	Leaders         []Member // each term's leader, round-robin
-	Draws           bool     // certificates name leaders: simplex.h, simplex_settings
+	Leaders         []Participant // each term's leader, round-robin
+	Draws           bool          // certificates name leaders: simplex.h, simplex_settings
 	TermLength      uint32
 	OptimisticViews uint64
 	StallTimeout    *Millis
@@ -27,10 +27,10 @@ type Config struct {
 }
 
 // NewConfig returns the settings of members that lead round-robin, one view each, from genesis, with the usual times.
-func NewConfig(members uint32, signer *Member, epoch uint64, genesis Digest) Config {
-	leaders := make([]Member, members)
+func NewConfig(members uint32, signer *Participant, epoch uint64, genesis Digest) Config {
+	leaders := make([]Participant, members)
 	for member := range leaders {
-		leaders[member] = Member(member)
+		leaders[member] = Participant(member)
 	}
 	return Config{
 		Members: members, Signer: signer, Epoch: epoch, Leaders: leaders, TermLength: 1, Genesis: genesis,

@@ -35,7 +35,7 @@ func main() {
 }
 
 func configOf(numbers []uint64) simplex.Config {
-	me := simplex.Member(numbers[1])
+	me := simplex.Participant(numbers[1])
 	signer := &me
 	if numbers[1] >= numbers[0] {
 		signer = nil
@@ -172,7 +172,7 @@ func (it *lifetime) served(view simplex.View) (string, error) {
 }
 
 func inputOf(word string, it []uint64) (simplex.Input, error) {
-	member := func(place int) simplex.Member { return simplex.Member(it[place]) }
+	member := func(place int) simplex.Participant { return simplex.Participant(it[place]) }
 	switch word {
 	case "proposal":
 		return simplex.ProposalInput{From: member(0), Proposal: proposalOf(it[1:])}, nil
@@ -283,7 +283,7 @@ func kindWord(kind simplex.FetchKind) string {
 	return "decision"
 }
 
-func memberWord(member *simplex.Member) string {
+func memberWord(member *simplex.Participant) string {
 	if member == nil {
 		return "-"
 	}

@@ -31,7 +31,7 @@ type askBlock struct{ digest simplex.Digest }
 type message any
 
 type sent struct {
-	from, to simplex.Member
+	from, to simplex.Participant
 	message  message
 }
 
@@ -43,7 +43,7 @@ type disk struct {
 
 // A member: its engine while its process lives, its disk, its blocks, and the chain that it delivered.
 type node struct {
-	me        simplex.Member
+	me        simplex.Participant
 	members   uint32
 	engine    *simplex.Engine
 	disk      disk
@@ -69,7 +69,7 @@ func hashOf(parts ...[]byte) []byte {
 }
 
 // signature returns a member's signature on a text: a toy that anyone can make.
-func signature(signer simplex.Member, text []byte) []byte {
+func signature(signer simplex.Participant, text []byte) []byte {
 	var index [4]byte
 	binary.BigEndian.PutUint32(index[:], signer)
 	return hashOf(index[:], text)
@@ -88,7 +88,7 @@ func blockOn(it simplex.Context) block { return block{it.Round.View, it.ParentPa
 
 func start(members uint32) (*network, error) {
 	it := &network{}
-	for member := simplex.Member(0); member < members; member++ {
+	for member := simplex.Participant(0); member < members; member++ {
 		it.nodes = append(it.nodes, &node{me: member, members: members, blocks: map[simplex.Digest]block{}})
 		if err := it.nodes[member].begin(it.now, &it.sent); err != nil {
 			return nil, err
@@ -164,7 +164,7 @@ func (it *node) settle(now simplex.Millis, out *[]sent) error {
 }
 
 // receive verifies signatures and certificates before the engine receives them.
-func (it *node) receive(from simplex.Member, message message, now simplex.Millis, out *[]sent) error {
+func (it *node) receive(from simplex.Participant, message message, now simplex.Millis, out *[]sent) error {
 	if it.engine == nil {
 		return nil
 	}
@@ -193,7 +193,7 @@ func (it *node) receive(from simplex.Member, message message, now simplex.Millis
 	return nil
 }
 
-func (it *node) receiveVote(from simplex.Member, vote simplex.Vote, now simplex.Millis) error {
+func (it *node) receiveVote(from simplex.Participant, vote simplex.Vote, now simplex.Millis) error {
 	text, err := vote.Subject.Text()
 	if err != nil || !bytes.Equal(vote.Signature, signature(vote.Signer, text)) || vote.Subject.Proposal.Round.Epoch != epoch {
 		return err
@@ -308,7 +308,7 @@ func (it *node) deliver(out *[]sent) {
 }
 
 func (it *node) sendToOthers(message message, out *[]sent) {
-	for to := simplex.Member(0); to < it.members; to++ {
+	for to := simplex.Participant(0); to < it.members; to++ {
 		if to != it.me {
 			*out = append(*out, sent{it.me, to, message})
 		}
