@@ -68,7 +68,7 @@ class Disk:
 
 @dataclass
 class Node:
-    """A member: its engine while its process lives, its disk, its blocks, and the chain that it delivered."""
+    """A member: its engine while its process runs, its disk, its blocks, and the chain that it delivered."""
 
     me: int
     members: int

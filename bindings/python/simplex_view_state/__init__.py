@@ -1,19 +1,26 @@
 """An engine of the Simplex consensus protocol, over libsimplex.a, which the package holds.
 
-docs/EMBEDDING.md has the loop of a host, and simplex.h says what the host must do. The inputs are in `inputs`, the outputs in `outputs`."""
+docs/EMBEDDING.md has the loop of a host, and simplex.h says what the host must do. The inputs are in `inputs`, the outputs in `outputs`. For
+hosts that write their own engine there are `Member`, which decides in it, and its peer `Resolver`: docs/CALLERS.md."""
 
 from . import inputs, outputs
 from ._library import ffi as _ffi, lib as _lib
-from .engine import Engine, OpenFetch, State, Views
+from .engine import Engine, OpenFetch, State
 from .errors import SimplexError, Status
 from .inputs import Input
+from .journal import Ending, Scan, scan
+from .member import AbandonedReason, Added, Candidates, CertificateFetch, Cut, Member, Missing, ProposalRequest, Timeout, VoteOrder
 from .messages import Certificate, Context, FetchKind, Kind, Proposal, Round, Subject, TimeoutReason, Vote, Withheld
 from .outputs import Output
+from .resolver import Effect, FetchEffect, FetchReason, FinalizedEffect, RaisedEffect, Resolver, SettledEffect
 from .settings import Config, Entries, Options, Stored
+from .views import Views
 
 __all__ = [
-    "Certificate", "Config", "Context", "Engine", "Entries", "FetchKind", "Input", "Kind", "OpenFetch", "Options", "Output", "Proposal",
-    "Round", "SimplexError", "State", "Status", "Stored", "Subject", "TimeoutReason", "Views", "Vote", "Withheld", "build_info", "inputs", "outputs",
+    "AbandonedReason", "Added", "Candidates", "Certificate", "CertificateFetch", "Config", "Context", "Cut", "Effect", "Ending", "Engine",
+    "Entries", "FetchEffect", "FetchKind", "FetchReason", "FinalizedEffect", "Input", "Kind", "Member", "Missing", "OpenFetch", "Options",
+    "Output", "Proposal", "ProposalRequest", "RaisedEffect", "Resolver", "Round", "Scan", "SettledEffect", "SimplexError", "State", "Status",
+    "Stored", "Subject", "Timeout", "TimeoutReason", "Views", "Vote", "VoteOrder", "Withheld", "build_info", "inputs", "outputs", "scan",
 ]
 
 if _lib.simplex_version() != _lib.SIMPLEX_VERSION:

@@ -8,9 +8,10 @@ from typing import List, Optional
 from ._library import ffi, lib
 from .errors import Status, require
 from .inputs import Input, flat_input
-from .messages import Certificate, FetchKind, Kind, Proposal, Round, Subject, Withheld, member_of, proposal_of, subject_of
+from .messages import Certificate, FetchKind, Kind, Withheld, all_bytes, served_of, subject_of
 from .outputs import Output, output_of
 from .settings import Config, Options, Stored
+from .views import Views, views_of, withheld_of
 
 
 @dataclass(frozen=True)
@@ -31,22 +32,6 @@ class OpenFetch:
     view: int
     count: int
     moment: int
-
-
-@dataclass(frozen=True)
-class Views:
-    """What the member knows, and what it knows of a view."""
-
-    epoch: int
-    current: int
-    last_finalized: int
-    min_active: int
-    is_tracked: bool
-    admits_vote: bool
-    admits_certificate: bool
-    voted_nullify: bool
-    leader: Optional[int]
-    forwardable: Optional[Proposal]
 
 
 class Engine:
@@ -92,13 +77,7 @@ class Engine:
         return output_of(output, self._bytes)
 
     def _bytes(self, which: int) -> bytes:
-        read = bytearray()
-        while True:
-            chunk = lib.simplex_engine_bytes(self._at, which, len(read))
-            require(chunk.status)
-            if not chunk.count:
-                return bytes(read)
-            read += ffi.buffer(chunk.bytes, chunk.count)
+        return all_bytes(lambda begin: lib.simplex_engine_bytes(self._at, which, begin))
 
     def state(self) -> State:
         """Returns what the engine knows of itself."""
@@ -119,17 +98,11 @@ class Engine:
 
     def view(self, view: int) -> Views:
         """Returns what the member knows, and what it knows of a view. Raises `SimplexError` once the engine has failed."""
-        it = lib.simplex_engine_view(self._at, view)
-        require(it.status)
-        flags = (it.is_tracked != 0, it.admits_vote != 0, it.admits_certificate != 0, it.voted_nullify != 0)
-        forwardable = proposal_of(it.forwardable) if it.has_forwardable else None
-        return Views(it.epoch, it.current, it.last_finalized, it.min_active, *flags, member_of(it.leader), forwardable)
+        return views_of(lib.simplex_engine_view(self._at, view))
 
     def withheld(self, kind: Kind, view: int) -> Optional[Withheld]:
         """Returns why the member withholds its vote of a kind on a view; None where it does not."""
-        it = lib.simplex_engine_withheld(self._at, kind, view)
-        require(it.status)
-        return Withheld(it.reason) if it.reason else None
+        return withheld_of(lib.simplex_engine_withheld(self._at, kind, view))
 
     def certificate(self, kind: Kind, view: int) -> Optional[Certificate]:
         """Returns a view's certificate; None where the view is not tracked or has none."""
@@ -141,21 +114,10 @@ class Engine:
         """Returns the certificate to serve to a peer that asks for the view; None where there is none."""
         served = lib.simplex_engine_serve(self._at, view)
         require(served.status)
-        return _served_of(self._bytes(lib.SIMPLEX_SHOWN_OF_ENGINE)) if served.has else None
+        return served_of(self._bytes(lib.SIMPLEX_SHOWN_OF_ENGINE)) if served.has else None
 
 
 def _begun(function, config: Config, options: Options, now: int, *journal):
-    certificate, table = config.certificate(), config.table()
-    at = ffi.new("simplex_engine **")
-    settings, flat = ffi.new("struct simplex_settings *", config.flat()), ffi.new("struct simplex_options *", options.flat())
-    require(function(settings, ffi.new("uint32_t[]", table), len(table), certificate, len(certificate), flat, now, *journal, at))
+    at, flat = ffi.new("simplex_engine **"), ffi.new("struct simplex_options *", options.flat())
+    require(function(*config.arguments(), flat, now, *journal, at))
     return at[0]
-
-
-def _served_of(served: bytes) -> Certificate:
-    """Reads the text of a certificate's votes and the certificate after it: 17 bytes of a nullification, else 57."""
-    kind = (Kind.NOTARIZATION, Kind.NULLIFICATION, Kind.FINALIZATION)[served[0]]
-    round_ = Round(int.from_bytes(served[1:9], "big"), int.from_bytes(served[9:17], "big"))
-    if kind == Kind.NULLIFICATION:
-        return Certificate(Subject(kind, Proposal(round_)), served[17:])
-    return Certificate(Subject(kind, Proposal(round_, int.from_bytes(served[17:25], "big"), served[25:57])), served[57:])

@@ -4,7 +4,7 @@ from __future__ import annotations
 
 from dataclasses import dataclass, field
 from enum import IntEnum
-from typing import List, Optional, Tuple
+from typing import Any, Callable, List, Optional, Tuple
 
 from ._library import ffi, lib
 from .errors import require
@@ -173,3 +173,23 @@ def context_of(it, leader: int) -> Context:
 
 def member_of(index: int) -> Optional[int]:
     return None if index == lib.SIMPLEX_NOBODY else index
+
+
+def all_bytes(part: Callable[[int], Any]) -> bytes:
+    """All bytes that wait; `part` returns those from a byte on, and none where there are no more."""
+    read = bytearray()
+    while True:
+        chunk = part(len(read))
+        require(chunk.status)
+        if not chunk.count:
+            return bytes(read)
+        read += ffi.buffer(chunk.bytes, chunk.count)
+
+
+def served_of(served: bytes) -> Certificate:
+    """The certificate in bytes that are served: the text of its votes, 17 bytes of a nullification and else 57, and its own bytes after it."""
+    kind = (Kind.NOTARIZATION, Kind.NULLIFICATION, Kind.FINALIZATION)[served[0]]
+    of_round = Round(int.from_bytes(served[1:9], "big"), int.from_bytes(served[9:17], "big"))
+    if kind == Kind.NULLIFICATION:
+        return Certificate(Subject(kind, Proposal(of_round)), served[17:])
+    return Certificate(Subject(kind, Proposal(of_round, int.from_bytes(served[17:25], "big"), served[25:57])), served[57:])

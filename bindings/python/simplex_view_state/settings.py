@@ -6,7 +6,7 @@ import struct
 from dataclasses import dataclass
 from typing import Optional, Tuple, Union
 
-from ._library import lib
+from ._library import ffi, lib
 from .errors import SimplexError, Status
 from .messages import NO_DIGEST, Certificate, Proposal, flat_proposal
 
@@ -63,6 +63,11 @@ class Config:
     def certificate(self) -> bytes:
         """The floor's certificate; no bytes for genesis."""
         return self.floor.bytes if isinstance(self.floor, Certificate) else b""
+
+    def arguments(self) -> tuple:
+        """The settings, the table of leaders and the floor's certificate, as the library's functions take them."""
+        table, certificate = self.table(), self.certificate()
+        return ffi.new("struct simplex_settings *", self.flat()), ffi.new("uint32_t[]", table), len(table), certificate, len(certificate)
 
 
 @dataclass(frozen=True)
