@@ -1,4 +1,4 @@
-//! Serves lines as the repository's `tests/engine_lines` does in Rattle, whose answers these have to be: see there for the lines.
+//! Serves lines as the repository's `tests/programs/engine_lines` does in Rattle, whose answers these have to be: see there for the lines.
 //!
 //!     cargo run --example engine_lines -- N ME T OPTIMISTIC
 

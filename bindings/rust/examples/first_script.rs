@@ -5,11 +5,14 @@
 //!     cargo run --example first_script -- voter N ME T OPTIMISTIC resume   each `restart 0 NOW` by a resume from the journal's bytes
 //!     cargo run --example first_script -- voter N ME T OPTIMISTIC compact  with a journal, in whose place each `prune` puts what is left of the
 //!                                                                          record, and from which the member resumes before a `restart-pruned`
+//!
+//! It serves some lines more than the program, about what a member knows: `known V`, `withheld KIND V`, `shown KIND V` (a certificate), `entries
+//! COUNT` and `scan CUT` (the journal without its last bytes).
 
 use simplex_view_state::{
-    Added, Candidates, Certificate, Config, Context, Cut, Digest, Entries, EntriesError, EntryCount, Epoch, Finalization, Lacking, Member,
-    Moment, Notarization, Nullification, OpenError, Participant, Proposal, ProposalRequest, RecoverError, Refusal, Round, Terms,
-    TimeoutReason, Token, Verify, View, ViewDelta,
+    Added, Candidates, Certificate, CertificateKind, Config, Context, Cut, Digest, Ending, Entries, EntriesError, EntryCount, Epoch,
+    Finalization, Lacking, Member, Moment, Notarization, Nullification, OpenError, Participant, Proposal, ProposalRequest, RecoverError,
+    Refusal, Round, Terms, TimeoutReason, Token, Verify, View, ViewDelta, VoteKind, scan,
 };
 use std::error::Error;
 use std::io::{BufRead, BufReader, Write};
@@ -135,6 +138,12 @@ impl Voter {
             ["restart-pruned", drop, now] => self.restart(number(drop)?, true, moment(now)?),
             ["record"] => Ok(format!("record {}", self.member.stored().entries.get())),
             ["view"] => Ok(self.views()),
+            ["entries", count] => Ok(format!(
+                "entries {}",
+                entries(&self.member.entries_since(EntryCount::new(number(count)?))?)
+            )),
+            ["scan", cut] => self.scanned(number(cut)?),
+            ["known" | "withheld" | "shown", ..] => Ok(self.known(&words)?.unwrap_or_else(refused)),
             _ => match self.call(&words)? {
                 Ok(reply) => Ok(reply),
                 Err(refusal) => Ok(refused(refusal)),
@@ -251,6 +260,55 @@ impl Voter {
         })
     }
 
+    /// Says what the member knows of a view.
+    fn known(&self, words: &[&str]) -> Result<Result<String, Refusal>, Box<dyn Error>> {
+        let member = &self.member;
+        Ok(match *words {
+            ["known", _] if member.is_failed() => Err(Refusal::Failed),
+            ["known", v] => {
+                let v = view(v)?;
+                let leader = member.leader(v).map_or("-".into(), |leader| leader.to_string());
+                let flags = [
+                    member.is_tracked(v),
+                    member.admits_vote(v),
+                    member.admits_certificate(v),
+                    member.voted_nullify(v),
+                ];
+                let flags = flags.iter().map(|flag| format!(" {flag}")).collect::<String>();
+                let forwardable = member.forwardable_proposal(v);
+                let forwardable = forwardable.map_or("-".into(), |it| number_of(it.payload).to_string());
+                Ok(format!("known {leader}{flags} {forwardable}"))
+            }
+            ["withheld", kind, v] => {
+                let kinds = [VoteKind::Notarize, VoteKind::Nullify, VoteKind::Finalize];
+                let withheld = member.withheld(kinds[number(kind)? as usize - 1], view(v)?);
+                withheld.map(|it| format!("withheld {}", it.map_or(0, |it| it as u32 + 1)))
+            }
+            ["shown", kind, v] => {
+                let kinds = [
+                    CertificateKind::Notarization,
+                    CertificateKind::Nullification,
+                    CertificateKind::Finalization,
+                ];
+                let found = member.certificate(kinds[number(kind)? as usize - 1], view(v)?);
+                found.map(|it| it.map_or("none".into(), |it| format!("shown {}", sum_of(it.bytes()))))
+            }
+            _ => return Err(format!("not a question: {}", words.join(" ")).into()),
+        })
+    }
+
+    /// Says where the journal of all entries ends, once its last bytes are cut off.
+    fn scanned(&mut self, cut: u64) -> Result<String, Box<dyn Error>> {
+        let journal = self.member.entries_since(EntryCount::ZERO)?.bytes;
+        let found = scan(&journal[..journal.len().saturating_sub(cut as usize)]);
+        let ending = match found.ending {
+            Ending::Whole => "whole",
+            Ending::Cut => "cut",
+            Ending::Damaged => "broken",
+        };
+        Ok(format!("scan {} {} {ending}", found.entries.get(), found.bytes))
+    }
+
     fn views(&self) -> String {
         match self.member.views() {
             Some(views) => format!("view {} {} {}", views.current, views.last_finalized, views.min_active),
@@ -275,6 +333,22 @@ fn refused(refusal: Refusal) -> String {
         Refusal::NotAllowed => "not-allowed".into(),
         other => format!("{other}"),
     }
+}
+
+/// Says which bytes there are to store, and the numbers of what is stored beside them.
+fn entries(it: &Entries) -> String {
+    let beside = it.stored.to_bytes();
+    let numbers = beside.chunks_exact(8).map(|it| u64::from_be_bytes(it.try_into().expect("8 bytes")));
+    let numbers = numbers.map(|number| format!(" {number}")).collect::<String>();
+    format!("{}{numbers} {}", sum_of(&it.bytes), beside[32] == 1)
+}
+
+/// Says how many bytes there are, and their FNV-1a hash.
+fn sum_of(bytes: &[u8]) -> String {
+    let hash = bytes.iter().fold(0xcbf2_9ce4_8422_2325_u64, |hash, byte| {
+        (hash ^ u64::from(*byte)).wrapping_mul(0x0100_0000_01b3)
+    });
+    format!("{}:{hash}", bytes.len())
 }
 
 fn added(it: Added) -> String {

@@ -1,6 +1,7 @@
 //! Serves the resolver's lines of the repository's program `viewstate` (docs/PROGRAM.md) through this package, and prints the program's
 //! replies. The first line is `replayed`, since a resolver starts here with its replay ended; `produce` tells only whether there is
-//! something to serve, since the program's payloads are shorter.
+//! something to serve, since the program's payloads are shorter. It serves two lines more than the program: `served V`, the bytes that are
+//! served, and `fetches`, how many are outstanding.
 //!
 //!     cargo run --example resolver -- resolver T
 
@@ -55,6 +56,12 @@ fn reply_to(resolver: &mut Resolver, line: &str) -> Result<String, Box<dyn Error
             let views = resolver.outstanding()?;
             return Ok(views.iter().fold("outstanding".to_string(), |text, view| format!("{text} {view}")));
         }
+        ["fetches"] => return Ok(resolver.outstanding()?.len().to_string()),
+        ["served", v] => {
+            return Ok(resolver
+                .produce(view(v)?)?
+                .map_or("none".into(), |it| format!("served {}", sum_of(&it))));
+        }
         ["produce", v] => return Ok(if resolver.produce(view(v)?)?.is_some() { "some" } else { "none" }.into()),
         _ => return Err(format!("not a call: {line}").into()),
     };
@@ -65,6 +72,14 @@ fn reply_to(resolver: &mut Resolver, line: &str) -> Result<String, Box<dyn Error
         Err(Refusal::NotAllowed) => "not-allowed".into(),
         Err(refusal) => return Err(refusal.into()),
     })
+}
+
+/// Says how many bytes there are, and their FNV-1a hash.
+fn sum_of(bytes: &[u8]) -> String {
+    let hash = bytes.iter().fold(0xcbf2_9ce4_8422_2325_u64, |hash, byte| {
+        (hash ^ u64::from(*byte)).wrapping_mul(0x0100_0000_01b3)
+    });
+    format!("{}:{hash}", bytes.len())
 }
 
 fn text(effect: &Effect) -> String {

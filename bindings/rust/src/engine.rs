@@ -271,6 +271,10 @@ impl Engine {
     }
 
     /// Returns a view's certificate of a kind, if the view is tracked and has it. An error changes nothing.
+    ///
+    /// # Errors
+    ///
+    /// [`EngineError::OutOfMemory`] and [`EngineError::Failed`].
     pub fn certificate(&self, kind: CertificateKind, view: View) -> Result<Option<Certificate>, EngineError> {
         // SAFETY: the handle is this engine's.
         let found = unsafe { ffi::simplex_engine_certificate(self.at.as_ptr(), kind.number(), view.get()) };
@@ -279,6 +283,10 @@ impl Engine {
     }
 
     /// Returns the certificate to serve to a peer that asks for the view: one that leads past it, if there is one. An error changes nothing.
+    ///
+    /// # Errors
+    ///
+    /// [`EngineError::OutOfMemory`] and [`EngineError::Failed`].
     pub fn serve(&self, view: View) -> Result<Option<Certificate>, EngineError> {
         // SAFETY: the handle is this engine's.
         let served = unsafe { ffi::simplex_engine_serve(self.at.as_ptr(), view.get()) };

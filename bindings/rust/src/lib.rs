@@ -63,6 +63,7 @@
 //! ```
 
 #![deny(missing_docs)]
+#![warn(clippy::missing_errors_doc)]
 
 mod build_info;
 mod engine;

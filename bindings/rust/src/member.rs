@@ -120,6 +120,10 @@ unsafe impl Send for Member {}
 
 impl Member {
     /// Starts a member that never voted. One that voted must [`Member::resume`], or it could vote twice in a view.
+    ///
+    /// # Errors
+    ///
+    /// [`OpenError::Settings`] where the settings are refused, [`OpenError::Recover`] where the floor is, and [`OpenError::OutOfMemory`].
     pub fn start(config: &Config, now: Moment) -> Result<Member, OpenError> {
         let Flat {
             settings,
@@ -144,6 +148,11 @@ impl Member {
 
     /// Resumes a member from its journal: the bytes that [`Member::entries_since`] returned, in that order, and what was last stored
     /// beside them.
+    ///
+    /// # Errors
+    ///
+    /// Those of [`start`](Member::start). [`OpenError::EntriesLost`], [`OpenError::Damaged`] and [`OpenError::NoEntry`] say what is wrong
+    /// with the journal, and [`OpenError::Recover`] with its record: such a member must not resume.
     pub fn resume(config: &Config, now: Moment, stored: &Stored, journal: &[u8]) -> Result<Member, OpenError> {
         let Flat {
             settings,
@@ -182,6 +191,10 @@ impl Member {
     ///
     /// If settings are refused, or with `RetentionGrown`, nothing has changed. After another error the record is cut and the member has
     /// failed: store [`Member::entries_since`] of no entries in place of the journal.
+    ///
+    /// # Errors
+    ///
+    /// Those of [`start`](Member::start), and [`OpenError::Recover`] where the record is refused under these settings.
     pub fn restart(&mut self, config: &Config, now: Moment, cut: Cut) -> Result<(), OpenError> {
         let Flat {
             settings,
@@ -248,12 +261,20 @@ impl Member {
     }
 
     /// Passes a notarization that the host made or received, and verified.
+    ///
+    /// # Errors
+    ///
+    /// [`Refusal::NotAllowed`] where it is of another epoch, of genesis, or of a view that is not retained, and each other [`Refusal`].
     pub fn add_notarization(&mut self, it: &Notarization) -> Answer<Added> {
         let call = of_proposal(kind::ADD_NOTARIZATION, &it.proposal);
         Ok(added(&self.make(&call, &it.certificate)?))
     }
 
     /// Passes a nullification that the host made or received, and verified. Returns whether it is new.
+    ///
+    /// # Errors
+    ///
+    /// [`Refusal::NotAllowed`] where it is of another epoch, of genesis, or of a view that is not retained, and each other [`Refusal`].
     pub fn add_nullification(&mut self, it: &Nullification, now: Moment) -> Answer<bool> {
         let call = ffi::Call {
             kind: kind::ADD_NULLIFICATION,
@@ -265,6 +286,10 @@ impl Member {
     }
 
     /// Passes a finalization that the host made or received, and verified.
+    ///
+    /// # Errors
+    ///
+    /// [`Refusal::NotAllowed`] where it is of another epoch, of genesis, or of a view that is not retained, and each other [`Refusal`].
     pub fn add_finalization(&mut self, it: &Finalization, now: Moment) -> Answer<Added> {
         let call = ffi::Call {
             moment: now.as_millis(),
@@ -274,6 +299,10 @@ impl Member {
     }
 
     /// Passes a proposal of its view's leader. Returns whether it must be verified.
+    ///
+    /// # Errors
+    ///
+    /// [`Refusal::NotAllowed`] where it is of another epoch or of a view that is not retained, and each other [`Refusal`].
     pub fn set_proposal(&mut self, proposal: &Proposal) -> Answer<bool> {
         let call = ffi::Call {
             view: proposal.view().get(),
@@ -283,6 +312,10 @@ impl Member {
     }
 
     /// Returns the next block to build, if there is one.
+    ///
+    /// # Errors
+    ///
+    /// A [`Refusal`], which says what it leaves.
     pub fn try_propose(&mut self) -> Answer<Option<ProposalRequest>> {
         let reply = self.plain(kind::TRY_PROPOSE)?;
         let context = Context::of(&reply.context, reply.member);
@@ -294,6 +327,10 @@ impl Member {
     }
 
     /// Passes the payload that was built on request in the view. Returns whether it is accepted.
+    ///
+    /// # Errors
+    ///
+    /// [`Refusal::NotAllowed`] where no request to build is open in the view, and each other [`Refusal`].
     pub fn proposed(&mut self, view: View, payload: Digest, now: Moment) -> Answer<bool> {
         let call = ffi::Call {
             kind: kind::PROPOSED,
@@ -309,22 +346,38 @@ impl Member {
     }
 
     /// Returns whether the request to build in the view is superseded; then ask again, for another parent.
+    ///
+    /// # Errors
+    ///
+    /// [`Refusal::NotAllowed`] where no request to build is open in the view, and each other [`Refusal`].
     pub fn supersede_proposal_request(&mut self, view: View) -> Answer<bool> {
         Ok(self.of_view(kind::SUPERSEDE_PROPOSAL_REQUEST, view)?.flag != 0)
     }
 
     /// Returns why the handoff that is built in the view must be abandoned, if it must.
+    ///
+    /// # Errors
+    ///
+    /// [`Refusal::NotAllowed`] where no request to build is open in the view, and each other [`Refusal`].
     pub fn pending_handoff_abandonment(&mut self, view: View) -> Answer<Option<HandoffAbandonedReason>> {
         let reply = self.of_view(kind::PENDING_HANDOFF_ABANDONMENT, view)?;
         Ok((reply.has != 0).then(|| HandoffAbandonedReason::of(reply.reason)))
     }
 
     /// Abandons the request to build in the view. Returns whether one was open.
+    ///
+    /// # Errors
+    ///
+    /// A [`Refusal`], which says what it leaves.
     pub fn release_proposal_request(&mut self, view: View) -> Answer<bool> {
         Ok(self.of_view(kind::RELEASE_PROPOSAL_REQUEST, view)?.flag != 0)
     }
 
     /// Returns the next proposal to verify, or the certificate that is missing before one can be verified.
+    ///
+    /// # Errors
+    ///
+    /// A [`Refusal`], which says what it leaves.
     pub fn try_verify(&mut self) -> Answer<Verify> {
         let reply = self.plain(kind::TRY_VERIFY)?;
         Ok(match reply.has {
@@ -340,17 +393,29 @@ impl Member {
     }
 
     /// Reports the view's proposal as valid. Returns whether it is marked so: not if it or its parent changed since it was returned.
+    ///
+    /// # Errors
+    ///
+    /// [`Refusal::NotAllowed`] where no verification is open in the view, and each other [`Refusal`].
     pub fn verified(&mut self, view: View) -> Answer<bool> {
         Ok(self.of_view(kind::VERIFIED, view)?.flag != 0)
     }
 
     /// Reports the view's proposal as invalid, or as one that could not be verified.
+    ///
+    /// # Errors
+    ///
+    /// [`Refusal::NotAllowed`] where no verification is open in the view, and each other [`Refusal`].
     pub fn verification_failed(&mut self, view: View, reason: TimeoutReason, now: Moment) -> Answer<()> {
         self.make(&timed(kind::VERIFICATION_FAILED, view, reason, now), &[])?;
         Ok(())
     }
 
     /// Returns the proposals to certify, and the notarizations to fetch for other members.
+    ///
+    /// # Errors
+    ///
+    /// A [`Refusal`], which says what it leaves.
     pub fn certify_candidates(&mut self) -> Answer<Candidates> {
         self.plain(kind::CERTIFY_CANDIDATES)?;
         Ok(Candidates {
@@ -363,6 +428,10 @@ impl Member {
     }
 
     /// Notes the host's token for the certification of the view's proposal.
+    ///
+    /// # Errors
+    ///
+    /// [`Refusal::NotAllowed`] where the view's proposal was not offered, or has its verdict, and each other [`Refusal`].
     pub fn set_certify_handle(&mut self, view: View, token: Token) -> Answer<()> {
         let call = ffi::Call {
             kind: kind::SET_CERTIFY_HANDLE,
@@ -375,6 +444,10 @@ impl Member {
     }
 
     /// Passes the application's verdict on the view's proposal. Returns the notarization that was judged, if the view is tracked.
+    ///
+    /// # Errors
+    ///
+    /// A [`Refusal`], which says what it leaves.
     pub fn certified(&mut self, view: View, is_success: bool, now: Moment) -> Answer<Option<Notarization>> {
         let call = ffi::Call {
             kind: kind::CERTIFIED,
@@ -391,6 +464,10 @@ impl Member {
     }
 
     /// Returns this member's vote to notarize the view's proposal, if its rule allows the vote.
+    ///
+    /// # Errors
+    ///
+    /// A [`Refusal`], which says what it leaves.
     pub fn construct_notarize(&mut self, view: View) -> Answer<Option<Notarize>> {
         let reply = self.of_view(kind::CONSTRUCT_NOTARIZE, view)?;
         Ok((reply.has != 0).then(|| Notarize {
@@ -401,6 +478,10 @@ impl Member {
     }
 
     /// Returns this member's vote to nullify the view, if its rule allows the vote. The reason has no effect.
+    ///
+    /// # Errors
+    ///
+    /// A [`Refusal`], which says what it leaves.
     pub fn construct_nullify(&mut self, view: View, reason: TimeoutReason) -> Answer<Option<Nullify>> {
         let reply = self.make(&timed(kind::CONSTRUCT_NULLIFY, view, reason, Moment::default()), &[])?;
         Ok((reply.has != 0).then(|| Nullify {
@@ -412,6 +493,10 @@ impl Member {
     }
 
     /// Returns this member's vote to finalize the view's proposal, if its rule allows the vote.
+    ///
+    /// # Errors
+    ///
+    /// A [`Refusal`], which says what it leaves.
     pub fn construct_finalize(&mut self, view: View) -> Answer<Option<Finalize>> {
         let reply = self.of_view(kind::CONSTRUCT_FINALIZE, view)?;
         Ok((reply.has != 0).then(|| Finalize {
@@ -422,35 +507,59 @@ impl Member {
     }
 
     /// Returns the view's notarization for broadcast, once.
+    ///
+    /// # Errors
+    ///
+    /// A [`Refusal`], which says what it leaves.
     pub fn broadcast_notarization(&mut self, view: View) -> Answer<Option<Certificate>> {
         let reply = self.of_view(kind::BROADCAST_NOTARIZATION, view)?;
         Ok(self.certificate_in(reply.has, &reply.proposal, ffi::OF_REPLY))
     }
 
     /// Returns the view's nullification for broadcast, once.
+    ///
+    /// # Errors
+    ///
+    /// A [`Refusal`], which says what it leaves.
     pub fn broadcast_nullification(&mut self, view: View) -> Answer<Option<Certificate>> {
         let reply = self.of_view(kind::BROADCAST_NULLIFICATION, view)?;
         Ok(self.certificate_in(reply.has, &reply.proposal, ffi::OF_REPLY))
     }
 
     /// Returns the view's finalization for broadcast, once.
+    ///
+    /// # Errors
+    ///
+    /// A [`Refusal`], which says what it leaves.
     pub fn broadcast_finalization(&mut self, view: View) -> Answer<Option<Certificate>> {
         let reply = self.of_view(kind::BROADCAST_FINALIZATION, view)?;
         Ok(self.certificate_in(reply.has, &reply.proposal, ffi::OF_REPLY))
     }
 
     /// Returns the certificate that lets other members enter the current view.
+    ///
+    /// # Errors
+    ///
+    /// A [`Refusal`], which says what it leaves.
     pub fn get_best_certificate(&mut self) -> Answer<Option<Certificate>> {
         let reply = self.plain(kind::GET_BEST_CERTIFICATE)?;
         Ok(self.certificate_in(reply.has, &reply.proposal, ffi::OF_REPLY))
     }
 
     /// Times the view out for a reason that the member does not see by itself. Returns whether that timeout counts from now on.
+    ///
+    /// # Errors
+    ///
+    /// A [`Refusal`], which says what it leaves.
     pub fn trigger_timeout(&mut self, view: View, reason: TimeoutReason, now: Moment) -> Answer<bool> {
         Ok(self.make(&timed(kind::TRIGGER_TIMEOUT, view, reason, now), &[])?.flag != 0)
     }
 
     /// Returns the next timeout of the current view. Once it has come, the member votes to nullify the view.
+    ///
+    /// # Errors
+    ///
+    /// A [`Refusal`], which says what it leaves.
     pub fn next_timeout(&mut self, now: Moment) -> Answer<Timeout> {
         let call = ffi::Call {
             kind: kind::NEXT_TIMEOUT,
@@ -465,12 +574,20 @@ impl Member {
     }
 
     /// Drops the views that are no longer retained, and returns them, lowest first. The record stays: [`Member::prune_record`].
+    ///
+    /// # Errors
+    ///
+    /// A [`Refusal`], which says what it leaves.
     pub fn prune(&mut self) -> Answer<Vec<View>> {
         self.plain(kind::PRUNE)?;
         Ok(self.items(ffi::DROPPED, |item| View::new(item.view)))
     }
 
     /// Returns the record's entries after its first ones, to be stored before a vote is sent. A member that has failed returns them too.
+    ///
+    /// # Errors
+    ///
+    /// [`EntriesError`]: the record is unchanged.
     pub fn entries_since(&mut self, count: EntryCount) -> Result<Entries, EntriesError> {
         // SAFETY: the handle is this member's.
         let shown = unsafe { ffi::simplex_member_entries(self.at.as_ptr(), count.0) };
@@ -482,7 +599,9 @@ impl Member {
     /// `stored`, in one step. From then on [`Member::entries_since`] counts from the shorter record. The lifetime continues. It also
     /// works for a member that has failed.
     ///
-    /// After an error the record is pruned but not returned: ask for [`Member::entries_since`] of [`EntryCount::ZERO`].
+    /// # Errors
+    ///
+    /// [`EntriesError`]: the record is pruned but not returned. Ask for [`Member::entries_since`] of [`EntryCount::ZERO`].
     ///
     /// ```
     /// use simplex_view_state::{Config, Digest, EntryCount, Epoch, Finalization, Member, Moment, Participant, Proposal, Round, View};
@@ -573,6 +692,10 @@ impl Member {
 
     /// Returns why this member withholds its vote of a kind on a view; `None` exactly where [`Member::construct_notarize`],
     /// [`Member::construct_nullify`] or [`Member::construct_finalize`] returns one. It changes nothing.
+    ///
+    /// # Errors
+    ///
+    /// [`Refusal::Failed`].
     pub fn withheld(&self, kind: VoteKind, view: View) -> Answer<Option<Withheld>> {
         // SAFETY: the handle is this member's.
         let shown = unsafe { ffi::simplex_member_withheld(self.at.as_ptr(), kind.number(), view.get()) };
@@ -589,6 +712,10 @@ impl Member {
     }
 
     /// Returns a view's certificate of a kind, if the view is tracked and has it.
+    ///
+    /// # Errors
+    ///
+    /// [`Refusal::OutOfMemory`] and [`Refusal::Failed`].
     pub fn certificate(&self, kind: CertificateKind, view: View) -> Answer<Option<Certificate>> {
         // SAFETY: the handle is this member's.
         let found = unsafe { ffi::simplex_member_certificate(self.at.as_ptr(), kind.number(), view.get()) };

@@ -1,5 +1,6 @@
 //! Views, epochs, members, digests and moments.
 
+use crate::journal::EntryCount;
 use std::fmt;
 use std::num::ParseIntError;
 use std::str::FromStr;
@@ -36,7 +37,7 @@ macro_rules! is_number {
     )+};
 }
 
-is_number!(View: u64, ViewDelta: u64, Epoch: u64, Participant: u32, Token: u64);
+is_number!(View: u64, ViewDelta: u64, Epoch: u64, EntryCount: u64, Participant: u32, Token: u64);
 
 /// A view: one attempt to agree on a block. 0 is genesis.
 #[derive(Clone, Copy, PartialEq, Eq, PartialOrd, Ord, Hash, Debug, Default)]

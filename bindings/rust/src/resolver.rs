@@ -69,6 +69,10 @@ unsafe impl Send for Resolver {}
 
 impl Resolver {
     /// Starts a resolver from a member's whole journal, with its first fetches outstanding ([`Resolver::outstanding`]).
+    ///
+    /// # Errors
+    ///
+    /// [`OpenError::Damaged`], [`OpenError::NoEntry`] and [`OpenError::EntriesLost`] where the bytes are no journal, and [`OpenError::OutOfMemory`].
     pub fn start(term_length: NonZeroU32, journal: &[u8]) -> Result<Resolver, OpenError> {
         if ffi::simplex_version() != ffi::VERSION {
             return Err(OpenError::OtherVersion);
@@ -117,7 +121,12 @@ impl Resolver {
         })
     }
 
-    /// Passes a certificate that the member newly added. `NotAllowed` for one of genesis. After `OutOfMemory` the resolver has failed: start another.
+    /// Passes a certificate that the member newly added.
+    ///
+    /// # Errors
+    ///
+    /// [`Refusal::NotAllowed`] for one of genesis. After [`Refusal::OutOfMemory`] the resolver has failed: start another. After each other
+    /// [`Refusal`] it received nothing.
     pub fn updated(&mut self, certificate: &Certificate) -> Answer<Vec<Effect>> {
         let (kind, proposal) = certificate.subject().flat();
         self.tell(
@@ -131,6 +140,10 @@ impl Resolver {
     }
 
     /// Passes a verdict on a notarization, as [`Member::certified`](crate::Member::certified) returns it.
+    ///
+    /// # Errors
+    ///
+    /// As of [`updated`](Resolver::updated).
     pub fn certified(&mut self, notarization: &Notarization, is_success: bool) -> Answer<Vec<Effect>> {
         let told = ffi::Told {
             kind: 4,
@@ -156,6 +169,10 @@ impl Resolver {
     }
 
     /// Returns the views whose fetch is outstanding, lowest first.
+    ///
+    /// # Errors
+    ///
+    /// [`Refusal::OutOfMemory`].
     pub fn outstanding(&mut self) -> Answer<Vec<View>> {
         // SAFETY: the handle is this resolver's.
         let shown = unsafe { ffi::simplex_resolver_outstanding(self.at.as_ptr()) };
@@ -190,6 +207,10 @@ impl Resolver {
 
     /// Returns what a peer that asks for the view is served: the text of the certificate's votes ([`Subject::encode`](crate::Subject::encode)),
     /// then the certificate's bytes.
+    ///
+    /// # Errors
+    ///
+    /// [`Refusal::OutOfMemory`] and [`Refusal::Failed`].
     pub fn produce(&mut self, view: View) -> Answer<Option<Vec<u8>>> {
         // SAFETY: the handle is this resolver's.
         let served = unsafe { ffi::simplex_resolver_produce(self.at.as_ptr(), view.get()) };

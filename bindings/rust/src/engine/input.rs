@@ -106,6 +106,31 @@ impl Input {
     }
 }
 
+impl Proposal {
+    /// Returns the input that says whether this proposal of an [`Output::Verify`](crate::Output::Verify) is valid.
+    pub const fn verified(&self, is_valid: bool) -> Input {
+        Input::Verified {
+            view: self.view(),
+            is_valid,
+        }
+    }
+
+    /// Returns the input that says whether this proposal of an [`Output::Certify`](crate::Output::Certify) may be built on.
+    pub const fn certified(&self, is_success: bool) -> Input {
+        Input::Certified {
+            view: self.view(),
+            is_success,
+        }
+    }
+}
+
+impl Context {
+    /// Returns the input that says which payload was built for an [`Output::Build`](crate::Output::Build) of this context.
+    pub const fn built(&self, payload: Digest) -> Input {
+        Input::Built { context: *self, payload }
+    }
+}
+
 fn of_kind(kind: u32) -> ffi::Input {
     ffi::Input {
         kind,
