@@ -18,6 +18,17 @@ pub struct Tail {
     pub payload: Digest,
 }
 
+impl Tail {
+    /// The end of a chain without blocks, behind which the first one comes.
+    pub fn genesis(payload: Digest) -> Tail {
+        Tail {
+            height: 0,
+            view: View::GENESIS,
+            payload,
+        }
+    }
+}
+
 /// A final block in its place.
 #[derive(Clone, Debug)]
 pub struct Entry<B> {

@@ -50,6 +50,8 @@
 //! 4. While there is a [`FinalChain::hole`], ask for that block; where many are missing, ask for ranges of several peers at once
 //!    ([`CatchUp`]).
 //!
+//! A host that has its blocks in memory leaves 2 and 3 to [`Delivery`].
+//!
 //! # What it promises
 //!
 //! - Blocks are returned in the order of the chain, each on the one before, from the tail on, each once.
@@ -62,9 +64,11 @@
 #![warn(missing_docs)]
 
 mod catch_up;
+mod delivery;
 mod final_chain;
 
 pub use catch_up::{Ask, CatchUp};
+pub use delivery::Delivery;
 pub use final_chain::{Entry, FinalChain, Fork, Tail};
 
 use simplex_view_state::{Digest, View};

@@ -3,8 +3,8 @@
 mod common;
 
 use common::{Block, GENESIS, certificate, chain, chain_behind, proposal};
-use simplex_chain::{Entry, FinalChain};
-use simplex_view_state::Digest;
+use simplex_chain::{Delivery, Entry, FinalChain, Fork};
+use simplex_view_state::{Digest, View};
 use std::collections::HashMap;
 
 fn heights(entries: &[Entry<Block>]) -> Vec<(u64, u64, bool)> {
@@ -73,4 +73,22 @@ fn fetched_blocks_that_are_not_of_the_chain_are_dropped_with_their_views() {
     assert_eq!((it.take(&store).len(), it.fetched_bytes()), (3, 100));
     it.add(certificate(&made[3]), vec![made[3].clone()], &store).expect("no fork");
     assert_eq!((it.take(&store).len(), it.fetched_bytes()), (1, 0));
+}
+
+#[test]
+fn a_delivery_returns_each_final_block_once_and_forgets_those_below() {
+    let made = chain(&[1, 3, 4, 9]);
+    let mut it = Delivery::new(GENESIS);
+    let views = |blocks: Result<Vec<Block>, Fork>| blocks.expect("no fork").iter().map(|it| it.view.get()).collect::<Vec<_>>();
+    assert_eq!(views(it.insert(made[0].clone())), [0; 0], "it is not final yet");
+    assert_eq!(views(it.finalize(&proposal(&made[2]))), [0; 0], "its ancestors are missing");
+    assert_eq!(views(it.insert(made[2].clone())), [0; 0], "another one is missing");
+    assert_eq!(it.hole(), Some((made[1].view, made[1].digest)));
+    assert_eq!(views(it.insert(made[1].clone())), [1, 3, 4]);
+    assert_eq!(views(it.insert(made[1].clone())), [0; 0], "it comes once");
+    assert_eq!(views(it.insert(made[3].clone())), [0; 0]);
+    it.forget(View::new(10));
+    let left: Vec<bool> = made.iter().map(|block| it.get(&block.digest).is_some()).collect();
+    assert_eq!(left, [false, false, false, true]);
+    assert_eq!(views(it.finalize(&proposal(&made[3]))), [9]);
 }

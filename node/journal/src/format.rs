@@ -3,7 +3,7 @@
 use crate::error::Cause;
 use sha2::{Digest as _, Sha256};
 use simplex_identity::{self as identity, Identity};
-use simplex_view_state::{Entries, Stored};
+use simplex_view_state::{Config, Engine, Entries, Moment, OpenError, Options, Stored};
 use std::io;
 
 const NAME: &[u8; 8] = b"simplexj";
@@ -34,6 +34,19 @@ pub struct Recovered {
     pub frames: Vec<u8>,
     /// How many bytes of a torn tail are left out.
     pub cut: usize,
+}
+
+/// Starts the engine of a member whose journal is new, or resumes it from what its journal held, at moment 0 of this process's clock.
+///
+/// # Errors
+///
+/// Where the settings or the entries are refused.
+pub fn engine(recovered: Option<&Recovered>, config: &Config, options: &Options) -> Result<Engine, OpenError> {
+    let now = Moment::from_millis(0);
+    match recovered {
+        Some(it) => Engine::resume(config, options, now, &it.stored, &it.frames),
+        None => Engine::start(config, options, now),
+    }
 }
 
 /// A whole piece.

@@ -7,7 +7,7 @@
 //! ```
 //! use simplex_identity::{Identity, members_digest};
 //! use simplex_journal::Journal;
-//! use simplex_view_state::{Config, Digest, Engine, Epoch, Moment, Options, Output, Participant};
+//! use simplex_view_state::{Config, Digest, Epoch, Moment, Options, Output, Participant};
 //!
 //! # let folder = std::env::temp_dir().join(format!("simplex-journal-example-{}", std::process::id()));
 //! # let _ = std::fs::remove_dir_all(&folder);
@@ -17,10 +17,7 @@
 //! let (options, now) = (Options::default(), Moment::from_millis(0));
 //!
 //! let (mut journal, recovered) = Journal::open(&folder, &me, true)?;   // takes the folder for this process alone
-//! let mut engine = match recovered {
-//!     Some(it) => Engine::resume(&config, &options, now, &it.stored, &it.frames)?,
-//!     None => Engine::start(&config, &options, now)?,
-//! };
+//! let mut engine = simplex_journal::engine(recovered.as_ref(), &config, &options)?;
 //! while let Some(output) = engine.poll(now)? {
 //!     match output {
 //!         Output::Replace(entries) => journal.replace(&entries)?,      // an engine's first output, and when its record got long
@@ -96,5 +93,5 @@ mod journal;
 mod scratch;
 
 pub use error::{Cause, JournalError, NEW_KEY};
-pub use format::{HEAD, Recovered, VERSION, parse};
+pub use format::{HEAD, Recovered, VERSION, engine, parse};
 pub use journal::{Journal, path, read};

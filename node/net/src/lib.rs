@@ -60,6 +60,7 @@
 //!   and two seconds for the whole greeting.
 //! - **Bounds in bytes.** What waits for a member has at most 8 MiB, and a frame that does not fit is dropped. A member that sends more than
 //!   16 MB or 5,000 frames a second, or takes more than half a processor to verify, is read slower.
+//! - **A turn for each member.** An [`Inbox`] has a bounded queue for each member, from which one thread takes in turn.
 //! - **Silence ends a link.** Heartbeats go both ways; a link that is silent for [`SILENCE`] is begun anew, with the name resolved again.
 //! - **Forgers** ([`Connection::verify`] says `PermissionDenied`) are refused for a second, which doubles up to a minute.
 //!
@@ -72,6 +73,7 @@ mod accept;
 mod address;
 mod budget;
 mod greeting;
+mod inbox;
 mod link;
 mod members;
 mod outgoing;
@@ -84,6 +86,7 @@ mod watch;
 pub use address::Address;
 pub use budget::Bucket;
 pub use greeting::Greeting;
+pub use inbox::{Inbox, Put};
 pub use link::HEARTBEAT;
 pub use members::Members;
 pub use peers::{Peers, Places};

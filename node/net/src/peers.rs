@@ -9,6 +9,7 @@ use crate::receive::Receiver;
 use crate::session::Credentials;
 use crate::watch::Watch;
 use simplex_view_state::Participant;
+use simplex_wire::Message;
 use std::io;
 use std::net::TcpListener;
 use std::sync::{Arc, Mutex};
@@ -27,6 +28,17 @@ pub struct Places {
     pub members: Vec<Address>,
     /// How long each frame is held back before it leaves: in a trial of slow links; 0 else.
     pub delay: Duration,
+}
+
+impl Places {
+    /// The places of a member that listens where the others dial it, with nothing held back; `None` where it is none of them.
+    pub fn of(me: Participant, members: Vec<Address>) -> Option<Places> {
+        Some(Places {
+            listen: members.get(me.get() as usize)?.clone(),
+            members,
+            delay: Duration::ZERO,
+        })
+    }
 }
 
 /// Another member: what waits for it, and what it may still be served.
@@ -87,6 +99,17 @@ impl Peers {
         {
             self.watch.dropped(to);
         }
+    }
+
+    /// Sends a message to a member, as [`Peers::send`] does.
+    pub fn send_message(&self, to: Participant, message: &Message) {
+        self.send(to, Arc::new(message.frame()));
+    }
+
+    /// Sends a message to each other member, as [`Peers::send`] does.
+    pub fn broadcast(&self, message: &Message) {
+        let frame = Arc::new(message.frame());
+        (0..self.peers.len() as u32).for_each(|to| self.send(Participant::new(to), frame.clone()));
     }
 
     /// Sends a frame that a member asked for, within what it may be served. Returns whether that was left.

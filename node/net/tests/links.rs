@@ -207,6 +207,29 @@ fn a_stranger_and_a_member_with_other_settings_are_refused() {
     );
 }
 
+/// Member 1, which is played, has other settings: member 0 dials it again, more and more rarely.
+#[test]
+fn who_is_refused_knocks_about_once_a_second() {
+    let network = Network::new();
+    let other = network.credentials(1, &[SETTINGS[0], ("epoch", "2")]);
+    let listener = TcpListener::bind(&network.places[1]).expect("a free address");
+    let _running = network.begin(0);
+    let (mut knocked, mut begun) = (0, None::<Instant>);
+    listener.set_nonblocking(true).expect("a listener");
+    while begun.is_none_or(|it| it.elapsed() < Duration::from_secs(5)) {
+        match listener.accept() {
+            Ok((stream, _)) => {
+                begun.get_or_insert_with(Instant::now);
+                knocked += 1;
+                stream.set_nonblocking(false).expect("a connection");
+                assert!(other.accept(stream).is_err(), "its settings differ");
+            }
+            Err(_) => sleep(Duration::from_millis(5)),
+        }
+    }
+    assert!((3..=16).contains(&knocked), "{knocked} times in five seconds");
+}
+
 #[test]
 fn the_newest_connection_of_a_member_counts() {
     let network = Network::new();

@@ -1,6 +1,7 @@
 //! What members of a Simplex network send each other, as bytes.
 //!
-//! A [`Message`] is a vote, a proposal with its block, a certificate, a block, a range of final blocks, or a request for one of them. A
+//! A [`Message`] is a vote, a proposal with its block, a certificate, a block, a range of final blocks, a snapshot of an application's state
+//! in pieces, or a request for one of them. A
 //! [`Block`] has a head that names its view and its parent, and content of the application. Messages go in frames, over any stream of bytes.
 //!
 //! ```
@@ -49,6 +50,11 @@
 //! | 7 | [`Message::AskRange`] | two views |
 //! | 8 | [`Message::Range`] | the view, the certificate as in 3 behind its length in four bytes, and each block behind its length |
 //! | 9 | [`Message::NoRange`] | two views |
+//! | 10 | [`Message::AskSnapshot`] | |
+//! | 11 | [`Message::Snapshot`] | the manifest behind its length in four bytes, and the rest as in 8 |
+//! | 12, 13, 14 | [`Message::AskPiece`], [`Message::Piece`], [`Message::NoPiece`] | the digest, the index in four bytes, and the piece in 13 |
+//!
+//! The manifest of a snapshot is its height, view, block and length, and the digests of its pieces.
 //!
 //! A block is its view, its parent's view, its parent's digest (32 bytes), when it was built in microseconds since 1970, and its content.
 //! Its digest is SHA-256 of all these.
@@ -60,7 +66,9 @@ mod block;
 mod frame;
 mod message;
 mod read;
+mod snapshot;
 
 pub use block::{Block, digest, now_us};
 pub use frame::{HEARTBEAT_FRAME, LONGEST, read_frame, read_message};
 pub use message::{LONGEST_BLOCK, LONGEST_RANGE, LONGEST_SIGNATURE, Malformed, Message, Range, VERSION};
+pub use snapshot::{MOST_PIECES, Manifest, PIECE};

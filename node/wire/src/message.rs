@@ -2,13 +2,15 @@
 
 use crate::block::{Block, digest};
 use crate::read;
+use crate::snapshot::Manifest;
 use simplex_view_state::{Certificate, Digest, FetchKind, View, Vote};
 use std::fmt;
 
 /// The version of all messages. Greetings say it, so members of two versions refuse each other.
 /// From 2 on certificates are as the library makes them of votes; from 3 on both sides of a link send heartbeats; from 4 on
-/// all that is signed begins with the network's name, and links are encrypted by TLS 1.3; from 5 on signatures have any length.
-pub const VERSION: u8 = 5;
+/// all that is signed begins with the network's name, and links are encrypted by TLS 1.3; from 5 on signatures have any length; from 6 on
+/// there are snapshots.
+pub const VERSION: u8 = 6;
 
 /// The longest block.
 pub const LONGEST_BLOCK: usize = (1 << 20) - 256;
@@ -52,6 +54,16 @@ pub enum Message {
     NoRange(View, View),
     /// A block.
     Block(Vec<u8>),
+    /// A snapshot of the application's state is asked for.
+    AskSnapshot,
+    /// A snapshot is offered: its manifest, and final blocks of which the last one in the list, the lowest, binds it.
+    Snapshot(Manifest, Range),
+    /// A piece of the snapshot whose manifest has this digest is asked for, by its index.
+    AskPiece(Digest, u32),
+    /// A piece of a snapshot.
+    Piece(Digest, u32, Vec<u8>),
+    /// The piece is not here.
+    NoPiece(Digest, u32),
 }
 
 /// Final blocks, each on the one before, up to one whose finalization comes with them.
@@ -79,6 +91,14 @@ impl Range {
 }
 
 impl Message {
+    /// A member's vote, as a proposal where it has its block beside it: that of a leader's vote to notarize its own proposal.
+    pub fn of_vote(vote: Vote, block: Option<&Block>) -> Message {
+        match block {
+            Some(block) => Message::Proposal(vote, block.bytes().to_vec()),
+            None => Message::Vote(vote),
+        }
+    }
+
     /// Its bytes in a frame: their number in four bytes, and they. A signature that is longer than [`LONGEST_SIGNATURE`] is cut, so no
     /// member takes it.
     pub fn frame(&self) -> Vec<u8> {
@@ -100,27 +120,28 @@ impl Message {
                 out.push(2);
                 write_vote(out, vote);
             }
-            Message::Certificate(it) => {
-                out.push(3);
-                out.extend_from_slice(&it.subject().encode());
-                out.extend_from_slice(it.bytes());
-            }
-            Message::AskCertificate(kind, view) => {
-                out.extend_from_slice(&[4, number_of(*kind)]);
-                out.extend_from_slice(&view.get().to_be_bytes());
-            }
-            Message::AskBlock(view, payload) => {
-                out.push(5);
-                out.extend_from_slice(&view.get().to_be_bytes());
-                out.extend_from_slice(payload.bytes());
-            }
+            Message::Certificate(it) => out.extend([&[3][..], &it.subject().encode(), it.bytes()].concat()),
+            Message::AskCertificate(kind, view) => out.extend([&[4, number_of(*kind)][..], &view.get().to_be_bytes()].concat()),
+            Message::AskBlock(view, payload) => out.extend([&[5][..], &view.get().to_be_bytes(), payload.bytes()].concat()),
             Message::Block(block) => {
                 out.push(6);
                 out.extend_from_slice(block);
             }
             Message::AskRange(after, upto) => write_views(out, 7, *after, *upto),
-            Message::Range(it) => write_range(out, it),
+            Message::Range(it) => {
+                out.push(8);
+                write_range(out, it);
+            }
             Message::NoRange(after, first) => write_views(out, 9, *after, *first),
+            Message::AskSnapshot => out.push(10),
+            Message::Snapshot(manifest, range) => {
+                out.push(11);
+                write_long(out, &manifest.encode());
+                write_range(out, range);
+            }
+            Message::AskPiece(snapshot, index) => write_piece(out, 12, snapshot, *index, &[]),
+            Message::Piece(snapshot, index, bytes) => write_piece(out, 13, snapshot, *index, bytes),
+            Message::NoPiece(snapshot, index) => write_piece(out, 14, snapshot, *index, &[]),
         }
     }
 
@@ -150,10 +171,16 @@ fn write_views(out: &mut Vec<u8>, tag: u8, first: View, second: View) {
 
 /// The view, the certificate behind its length, and the blocks, each behind its length.
 fn write_range(out: &mut Vec<u8>, it: &Range) {
-    out.push(8);
     out.extend_from_slice(&it.after.get().to_be_bytes());
     write_long(out, &[&it.certificate.subject().encode()[..], it.certificate.bytes()].concat());
     it.blocks.iter().for_each(|block| write_long(out, block.bytes()));
+}
+
+fn write_piece(out: &mut Vec<u8>, tag: u8, snapshot: &Digest, index: u32, bytes: &[u8]) {
+    out.push(tag);
+    out.extend_from_slice(snapshot.bytes());
+    out.extend_from_slice(&index.to_be_bytes());
+    out.extend_from_slice(bytes);
 }
 
 fn write_long(out: &mut Vec<u8>, bytes: &[u8]) {

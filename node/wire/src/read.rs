@@ -2,6 +2,7 @@
 
 use crate::block::Block;
 use crate::message::{LONGEST_SIGNATURE, Message, Range};
+use crate::snapshot::Manifest;
 use simplex_view_state::{Certificate, Digest, FetchKind, Participant, Subject, View, Vote};
 
 /// The message that bytes are, if they are one.
@@ -22,6 +23,18 @@ pub(crate) fn message(bytes: &[u8]) -> Option<Message> {
         7 => views(rest).map(|(after, upto)| Message::AskRange(after, upto)),
         8 => range(rest).map(Message::Range),
         9 => views(rest).map(|(after, first)| Message::NoRange(after, first)),
+        10 => rest.is_empty().then_some(Message::AskSnapshot),
+        11 => {
+            let (manifest, rest) = split_long(rest)?;
+            Some(Message::Snapshot(Manifest::decode(manifest).ok()?, range(rest)?))
+        }
+        12 => piece(rest)
+            .filter(|it| it.2.is_empty())
+            .map(|(snapshot, index, _)| Message::AskPiece(snapshot, index)),
+        13 => piece(rest).map(|(snapshot, index, bytes)| Message::Piece(snapshot, index, bytes.to_vec())),
+        14 => piece(rest)
+            .filter(|it| it.2.is_empty())
+            .map(|(snapshot, index, _)| Message::NoPiece(snapshot, index)),
         _ => None,
     }
 }
@@ -51,6 +64,12 @@ fn views(bytes: &[u8]) -> Option<(View, View)> {
 fn split_long(bytes: &[u8]) -> Option<(&[u8], &[u8])> {
     let (length, rest) = bytes.split_first_chunk::<4>()?;
     rest.split_at_checked(u32::from_be_bytes(*length) as usize)
+}
+
+fn piece(bytes: &[u8]) -> Option<(Digest, u32, &[u8])> {
+    let (snapshot, rest) = bytes.split_first_chunk::<32>()?;
+    let (index, rest) = rest.split_first_chunk::<4>()?;
+    Some((Digest::new(*snapshot), u32::from_be_bytes(*index), rest))
 }
 
 fn range(bytes: &[u8]) -> Option<Range> {

@@ -1,7 +1,9 @@
 //! What is written is read, and other bytes are refused.
 
 use simplex_view_state::{Certificate, Context, Digest, Epoch, FetchKind, Participant, Proposal, Round, Subject, View, Vote};
-use simplex_wire::{Block, LONGEST, LONGEST_BLOCK, LONGEST_SIGNATURE, Message, Range, digest, read_frame, read_message};
+use simplex_wire::{
+    Block, LONGEST, LONGEST_BLOCK, LONGEST_SIGNATURE, MOST_PIECES, Manifest, Message, PIECE, Range, digest, read_frame, read_message,
+};
 
 fn messages() -> Vec<Message> {
     let round = Round {
@@ -24,6 +26,10 @@ fn messages() -> Vec<Message> {
         Message::NoRange(View::new(8), View::GENESIS),
         Message::AskBlock(View::new(8), proposal.payload),
         Message::Block(vec![1, 2]),
+        Message::AskSnapshot,
+        Message::AskPiece(proposal.payload, 7),
+        Message::Piece(proposal.payload, 7, vec![1, 2]),
+        Message::NoPiece(proposal.payload, 7),
     ];
     all.push(Message::Proposal(vote(subjects[0]), vec![7; 100]));
     all.extend(subjects.map(|it| Message::Vote(vote(it))));
@@ -95,6 +101,24 @@ fn a_range_that_is_written_is_read_and_one_with_another_block_is_not_linked() {
 }
 
 #[test]
+fn a_snapshot_of_the_most_pieces_and_the_longest_piece_are_messages() {
+    let manifest = Manifest {
+        height: 1,
+        view: View::new(1),
+        payload: Digest::default(),
+        length: (MOST_PIECES * PIECE) as u64,
+        pieces: vec![Digest::default(); MOST_PIECES],
+    };
+    let offer = Message::Snapshot(manifest, range(1));
+    let piece = Message::Piece(Digest::default(), 0, vec![0; PIECE]);
+    for message in [offer, piece] {
+        let frame = message.frame();
+        assert!(frame.len() - 4 <= LONGEST);
+        assert_eq!(Message::decode(&frame[4..]), Ok(message));
+    }
+}
+
+#[test]
 fn a_proposal_of_the_longest_block_is_a_message() {
     let proposals = messages().into_iter().filter_map(|it| match it {
         Message::Proposal(vote, _) => Some(vote),
@@ -109,7 +133,12 @@ fn a_proposal_of_the_longest_block_is_a_message() {
 
 #[test]
 fn a_beginning_of_a_message_of_one_length_is_refused() {
-    let is_of_one_length = |it: &Message| !matches!(it, Message::Proposal(..) | Message::Certificate(_) | Message::Block(_));
+    let is_of_one_length = |it: &Message| {
+        !matches!(
+            it,
+            Message::Proposal(..) | Message::Certificate(_) | Message::Block(_) | Message::Piece(..)
+        )
+    };
     for message in messages().into_iter().filter(is_of_one_length) {
         let frame = message.frame();
         assert!(Message::decode(&frame[4..frame.len() - 1]).is_err(), "{message:?}");
@@ -200,6 +229,8 @@ fn mutate(bytes: &mut Vec<u8>, other: &[u8], random: &mut Random) {
 fn changed_messages_are_refused_or_read_as_what_they_say() {
     let mut samples: Vec<Vec<u8>> = messages().iter().map(|it| it.frame()[4..].to_vec()).collect();
     samples.extend((1..4).map(|blocks| Message::Range(range(blocks)).frame()[4..].to_vec()));
+    let manifest = |bytes: &[u8]| Manifest::of(9, View::new(9), digest(b"a block"), bytes).expect("few pieces");
+    samples.extend([0, 1].map(|bytes| Message::Snapshot(manifest(&vec![7; bytes * PIECE + 1]), range(2)).frame()[4..].to_vec()));
     let (mut random, mut read, count) = (Random(7), 0, 200_000);
     for _ in 0..count {
         let mut bytes = samples[random.below(samples.len())].clone();

@@ -1,0 +1,111 @@
+//! The keys of one member.
+
+use crate::public::PublicKeys;
+use openssl::pkey::{Id, PKey, Private};
+use openssl::sign::Signer;
+use simplex_identity::{Identity, NetworkName, hex, members_digest};
+use simplex_net::{Credentials, Greeting, Members};
+use simplex_view_state::{Config, Epoch, Participant};
+use simplex_wire::VERSION;
+use std::io;
+use std::num::NonZeroU32;
+
+/// Returns the public key of a secret one.
+///
+/// # Errors
+///
+/// Where OpenSSL has no ed25519, or no memory.
+pub fn public_key(secret: &[u8; 32]) -> io::Result<[u8; 32]> {
+    let raw = PKey::private_key_from_raw_bytes(secret, Id::ED25519)?.raw_public_key()?;
+    raw.try_into().map_err(|_| io::Error::other("an ed25519 key has 32 bytes"))
+}
+
+/// The keys of all members, with the secret one of this member.
+pub struct Keys {
+    me: Participant,
+    secret: PKey<Private>,
+    raw: Vec<[u8; 32]>,
+    public: PublicKeys,
+}
+
+impl Keys {
+    /// The keys of a network's member.
+    ///
+    /// # Errors
+    ///
+    /// Where a key is none, or the secret key is not that of the member.
+    pub fn new(network: NetworkName, me: Participant, secret: &[u8; 32], public: &[[u8; 32]]) -> io::Result<Keys> {
+        if public.get(me.get() as usize) != Some(&public_key(secret)?) {
+            let said = format!("the secret key is not that of member {me}: name its own");
+            return Err(io::Error::new(io::ErrorKind::InvalidInput, said));
+        }
+        Ok(Keys {
+            me,
+            secret: PKey::private_key_from_raw_bytes(secret, Id::ED25519)?,
+            raw: public.to_vec(),
+            public: PublicKeys::new(network, public)?,
+        })
+    }
+
+    /// Returns which member this is.
+    pub fn me(&self) -> Participant {
+        self.me
+    }
+
+    /// Returns the keys of all members.
+    pub fn public(&self) -> &PublicKeys {
+        &self.public
+    }
+
+    /// Returns this member's signature on a text, behind the network's name.
+    ///
+    /// # Errors
+    ///
+    /// Where OpenSSL refuses.
+    pub fn sign(&self, text: &[u8]) -> io::Result<Vec<u8>> {
+        Ok(Signer::new_without_digest(&self.secret)?.sign_oneshot_to_vec(&self.public.network().signed(text))?)
+    }
+
+    /// Returns who this member is in an epoch: whose journal it is, and which genesis it has.
+    pub fn identity(&self, epoch: u64, term_length: u32) -> Identity {
+        Identity {
+            network: self.public.network().clone(),
+            key: self.raw[self.me.get() as usize],
+            epoch,
+            term_length,
+            members: members_digest(&self.raw),
+        }
+    }
+
+    /// Returns the settings of this member in an epoch: members lead in turn, and the chain begins at the identity's genesis.
+    ///
+    /// # Errors
+    ///
+    /// Where the identity's term has no view.
+    pub fn config(&self, identity: &Identity) -> io::Result<Config> {
+        let none = |what| io::Error::new(io::ErrorKind::InvalidInput, what);
+        let members = u32::try_from(self.raw.len())
+            .ok()
+            .and_then(NonZeroU32::new)
+            .ok_or_else(|| none("no members"))?;
+        let mut config = Config::new(members, Some(self.me), Epoch::new(identity.epoch), identity.genesis());
+        config.terms.length = NonZeroU32::new(identity.term_length).ok_or_else(|| none("a term has no view"))?;
+        Ok(config)
+    }
+
+    /// Returns the credentials of its links, whose greeting says what members must share: the version of messages and the identity.
+    ///
+    /// # Errors
+    ///
+    /// Where OpenSSL refuses a key.
+    pub fn credentials(&self, identity: &Identity) -> io::Result<Credentials> {
+        let greeting = Greeting::new(&[
+            ("version of messages", &VERSION.to_string()),
+            ("network", &identity.network.to_string()),
+            ("epoch", &identity.epoch.to_string()),
+            ("term_length", &identity.term_length.to_string()),
+            ("members", &hex(identity.members.bytes())),
+        ]);
+        Credentials::new(Members::new(self.me, self.secret.clone(), &self.raw)?, greeting)
+    }
+}
