@@ -2,10 +2,11 @@
 //!
 //! The application has a thread of its own ([`worker`]): it takes as long as it needs, and holds up neither the engine nor the disk.
 
+pub mod requests;
 pub mod worker;
 
 use simplex_view_state::{Context, Digest, View};
-use simplex_wire::Block;
+use simplex_wire::{Block, Manifest};
 use std::io;
 use std::sync::Arc;
 use std::sync::atomic::{AtomicBool, Ordering::Relaxed};
@@ -39,7 +40,8 @@ pub trait Application: Send + 'static {
     /// What a block holds that this node builds in a context; `None` where it is cancelled, or has nothing to propose.
     fn build(&mut self, context: &Context, cancelled: &Cancelled) -> Option<Vec<u8>>;
 
-    /// Whether a block may be voted for: what it holds is good behind its parent. `None` where it is cancelled.
+    /// Whether a block may be voted for: what it holds is good behind its parent. `None` where it is cancelled, or the application can't tell
+    /// yet: this node does not vote for the block then.
     fn verify(&mut self, block: &Block, cancelled: &Cancelled) -> Option<bool>;
 
     /// Whether a notarized block may be built on. It is asked in all nodes, also in those that did not vote for it. `None` where it is
@@ -66,4 +68,47 @@ pub trait Application: Send + 'static {
     ///
     /// Where the disk refuses: the process ends.
     fn durable(&mut self) -> io::Result<u64>;
+
+    /// The digest of the snapshot that a block binds ([`Manifest::digest`]); `None` where it binds none. It depends on the block alone.
+    ///
+    /// A snapshot is the application's state after some final block, as bytes that are the same in all honest nodes. Now and then a leader
+    /// builds a block that binds one, and [`verify`](Application::verify) refuses a block that binds another one than this node's own. So a
+    /// node that was away for long, or is new, can take the state of anybody: a finalized block vouches for it. An application without
+    /// snapshots leaves this method and the next three as they are.
+    fn bound(&self, block: &Block) -> Option<Digest> {
+        let _ = block;
+        None
+    }
+
+    /// The manifest of the snapshot that a final block binds; `None` where it is not here any more.
+    ///
+    /// # Errors
+    ///
+    /// Where the disk refuses: it is logged, and no peer is served.
+    fn manifest(&mut self, bound: &Digest) -> io::Result<Option<Manifest>> {
+        let _ = bound;
+        Ok(None)
+    }
+
+    /// A piece of that snapshot; `None` where it is not here any more. The last two snapshots that were bound have to be here.
+    ///
+    /// # Errors
+    ///
+    /// As of [`manifest`](Application::manifest).
+    fn piece(&mut self, bound: &Digest, index: u32) -> io::Result<Option<Vec<u8>>> {
+        let _ = (bound, index);
+        Ok(None)
+    }
+
+    /// Takes a snapshot in place of the state that it has, which is of an earlier block. All of `bytes` were verified. Where the process ends
+    /// meanwhile, the next one finds the old state or the new one. After it [`last`](Application::last) and
+    /// [`height`](Application::height) are those of the manifest.
+    ///
+    /// # Errors
+    ///
+    /// Where the disk refuses, or the bytes are no state: the process ends.
+    fn restore(&mut self, manifest: &Manifest, bytes: &mut dyn io::Read) -> io::Result<()> {
+        let _ = (manifest, bytes);
+        Err(io::Error::other("this application takes no snapshot: leave `state_sync` away"))
+    }
 }

@@ -4,6 +4,7 @@
 //! finalization and that, and the block. Each batch that is appended ends with a block whose finalization is here: so a peer can verify what
 //! it is sent. It is pruned by whole segments, and never beyond what the application has on the disk.
 
+mod asks;
 pub mod keeper;
 
 use crate::chain::{Entry, Tail};
@@ -14,8 +15,8 @@ use std::collections::{BTreeMap, HashMap};
 use std::io;
 use std::path::{Path, PathBuf};
 
-/// Each how many records of a segment the place of one is remembered.
-const STRIDE: u64 = 64;
+/// After how many records of a segment, or bytes, the place of another one is remembered: a look-up reads no more than that.
+const STRIDE: (u64, u64) = (64, 1 << 20);
 
 /// The folder of a node's archive.
 pub fn path(folder: &Path) -> PathBuf {
@@ -156,10 +157,8 @@ impl Archive {
             let (segment, at) = self.segments.append(entry.height, &record(entry))?;
             let view = entry.block.view;
             self.firsts.entry(segment).or_insert((view, entry.block.parent.0));
-            if (entry.height - segment).is_multiple_of(STRIDE)
-                && let Some(places) = self.places.get_mut(&segment)
-            {
-                places.push((view, at));
+            if let Some(places) = self.places.get_mut(&segment) {
+                remember(places, entry.height - segment, view, at);
             } else if entry.height == segment {
                 self.places.insert(segment, vec![(view, at)]);
             }
@@ -210,9 +209,7 @@ impl Archive {
         if !self.places.contains_key(&segment) {
             let (mut places, mut count) = (Places::new(), 0_u64);
             self.segments.each_from(segment, HEAD, |at, body| {
-                if count.is_multiple_of(STRIDE) {
-                    places.push((parse(body)?.block.view, at));
-                }
+                remember(&mut places, count, parse(body)?.block.view, at);
                 count += 1;
                 Ok(true)
             })?;
@@ -287,6 +284,18 @@ impl Archive {
         }))
     }
 
+    /// Tells the blocks of the last segments, so many at most, in order.
+    pub fn each_of_last(&self, segments: usize, mut each: impl FnMut(&Block)) -> io::Result<()> {
+        let numbers = self.numbers();
+        for number in &numbers[numbers.len().saturating_sub(segments)..] {
+            self.segments.each_from(*number, HEAD, |_, body| {
+                each(&parse(body)?.block);
+                Ok(true)
+            })?;
+        }
+        Ok(())
+    }
+
     /// The block of a view and digest.
     pub fn block(&mut self, view: View, payload: Digest) -> io::Result<Option<Block>> {
         let mut found = None;
@@ -296,6 +305,14 @@ impl Archive {
             Ok(false)
         })?;
         Ok(found)
+    }
+}
+
+/// Remembers the place of a record, where it is far from the last one that is remembered.
+fn remember(places: &mut Places, count: u64, view: View, at: u64) {
+    let is_far = |(_, last): &(View, u64)| at - last >= STRIDE.1;
+    if count.is_multiple_of(STRIDE.0) || places.last().is_none_or(is_far) {
+        places.push((view, at));
     }
 }
 

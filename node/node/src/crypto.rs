@@ -3,9 +3,9 @@
 use crate::settings::{Outcome, Settings};
 use crate::signer::guard::Owner;
 use crate::signer::{Local, Remote, Signer};
-use openssl::pkey::{Id, PKey, Private, Public};
-use openssl::sign::Verifier;
+use openssl::pkey::{Id, PKey, Private};
 use simplex_identity::NetworkName;
+use simplex_keys::PublicKeys;
 use simplex_net::Members;
 use simplex_view_state::{Certificate, Participant, Subject, Vote};
 use std::fs;
@@ -15,13 +15,12 @@ use std::path::Path;
 use std::sync::atomic::{AtomicU64, Ordering::Relaxed};
 
 pub use simplex_identity::hex;
+pub use simplex_keys::SIGNATURE;
 
-/// How long a signature is.
-pub const SIGNATURE: usize = 64;
 /// A signature.
 pub type Signature = [u8; SIGNATURE];
 
-/// The keys of all members, with the secret one of this node. All that is signed begins with the network's name.
+/// The keys of all members, with the secret one of this node. Each vote is signed behind the network's name.
 pub struct Keys {
     network: NetworkName,
     /// Which member this node is.
@@ -29,7 +28,9 @@ pub struct Keys {
     /// The key of this node's links, and that of its votes too where no other process signs them.
     secret: PKey<Private>,
     signer: Box<dyn Signer>,
-    public: Vec<PKey<Public>>,
+    /// Whether the signer is the host's own: its signatures are verified before they leave.
+    is_hosts: bool,
+    public: PublicKeys,
     /// The public keys of the members' links.
     links: Vec<[u8; 32]>,
     /// How many signatures were verified.
@@ -39,8 +40,13 @@ pub struct Keys {
 impl Keys {
     /// The keys that the settings name. The secret one has to be that of the member, or of its links where a signer has the other.
     pub fn read(settings: &Settings) -> Outcome<Keys> {
+        Keys::read_with(settings, None)
+    }
+
+    /// The same, where the host has a signer of its own.
+    pub(crate) fn read_with(settings: &Settings, hosts: Option<Box<dyn Signer>>) -> Outcome<Keys> {
         let secret = read_secret(&settings.key)?;
-        let public = settings.members.iter().map(|it| public_key(&it.key)).collect::<Outcome<Vec<_>>>()?;
+        let public = settings.members.iter().map(|it| raw_key(&it.key)).collect::<Outcome<Vec<_>>>()?;
         let links = settings
             .members
             .iter()
@@ -63,9 +69,10 @@ impl Keys {
         Ok(Keys {
             network: settings.network.clone(),
             me: settings.me(),
-            signer: signer(settings, &secret)?,
+            is_hosts: hosts.is_some(),
+            signer: signer(settings, &secret, hosts)?,
             secret,
-            public,
+            public: PublicKeys::new(settings.network.clone(), &public)?,
             links,
             verified: AtomicU64::new(0),
         })
@@ -78,12 +85,20 @@ impl Keys {
 
     /// How many votes make a certificate: all members but a third of them, rounded down.
     pub fn quorum(&self) -> usize {
-        self.public.len() - (self.public.len() - 1) / 3
+        self.public.quorum()
     }
 
     /// This member's signature on a vote, whose text is this.
     pub fn sign_vote(&self, subject: &Subject, text: &[u8]) -> Outcome<Signature> {
-        self.signer.sign(subject, text)
+        let signature = self.signer.sign(subject, text)?;
+        if self.is_hosts && !self.is_good(self.me, text, &signature) {
+            return Err(format!(
+                "the host's signer signed a vote by another key than that of member {}, or without the network's name before its text:                  `NetworkName::signed` makes what is to be signed",
+                self.me.get()
+            )
+            .into());
+        }
+        Ok(signature)
     }
 
     /// This node's signature on a text, which is signed behind the network's name: by its own key, which a signer's votes are not under.
@@ -93,13 +108,12 @@ impl Keys {
 
     /// Whether a member of this network signed a text.
     pub fn is_signed(&self, by: Participant, text: &[u8], signature: &[u8]) -> bool {
-        let Some(key) = self.public.get(by.get() as usize) else {
-            return false;
-        };
         self.verified.fetch_add(1, Relaxed);
-        signature.len() == SIGNATURE
-            && Verifier::new_without_digest(key)
-                .is_ok_and(|mut it| it.verify_oneshot(signature, &self.network.signed(text)).unwrap_or(false))
+        self.is_good(by, text, signature)
+    }
+
+    fn is_good(&self, by: Participant, text: &[u8], signature: &[u8]) -> bool {
+        self.public.is_signed(by, text, signature)
     }
 
     /// How many signatures were verified, good ones and others.
@@ -115,16 +129,7 @@ impl Keys {
     /// The votes in a certificate, whose signatures are not verified yet. `None` where it is none that an engine makes: its bytes are
     /// signatures on its subject, of just as many different members as it takes, by rising index.
     pub fn votes_in(&self, it: &Certificate) -> Option<Vec<Vote>> {
-        let (subject, signed) = (it.subject(), it.signatures()?);
-        let is_quorum = signed.len() == self.quorum() && signed.iter().all(|(_, it)| it.len() == SIGNATURE);
-        is_quorum.then(|| {
-            let vote = |(signer, signature): (Participant, &[u8])| Vote {
-                subject,
-                signer,
-                signature: signature.to_vec(),
-            };
-            signed.into_iter().map(vote).collect()
-        })
+        self.public.votes_in(it)
     }
 
     /// Whether a certificate is one that an engine makes of good votes.
@@ -134,10 +139,33 @@ impl Keys {
     }
 }
 
-/// Who signs the votes of this member.
-fn signer(settings: &Settings, secret: &PKey<Private>) -> Outcome<Box<dyn Signer>> {
-    let Some(socket) = &settings.signer else {
-        return Ok(Box::new(Local::new(settings.network.clone(), secret.clone())));
+/// Whether the owner of a public key, in hexadecimal digits, signed a text in a network.
+pub fn is_signed_by(network: &NetworkName, key: &str, text: &[u8], signature: &[u8]) -> bool {
+    let keys = raw_key(key).ok().and_then(|key| PublicKeys::new(network.clone(), &[key]).ok());
+    keys.is_some_and(|keys| keys.is_signed(Participant::new(0), text, signature))
+}
+
+/// Who signs the votes of this member: the host's own signer, the process that the settings name, or this process.
+fn signer(settings: &Settings, secret: &PKey<Private>, hosts: Option<Box<dyn Signer>>) -> Outcome<Box<dyn Signer>> {
+    let has_link = settings.members[settings.index as usize].link.is_some();
+    let socket = match (hosts, &settings.signer) {
+        (Some(_), Some(socket)) => {
+            return Err(format!(
+                "the host signs itself, and `signer` names {}: leave one of them away",
+                socket.display()
+            )
+            .into());
+        }
+        (Some(signer), None) => return Ok(signer),
+        (None, Some(socket)) => socket,
+        (None, None) if has_link => {
+            return Err(format!(
+                "member {} has a `link` key, so another one signs its votes: name its process as `signer`, or leave `link` away",
+                settings.index
+            )
+            .into());
+        }
+        (None, None) => return Ok(Box::new(Local::new(settings.network.clone(), secret.clone()))),
     };
     let owner = Owner {
         network: settings.network.clone(),
@@ -162,10 +190,6 @@ pub(crate) fn read_secret(path: &Path) -> Outcome<PKey<Private>> {
         return Err(named(&"this is no ed25519 key: make one by `simplex-node keygen`").into());
     }
     Ok(secret)
-}
-
-fn public_key(hex: &str) -> Outcome<PKey<Public>> {
-    Ok(PKey::public_key_from_raw_bytes(&raw_key(hex)?, Id::ED25519)?)
 }
 
 /// The bytes of a public key in hexadecimal digits; other text is an error.
@@ -231,23 +255,20 @@ mod tests {
     /// The keys of each of so many members.
     fn members(count: u32) -> Vec<Keys> {
         let secret: Vec<_> = (0..count).map(|_| PKey::generate_ed25519().expect("a key")).collect();
-        let public_of = |it: &PKey<Private>| PKey::public_key_from_raw_bytes(&it.raw_public_key().expect("32 bytes"), Id::ED25519);
+        let name = || NetworkName::try_from("test".to_owned()).expect("a name");
+        let public_of = |it: &PKey<Private>| it.raw_public_key().expect("a key").try_into().expect("32 bytes");
+        let public: Vec<[u8; 32]> = secret.iter().map(public_of).collect();
         let keys_of = |(index, secret): (u32, &PKey<Private>)| Keys {
-            network: NetworkName::try_from("test".to_owned()).expect("a name"),
+            network: name(),
             me: Participant::new(index),
             secret: secret.clone(),
-            signer: Box::new(Local::new(
-                NetworkName::try_from("test".to_owned()).expect("a name"),
-                secret.clone(),
-            )),
-            public: Vec::new(),
+            signer: Box::new(Local::new(name(), secret.clone())),
+            public: PublicKeys::new(name(), &public).expect("keys"),
             links: Vec::new(),
+            is_hosts: false,
             verified: AtomicU64::new(0),
         };
-        let mut all: Vec<Keys> = (0..).zip(&secret).map(keys_of).collect();
-        all.iter_mut()
-            .for_each(|it| it.public = secret.iter().map(|secret| public_of(secret).expect("a public key")).collect());
-        all
+        (0..).zip(&secret).map(keys_of).collect()
     }
 
     fn nullify(view: u64) -> Subject {

@@ -1,18 +1,24 @@
 //! A sample application: a ledger of blocks that hold some numbers, and a file with a line for each block of the finalized chain.
+//!
+//! It has snapshots ([`snapshots`]), which blocks bind, for nodes that were away for long or are new.
+
+mod restoring;
+pub mod snapshots;
 
 use crate::application::{Application, Cancelled};
 use crate::named::named;
-use crate::settings::Outcome;
+use crate::settings::{Outcome, Settings};
 use crate::start::Start;
 use simplex_view_state::{Context, Digest, View};
-use simplex_wire::{Block, digest, now_us};
+use simplex_wire::{Block, Manifest, digest, now_us};
+use snapshots::{BOND, Bond, Snapshots};
 use std::fs::{self, File, OpenOptions};
 use std::io::{self, Read, Seek, SeekFrom, Write};
 use std::path::{Path, PathBuf};
 use std::thread::sleep;
 use std::time::{Duration, Instant};
 
-/// How many bytes a block holds.
+/// How many bytes a block holds, where nothing else is said.
 const CONTENT: usize = 256;
 
 /// How long a line of the chain is at most, in bytes.
@@ -29,6 +35,17 @@ pub struct Link {
     pub taken_us: u64,
     /// How long it took from its building until it was taken here, in microseconds.
     pub latency_us: u64,
+}
+
+impl Link {
+    /// The block's view and digest.
+    ///
+    /// # Errors
+    ///
+    /// Where the digest is none.
+    pub fn block(&self) -> io::Result<(View, Digest)> {
+        Ok((View::new(self.view), parse_digest(&self.payload)?))
+    }
 }
 
 /// The file of a folder's chain.
@@ -89,27 +106,76 @@ fn read_link(line: &str) -> Option<Link> {
     })
 }
 
+/// How a ledger is run: the same for all members, but for a trial's times.
+#[derive(Clone, Copy, Debug)]
+pub struct Options {
+    /// After how many blocks there is another snapshot; 0 makes none.
+    pub snapshot_blocks: u64,
+    /// How many bytes a block holds, beside a snapshot that it binds.
+    pub block_bytes: usize,
+    /// How long each answer takes, in a trial.
+    pub works_for: Duration,
+}
+
+impl Default for Options {
+    fn default() -> Options {
+        Options {
+            snapshot_blocks: 0,
+            block_bytes: CONTENT,
+            works_for: Duration::ZERO,
+        }
+    }
+}
+
+impl Options {
+    /// Those of a node's settings.
+    pub fn of(settings: &Settings) -> Options {
+        Options {
+            snapshot_blocks: settings.protocol.snapshot_blocks,
+            block_bytes: settings.trial.block_bytes.unwrap_or(CONTENT),
+            works_for: Duration::from_millis(settings.trial.application_ms),
+        }
+    }
+
+    /// What a block binds that is of the form of one.
+    fn bond_of(&self, block: &Block) -> Option<Bond> {
+        Bond::parse(block.content().get(self.block_bytes..)?)
+    }
+
+    fn is_of_form(&self, block: &Block) -> bool {
+        [self.block_bytes, self.block_bytes + BOND].contains(&block.content().len())
+    }
+}
+
 /// The ledger of a node.
 pub struct Ledger {
+    folder: PathBuf,
     path: PathBuf,
     file: File,
     last: (View, Digest),
     height: u64,
     salt: u64,
-    /// How long each answer takes, in a trial.
-    works_for: Duration,
+    options: Options,
+    /// None where the chain begins at a floor: others have more blocks before it.
+    snapshots: Option<Snapshots>,
+}
+
+/// The file that says that a folder's chain begins at a floor.
+fn floor_path(folder: &Path) -> PathBuf {
+    folder.join("chain.floor")
 }
 
 impl Ledger {
-    /// Goes on from the chain that a node's folder has, or from the block where the node starts. In a trial each answer takes so long.
-    pub fn open(start: &Start, works_for: Duration) -> Outcome<Ledger> {
+    /// Goes on from the chain that a node's folder has, or from the block where the node starts.
+    pub fn open(start: &Start, options: Options) -> Outcome<Ledger> {
         let folder = &start.folder;
         let chain = read_chain(folder)?;
-        let last = chain.last().map_or(Ok(start.block), |link| {
-            Ok::<_, io::Error>((View::new(link.view), parse_digest(&link.payload)?))
-        })?;
         let path = path(folder);
         let is_new = !path.exists();
+        if is_new && start.block.0 > View::GENESIS {
+            File::create(floor_path(folder)).map_err(named(folder))?;
+        }
+        let last = chain.last().map_or(Ok(start.block), Link::block)?;
         let file = OpenOptions::new().create(true).append(true).open(&path).map_err(named(&path))?;
         let whole: usize = chain.iter().map(|link| written(link).len()).sum();
         file.set_len(whole as u64).map_err(named(&path))?;
@@ -117,21 +183,25 @@ impl Ledger {
             // Its name is on the disk before any of its lines counts.
             File::open(folder).and_then(|it| it.sync_all()).map_err(named(folder))?;
         }
-        let height = chain.len() as u64;
+        let is_whole = !floor_path(folder).exists();
         Ok(Ledger {
+            snapshots: is_whole
+                .then(|| Snapshots::open(folder, options.snapshot_blocks, &chain))
+                .transpose()?,
+            folder: folder.clone(),
             path,
             file,
             last,
-            height,
+            height: chain.len() as u64,
             salt: u64::from(start.me.get()) << 32,
-            works_for,
+            options,
         })
     }
 
     /// Takes its time; `None` where it is cancelled meanwhile.
     fn works(&self, cancelled: &Cancelled) -> Option<()> {
         let begun = Instant::now();
-        while begun.elapsed() < self.works_for {
+        while begun.elapsed() < self.options.works_for {
             if cancelled.is_cancelled() {
                 return None;
             }
@@ -158,22 +228,29 @@ impl Application for Ledger {
     fn build(&mut self, context: &Context, cancelled: &Cancelled) -> Option<Vec<u8>> {
         self.works(cancelled)?;
         self.salt = self.salt.wrapping_add(1);
-        let mut content = Vec::with_capacity(CONTENT);
-        for place in 0..CONTENT / 32 {
+        let mut content = Vec::with_capacity(self.options.block_bytes + 32);
+        for place in 0..self.options.block_bytes.div_ceil(32) {
             let seed = [self.salt, place as u64, context.round.view.get()].map(u64::to_be_bytes);
             content.extend_from_slice(digest(seed.as_flattened()).bytes());
         }
+        content.truncate(self.options.block_bytes);
+        let bond = self.snapshots.as_ref().and_then(Snapshots::bond);
+        content.extend(bond.iter().flat_map(Bond::bytes));
         Some(content)
     }
 
     fn verify(&mut self, block: &Block, cancelled: &Cancelled) -> Option<bool> {
         self.works(cancelled)?;
-        Some(block.content().len() == CONTENT)
+        match self.options.bond_of(block) {
+            Some(bond) => self.snapshots.as_ref()?.is_own(&bond),
+            None => Some(self.options.is_of_form(block)),
+        }
     }
 
+    /// (More than f members have compared the bond of a block that is notarized.)
     fn certify(&mut self, block: &Block, cancelled: &Cancelled) -> Option<bool> {
         self.works(cancelled)?;
-        Some(block.content().len() == CONTENT)
+        Some(self.options.is_of_form(block))
     }
 
     fn finalized(&mut self, block: &Block) -> io::Result<()> {
@@ -187,6 +264,10 @@ impl Application for Ledger {
         self.file.write_all(written(&link).as_bytes()).map_err(named(&self.path))?;
         self.last = (block.view, block.payload());
         self.height += 1;
+        if let Some(snapshots) = &mut self.snapshots {
+            snapshots.push(block.view, block.payload())?;
+            self.options.bond_of(block).iter().for_each(|it| snapshots.bind(it));
+        }
         Ok(())
     }
 
@@ -201,5 +282,21 @@ impl Application for Ledger {
     fn durable(&mut self) -> io::Result<u64> {
         self.file.sync_data().map_err(named(&self.path))?;
         Ok(self.height)
+    }
+
+    fn bound(&self, block: &Block) -> Option<Digest> {
+        self.options.bond_of(block).map(|it| it.digest)
+    }
+
+    fn manifest(&mut self, bound: &Digest) -> io::Result<Option<Manifest>> {
+        Ok(self.snapshots.as_ref().and_then(|it| it.find(bound)).cloned())
+    }
+
+    fn piece(&mut self, bound: &Digest, index: u32) -> io::Result<Option<Vec<u8>>> {
+        self.snapshots.as_ref().map_or(Ok(None), |it| it.piece(bound, index))
+    }
+
+    fn restore(&mut self, manifest: &Manifest, bytes: &mut dyn Read) -> io::Result<()> {
+        self.take_snapshot(manifest, bytes)
     }
 }

@@ -35,14 +35,16 @@
 //! }
 //! ```
 //!
-//! `examples/thirty_lines.rs` is that program, and [`ledger`] an application with a file of its own, which the program `simplex-node` runs.
+//! `examples/thirty_lines.rs` is that program, `examples/ledger_http` takes transactions over HTTP and shows balances, and [`ledger`] is an
+//! application with a file of its own, which the program `simplex-node` runs.
 //! [`network`] runs networks of processes, for tests of yours too.
 //!
 //! # A part a module, or a crate
 //!
 //! The journal is `simplex_journal`, messages and blocks are `simplex_wire`, delivery is `simplex_chain`, and who a member is
 //! `simplex_identity`: take them alone where you write your own node. Here [`crypto`] signs and verifies, [`peers`] sends and receives,
-//! [`blocks`] and [`archive`] keep blocks, [`application`] says what is asked of one, and [`replica`] is the one thread that owns the engine.
+//! [`blocks`] and [`archive`] keep blocks, [`state_sync`] takes the application's state of peers, [`application`] says what is asked of one, and
+//! [`replica`] is the one thread that owns the engine.
 
 #![forbid(unsafe_code)]
 #![deny(missing_docs)]
@@ -55,6 +57,7 @@ pub mod chain;
 pub mod clock;
 pub mod crypto;
 pub mod events;
+pub mod evidence;
 pub mod faults;
 pub mod floor;
 pub mod inbox;
@@ -69,14 +72,18 @@ pub mod picture;
 pub mod replica;
 pub mod run_folder;
 pub mod segments;
+pub mod set_aside;
 pub mod settings;
 pub mod signer;
 pub mod start;
+pub mod state_sync;
 pub mod trace;
 pub mod version;
 pub mod vote;
 pub mod waiting;
 
 pub use application::{Application, Cancelled};
+pub use crypto::Signature;
 pub use settings::{Outcome, Settings};
-pub use start::{Start, open, run};
+pub use signer::Signer;
+pub use start::{Start, open, open_with_signer, run, run_with_signer};

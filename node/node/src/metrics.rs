@@ -110,6 +110,12 @@ counters! {
     archive_first: "gauge",
     /// Ranges of final blocks that peers were asked for.
     ranges: "counter",
+    /// Snapshots of the application's state that were taken of peers.
+    state_syncs: "counter",
+    /// Pieces of snapshots that came and were good.
+    snapshot_pieces: "counter",
+    /// Pieces of snapshots that came and were not good.
+    wrong_pieces: "counter",
     /// Votes to notarize that were sent.
     notarizes: "counter",
     /// Votes to nullify that were sent, repeats among them.
@@ -140,7 +146,7 @@ counters! {
     served: "counter",
     /// Fetches that are open.
     open_fetches: "gauge",
-    /// Inputs that were of no use to the engine.
+    /// Inputs that the engine ignored.
     ignored_inputs: "counter",
     /// Times that the disk was waited for.
     syncs: "counter",

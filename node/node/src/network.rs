@@ -68,16 +68,18 @@ impl Network {
             listen: None,
             metrics: Some(addresses[2 * index as usize + 1]),
             sync: plan.sync,
+            has_journal: false,
             trace: Some(PathBuf::from(format!("{index}.votes"))),
             events: None,
             floor: None,
+            state_sync: None,
             archive: Archived::default(),
             protocol: plan.protocol.clone(),
             trial: Trial {
                 fault: plan.faults.iter().find(|it| it.0 == index).map(|it| it.1),
                 delay_ms: plan.delay_ms,
-                application_ms: 0,
                 cut: Some(PathBuf::from(format!("{index}.cut"))),
+                ..Trial::default()
             },
             members: members.clone(),
         };
@@ -128,7 +130,16 @@ impl Network {
 
     /// Begins a node whose files can't grow beyond so many blocks of 512 bytes: as on a disk that gets full.
     pub fn begin_on_small_disk(&mut self, index: u32, blocks: u32) -> Outcome {
-        let script = format!("trap '' XFSZ; ulimit -f {blocks}; exec \"$0\" --config \"$1\"");
+        self.begin_limited(index, &format!("trap '' XFSZ; ulimit -f {blocks}"))
+    }
+
+    /// Begins a node that has no more than so many file descriptors.
+    pub fn begin_with_few_files(&mut self, index: u32, files: u32) -> Outcome {
+        self.begin_limited(index, &format!("ulimit -n {files}"))
+    }
+
+    fn begin_limited(&mut self, index: u32, limit: &str) -> Outcome {
+        let script = format!("{limit}; exec \"$0\" --config \"$1\"");
         let mut command = Command::new("sh");
         command.arg("-c").arg(script).arg(&self.plan.program).arg(self.config(index));
         self.begin_by(index, command)
@@ -201,6 +212,11 @@ impl Network {
             }
         }
         Ok(())
+    }
+
+    /// Cuts the link from one node to another, one way, until links are joined again.
+    pub fn cut_one_way(&self, from: u32, to: u32) -> Outcome {
+        Ok(fs::write(self.plan.folder.join(format!("{from}.cut")), format!(">{to}"))?)
     }
 
     /// What a node counts, at one moment; `None` where it does not reply.

@@ -5,9 +5,10 @@ mod horizon;
 mod reader;
 mod verified;
 
-pub use horizon::Horizon;
+pub use horizon::{Horizon, WantedSnapshot};
 
 use crate::crypto::Keys;
+use crate::faults::Cuts;
 use crate::inbox::Inbox;
 use crate::metrics::Counters;
 use crate::settings::{Outcome, Settings};
@@ -16,7 +17,6 @@ use simplex_identity::hex;
 use simplex_net::{Credentials, Greeting, Places, Watch};
 use simplex_view_state::{Epoch, Participant};
 use simplex_wire::{Message, VERSION};
-use std::collections::BTreeSet;
 use std::sync::atomic::Ordering::Relaxed;
 use std::sync::{Arc, Mutex, MutexGuard};
 use std::time::Duration;
@@ -34,6 +34,7 @@ pub fn credentials(settings: &Settings, keys: &Keys) -> Outcome<Credentials> {
         ("epoch", &identity.epoch.to_string()),
         ("term_length", &identity.term_length.to_string()),
         ("optimistic_views", &protocol.optimistic_views.to_string()),
+        ("snapshot_blocks", &protocol.snapshot_blocks.to_string()),
         // The digest of all members' public keys, in order.
         ("members", &hex(identity.members.bytes())),
     ]);
@@ -45,7 +46,7 @@ pub struct Peers {
     links: simplex_net::Peers,
     me: Participant,
     counters: Arc<Counters>,
-    cut_off: Mutex<BTreeSet<u32>>,
+    cuts: Mutex<Cuts>,
 }
 
 impl Peers {
@@ -74,18 +75,23 @@ impl Peers {
             links: simplex_net::Peers::start(&places, credentials(settings, keys)?, reader, counters.clone())?,
             me: settings.me(),
             counters: counters.clone(),
-            cut_off: Mutex::default(),
+            cuts: Mutex::default(),
         })
     }
 
-    /// Nothing is sent to these members from now on: in a trial, their links are cut.
-    pub fn cut_off(&self, members: BTreeSet<u32>) {
-        *locked(&self.cut_off) = members;
+    /// These links are cut from now on, in a trial.
+    pub fn cut(&self, cuts: Cuts) {
+        *locked(&self.cuts) = cuts;
     }
 
-    /// Whether the links to a member are cut.
-    pub fn is_cut_off(&self, member: Participant) -> bool {
-        locked(&self.cut_off).contains(&member.get())
+    /// Whether nothing is taken from a member.
+    pub fn is_cut_from(&self, member: Participant) -> bool {
+        locked(&self.cuts).from.contains(&member.get())
+    }
+
+    /// Whether nothing is sent to a member.
+    fn is_cut_to(&self, member: Participant) -> bool {
+        locked(&self.cuts).to.contains(&member.get())
     }
 
     /// Sends a message to a member.
@@ -97,10 +103,15 @@ impl Peers {
     pub fn serve(&self, to: Participant, message: &Message) -> bool {
         let frame = message.frame();
         let bytes = frame.len() as u64;
-        let is_left = !self.is_cut_off(to) && self.links.serve(to, frame);
+        let is_left = !self.is_cut_to(to) && self.links.serve(to, frame);
         self.counters.served.fetch_add(u64::from(is_left), Relaxed);
         self.counters.sent_bytes.fetch_add(if is_left { bytes } else { 0 }, Relaxed);
         is_left
+    }
+
+    /// How many members there are.
+    pub fn count(&self) -> usize {
+        self.links.count()
     }
 
     /// Whether a member may still be served, so that what it asks for is worth looking up.
@@ -123,7 +134,7 @@ impl Peers {
 
     /// Sends bytes as they are to a member.
     pub fn send_frame(&self, to: Participant, frame: Arc<Vec<u8>>) {
-        if !self.is_cut_off(to) && to != self.me {
+        if !self.is_cut_to(to) && to != self.me {
             self.counters.sent_bytes.fetch_add(frame.len() as u64, Relaxed);
             self.links.send(to, frame);
         }

@@ -12,7 +12,9 @@ mod far;
 mod faulty;
 mod finality;
 mod judging;
+mod snapshots;
 
+use crate::application::requests::Request;
 use crate::application::worker::{Answer, Kind, REPLY_WITHIN, Worker};
 use crate::archive::keeper::Keeper;
 use crate::blocks::Blocks;
@@ -20,6 +22,7 @@ use crate::chain::{FinalChain, Tail};
 use crate::clock::Clock;
 use crate::crypto::Keys;
 use crate::events::Events;
+use crate::evidence::Collected;
 use crate::faults::Fault;
 use crate::inbox::{Event, Inbox};
 use crate::leader_votes::LeaderVotes;
@@ -27,6 +30,7 @@ use crate::metrics::Counters;
 use crate::pace::Pace;
 use crate::peers::{Horizon, Peers};
 use crate::settings::{Outcome, Settings, Turns};
+use crate::state_sync::StateSync;
 use crate::trace::Trace;
 use crate::waiting::Waiting;
 use broadcasting::Held;
@@ -109,6 +113,8 @@ pub struct Replica {
     leader_votes: LeaderVotes,
     /// Whose contradictions were told of: once a view, or a faulty member could fill the log.
     shown: BTreeSet<(View, Participant)>,
+    /// The file of evidence.
+    evidence: Collected,
     /// The views whose leaders were found to have proposed twice.
     proposed_twice: BTreeSet<View>,
     /// What is final, and not in the archive yet.
@@ -116,6 +122,8 @@ pub struct Replica {
     /// What is asked for of the finalized chain.
     catch_up: CatchUp,
     lag: Lag,
+    /// How far the node is with a snapshot of peers.
+    state_sync: StateSync,
     far: Far,
     /// The certificates that are held back for a moment.
     held: Held,
@@ -149,10 +157,12 @@ impl Replica {
             nullified: View::GENESIS,
             leader_votes: LeaderVotes::new(parts.settings.turns()),
             shown: BTreeSet::new(),
+            evidence: Collected::of(&parts.settings.data),
             proposed_twice: BTreeSet::new(),
             chain,
             catch_up: CatchUp::new(parts.settings.me(), members),
             lag: Lag::none(),
+            state_sync: StateSync::Idle,
             far: None,
             held: Held::new(),
             begun: Begun::default(),
@@ -177,6 +187,7 @@ impl Replica {
                     Some(Event::Failed(why)) => return Err(why.into()),
                     Some(Event::Archived(entries)) => self.take_archived(entries)?,
                     Some(Event::Answered(answer)) => self.take_answer(answer)?,
+                    Some(Event::Replied(reply)) => self.take_reply(reply)?,
                     Some(event) => self.take(event)?,
                     None => break,
                 }
@@ -189,6 +200,7 @@ impl Replica {
             self.broadcast_due();
             self.fetch_blocks();
             self.catch_up();
+            self.sync_state()?;
             self.tell()?;
         }
     }
@@ -248,7 +260,7 @@ impl Replica {
             Message::Certificate(it) => Some(it.subject()),
             _ => None,
         };
-        if !self.parts.peers.is_cut_off(from) {
+        if !self.parts.peers.is_cut_from(from) {
             self.take_message(from, message)?;
         }
         if let Some(subject) = certified {
@@ -281,6 +293,11 @@ impl Replica {
                 Ok(())
             }
             Message::Block(bytes) => self.take_block(bytes),
+            Message::AskSnapshot => self.ask_for_peer(Request::Snapshot(from)),
+            Message::AskPiece(snapshot, index) => self.ask_for_peer(Request::Piece(from, snapshot, index)),
+            Message::Snapshot(manifest, range) => self.take_snapshot(from, manifest, range),
+            Message::Piece(snapshot, index, bytes) => self.take_piece(snapshot, index, &bytes),
+            Message::NoPiece(snapshot, index) => self.take_no_piece(from, snapshot, index),
         }
     }
 
@@ -321,7 +338,7 @@ impl Replica {
         }
         if self.parts.engine.admits_vote(view) {
             let found = self.leader_votes.see(&vote);
-            self.compare(found);
+            self.compare(found)?;
         }
         match self.parts.settings.trial.fault {
             Some(Fault::Replays) => self.replay(&vote),
@@ -459,7 +476,7 @@ impl Replica {
                 self.pace.stop(view);
                 self.parts.application.cancel((Kind::Build, view));
             }
-            Output::Equivocated(first, second) => self.show(&first, &second),
+            Output::Equivocated(first, second) => self.show(&first, &second)?,
             Output::ProposedTwice(view, leader) => self.show_leader(view, leader),
             Output::Forget(lowest) => {
                 self.waiting.forget(lowest);

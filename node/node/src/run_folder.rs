@@ -12,7 +12,16 @@ const MARKED: &str = "simplex-local made this folder. Each run removes the files
 /// What a run writes beside a node's folder, by the ending of the name.
 const OF_A_NODE: [&str; 7] = ["pem", "toml", "log", "votes", "cut", "floor", "trace"];
 /// What a node writes in its own folder.
-const IN_A_NODE: [&str; 4] = ["journal", "journal.new", "chain", "lock"];
+const IN_A_NODE: [&str; 8] = [
+    "journal",
+    "journal.new",
+    "chain",
+    "chain.new",
+    "chain.records",
+    "chain.floor",
+    "evidence",
+    "lock",
+];
 /// The folders of segments in a node's folder.
 const OF_SEGMENTS: [&str; 2] = ["blocks", "archive"];
 

@@ -19,7 +19,7 @@ pub type Outcome<T = ()> = Result<T, Box<dyn std::error::Error>>;
 #[derive(Clone, Debug, Deserialize, Serialize)]
 #[serde(deny_unknown_fields)]
 pub struct Settings {
-    /// The network's name. It begins all that members sign, so it has to be the same for all of them, and another one for each network.
+    /// The network's name. It begins each vote that members sign, so it has to be the same for all of them, and another one for each network.
     pub network: NetworkName,
     /// Which of the members this node is: its place in `members`, from 0.
     pub index: u32,
@@ -37,6 +37,10 @@ pub struct Settings {
     /// Whether a vote waits until the disk has it. Without it, a machine that loses power may vote twice.
     #[serde(default = "yes")]
     pub sync: bool,
+    /// Whether the node has a journal already: it refuses to begin without one. Set it after the first start, so that a disk which is lost or
+    /// not mounted makes no member vote a second time.
+    #[serde(default)]
+    pub has_journal: bool,
     /// Where all votes that are sent or received are written down, for audits; nowhere by default.
     pub trace: Option<PathBuf>,
     /// Where all events are traced, for `simplex-view`; nowhere by default. A process lifetime is appended.
@@ -52,6 +56,9 @@ pub struct Settings {
     /// The certificate of a finalized proposal from which a node begins that has no journal: `floor` of another node's folder. Genesis by
     /// default.
     pub floor: Option<PathBuf>,
+    /// Where more final views than these are missing, or blocks that peers have pruned, the node takes the application's state of its peers in
+    /// place of the blocks. By default it never does.
+    pub state_sync: Option<u64>,
     /// What is tried on this node; by default nothing is.
     #[serde(default)]
     pub trial: Trial,
@@ -117,6 +124,8 @@ pub struct Protocol {
     pub view_retention: u64,
     /// The least time between two blocks that this node builds, in milliseconds; 0 builds as soon as one is asked for.
     pub pace_ms: u64,
+    /// After how many blocks the ledger has another snapshot for peers, the same for all members; 0 makes none.
+    pub snapshot_blocks: u64,
 }
 
 impl Default for Protocol {
@@ -131,6 +140,7 @@ impl Default for Protocol {
             inactivity_ms: 3000,
             view_retention: 64,
             pace_ms: 0,
+            snapshot_blocks: 1000,
         }
     }
 }
@@ -164,8 +174,7 @@ impl Settings {
                 self.index
             ));
         }
-        let has_link = self.members[self.index as usize].link.is_some();
-        if has_link != self.signer.is_some() {
+        if self.signer.is_some() && self.members[self.index as usize].link.is_none() {
             return Err(format!(
                 "`signer` and the `link` of member {} go together: a process that signs votes has the member's key, and the node that of its links",
                 self.index
@@ -344,9 +353,7 @@ mod tests {
         settings.members[0].link = Some(format!("02{}", "00".repeat(31)));
         assert_eq!(settings.test(), Ok(()));
         settings.signer = None;
-        assert!(refused(&settings).contains("go together"));
-        settings.index = 1;
-        assert_eq!(settings.test(), Ok(()), "others need no signer");
+        assert_eq!(settings.test(), Ok(()), "the host may have a signer of its own");
     }
 
     #[test]

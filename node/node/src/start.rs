@@ -1,8 +1,9 @@
 //! How a node begins: from its journal, or at a floor.
 
 use crate::application::Application;
+use crate::application::requests::Serving;
 use crate::application::worker::Worker;
-use crate::archive::keeper::Keeper;
+use crate::archive::keeper::{Keeper, Place};
 use crate::archive::{self, Archive, Limits};
 use crate::blocks::{self, Blocks};
 use crate::chain::Tail;
@@ -14,21 +15,23 @@ use crate::metrics::{self, Counters};
 use crate::peers::{Horizon, Peers};
 use crate::replica::{Parts, Replica};
 use crate::settings::{Outcome, Settings};
+use crate::signer::Signer;
+use crate::state_sync::installation;
 use signal_hook::consts::{SIGINT, SIGTERM};
 use signal_hook::iterator::Signals;
 use simplex_identity::Identity;
 use simplex_journal::{Journal, NEW_KEY, Recovered};
-use simplex_view_state::{Config, Digest, Engine, EngineError, Floor, Moment, Options, Output, Participant, View, Views};
+use simplex_view_state::{Digest, Engine, EngineError, Floor, Moment, Options, Output, Participant, View, Views};
 use std::path::{Path, PathBuf};
 use std::sync::Arc;
 use std::thread;
-use tracing::info;
+use tracing::{info, warn};
 
 /// Where an application begins: what it is told when it is opened.
 #[derive(Clone, Debug)]
 pub struct Start {
     /// The node's folder, which this process has for itself. The application may keep files in it under names of its own: not `journal`,
-    /// `journal.new`, `lock`, `blocks` and `archive`.
+    /// `journal.new`, `lock`, `blocks`, `snapshot`, and those that begin with `archive`.
     pub folder: PathBuf,
     /// The block behind which the chain begins: genesis, or the floor. An application that has nothing stored returns it from
     /// [`Application::last`].
@@ -47,7 +50,24 @@ pub struct Start {
 /// a key file may be read by others. While it runs: the disk refuses, or the application returned an error or panicked. Nothing was sent
 /// that is not stored, so the node may be run again.
 pub fn run<A: Application>(settings: Settings, application: impl FnOnce(&Start) -> Outcome<A>) -> Outcome {
-    let (replica, inbox) = open(settings, application)?;
+    run_until_signal(open(settings, application)?)
+}
+
+/// Runs a node as [`run`] does, whose votes a signer of the host's own signs: by a key in other hardware, say. The settings name no `signer`;
+/// where the node has not the member's key, `key` is that of its links, and the member's public one is its `link`.
+///
+/// # Errors
+///
+/// As of [`run`]. A vote that the signer refuses, or signs by another key than the member's, ends the node: nothing of it was sent.
+pub fn run_with_signer<A: Application>(
+    settings: Settings,
+    signer: impl Signer + 'static,
+    application: impl FnOnce(&Start) -> Outcome<A>,
+) -> Outcome {
+    run_until_signal(open_with_signer(settings, signer, application)?)
+}
+
+fn run_until_signal((replica, inbox): (Replica, Arc<Inbox>)) -> Outcome {
     let mut signals = Signals::new([SIGINT, SIGTERM])?;
     thread::Builder::new().name("signals".into()).spawn(move || {
         for _ in signals.forever() {
@@ -63,8 +83,30 @@ pub fn run<A: Application>(settings: Settings, application: impl FnOnce(&Start) 
 ///
 /// As of [`run`], of a node that must not begin.
 pub fn open<A: Application>(settings: Settings, application: impl FnOnce(&Start) -> Outcome<A>) -> Outcome<(Replica, Arc<Inbox>)> {
+    open_by(settings, None, application)
+}
+
+/// Opens a node as [`open`] does, whose votes a signer of the host's own signs.
+///
+/// # Errors
+///
+/// As of [`run_with_signer`], of a node that must not begin.
+pub fn open_with_signer<A: Application>(
+    settings: Settings,
+    signer: impl Signer + 'static,
+    application: impl FnOnce(&Start) -> Outcome<A>,
+) -> Outcome<(Replica, Arc<Inbox>)> {
+    open_by(settings, Some(Box::new(signer)), application)
+}
+
+fn open_by<A: Application>(
+    settings: Settings,
+    signer: Option<Box<dyn Signer>>,
+    application: impl FnOnce(&Start) -> Outcome<A>,
+) -> Outcome<(Replica, Arc<Inbox>)> {
     let identity = settings.identity()?;
-    let stored = Stored::open(&settings, &identity, application)?;
+    let keys = Arc::new(Keys::read_with(&settings, signer)?);
+    let stored = Stored::open(&settings, &identity, keys, application)?;
     let (views, tail) = (stored.views, stored.archive.tail());
     let counters = Arc::new(Counters::default());
     if let Some(address) = settings.metrics {
@@ -74,8 +116,9 @@ pub fn open<A: Application>(settings: Settings, application: impl FnOnce(&Start)
     horizon.moved(views.current, views.min_active);
     let inbox = Arc::new(Inbox::new(settings.members.len()));
     let peers = Arc::new(Peers::start(&settings, &stored.keys, &horizon, &counters, &inbox)?);
-    let keeper = Keeper::begin(stored.archive, peers.clone(), inbox.clone(), counters.clone())?;
-    let application = Worker::begin(stored.application, inbox.clone(), counters.clone())?;
+    let place = place_of(&settings, &identity);
+    let keeper = Keeper::begin(stored.archive, place, peers.clone(), inbox.clone(), counters.clone())?;
+    let application = Worker::begin(stored.application, stored.serving, inbox.clone(), counters.clone())?;
     tell(stored.recovered.as_ref(), &views);
     let replica = Replica::new(Parts {
         blocks: Blocks::open(&settings.data, *identity.genesis().bytes(), settings.sync)?,
@@ -103,17 +146,22 @@ struct Stored<A> {
     engine: Engine,
     views: Views,
     application: A,
+    serving: Serving,
     archive: Archive,
     clock: Clock,
 }
 
 impl<A: Application> Stored<A> {
-    fn open(settings: &Settings, identity: &Identity, application: impl FnOnce(&Start) -> Outcome<A>) -> Outcome<Stored<A>> {
+    fn open(
+        settings: &Settings,
+        identity: &Identity,
+        keys: Arc<Keys>,
+        application: impl FnOnce(&Start) -> Outcome<A>,
+    ) -> Outcome<Stored<A>> {
         let (mut journal, recovered) = Journal::open(&settings.data, identity, settings.sync)?;
-        test_journal(&settings.data, recovered.as_ref())?;
-        let keys = Arc::new(Keys::read(settings)?);
+        test_journal(settings, recovered.as_ref())?;
         let floor = floor::read(settings, &keys)?;
-        let mut engine = engine(&settings.config(floor.clone()), recovered.as_ref())?;
+        let mut engine = simplex_journal::engine(recovered.as_ref(), &settings.config(floor.clone()), &Options::default())?;
         let views = engine.views().ok_or(EngineError::Failed)?;
         let start = Start {
             folder: settings.data.clone(),
@@ -121,8 +169,10 @@ impl<A: Application> Stored<A> {
             me: settings.me(),
         };
         let mut application = application(&start)?;
+        let replaced = installation::resume(&settings.data, &mut application)?;
         test_application(&settings.data, &application, recovered.as_ref(), views.last_finalized)?;
-        let archive = open_archive(settings, identity, &mut application)?;
+        let archive = open_archive(settings, identity, &mut application, replaced)?;
+        let serving = serving(settings, &archive, &mut application);
         test_archive(&settings.data, archive.tail(), views.last_finalized)?;
         let clock = Clock::start();
         begin_journal(&mut engine, &mut journal, clock.now())?;
@@ -133,15 +183,24 @@ impl<A: Application> Stored<A> {
             engine,
             views,
             application,
+            serving,
             archive,
             clock,
         })
     }
 }
 
-/// Refuses to begin anew where files of the node are here and the journal is not: it is lost, and without it the node would vote a second
-/// time.
-fn test_journal(folder: &Path, recovered: Option<&Recovered>) -> Outcome {
+/// Refuses to begin anew where the settings, or files of the node, show that it had a journal: that is lost, and without it the node would
+/// vote a second time.
+fn test_journal(settings: &Settings, recovered: Option<&Recovered>) -> Outcome {
+    let folder = &settings.data;
+    if recovered.is_none() && settings.has_journal {
+        return Err(format!(
+            "the journal {} is not here, and by `has_journal` this node has one: is its disk mounted? Put the journal back. {NEW_KEY}",
+            simplex_journal::path(folder).display(),
+        )
+        .into());
+    }
     let places = [blocks::path(folder), archive::path(folder)];
     let left = places.into_iter().find(|it| it.exists());
     match (recovered, left) {
@@ -195,25 +254,53 @@ fn test_archive(folder: &Path, last: Tail, finalized: View) -> Outcome {
     .into())
 }
 
-/// The archive, whose blocks the application gets that it lacks. The archive is written first, so the application may be behind it.
-fn open_archive(settings: &Settings, identity: &Identity, application: &mut impl Application) -> Outcome<Archive> {
+/// How the archive of these settings is opened.
+fn place_of(settings: &Settings, identity: &Identity) -> Place {
+    Place {
+        folder: settings.data.clone(),
+        genesis: *identity.genesis().bytes(),
+        limits: Limits {
+            segment_bytes: settings.archive.segment_bytes,
+            most_bytes: settings.archive.most_bytes,
+        },
+        syncs: settings.sync,
+        trial: settings.trial.clone(),
+    }
+}
+
+/// The archive, whose blocks the application gets that it lacks. The archive is written first, so the application may be behind it; and it is
+/// ahead of one of older blocks than a snapshot of this height that it took.
+fn open_archive(settings: &Settings, identity: &Identity, application: &mut impl Application, replaced: Option<u64>) -> Outcome<Archive> {
     let (view, payload) = application.last();
     let tail = Tail {
         height: application.height(),
         view,
         payload,
     };
-    let limits = Limits {
-        segment_bytes: settings.archive.segment_bytes,
-        most_bytes: settings.archive.most_bytes,
-    };
-    let genesis = *identity.genesis().bytes();
-    let (mut archive, cut) = Archive::open(&settings.data, genesis, limits, settings.sync, tail)?;
+    let place = place_of(settings, identity);
+    let (mut archive, cut) = place.open(tail)?;
     if cut > 0 {
         info!(cut, "the archive's last block was cut off");
     }
+    match replaced {
+        Some(height) if archive.tail().height < height => archive = place.begin_after(tail)?,
+        Some(_) => installation::discard(&settings.data)?,
+        None => {}
+    }
     replay(&mut archive, application)?;
     Ok(archive)
+}
+
+/// The segments in which a block is looked for that bound a snapshot: in older ones it is not needed, since another one was bound.
+const LAST_SEGMENTS: usize = 4;
+
+/// What peers are served of snapshots, from those on that blocks of the archive have bound.
+fn serving(settings: &Settings, archive: &Archive, application: &mut impl Application) -> Serving {
+    let mut serving = Serving::new(settings.data.clone(), settings.trial.clone());
+    if let Err(error) = archive.each_of_last(LAST_SEGMENTS, |block| serving.note(block, application)) {
+        warn!(%error, "no snapshot is offered until a block binds another one");
+    }
+    serving
 }
 
 /// Hands the application the blocks of the archive that it has not taken.
@@ -242,15 +329,6 @@ fn tell(recovered: Option<&Recovered>, views: &Views) {
     let (cut, entries) = recovered.map_or((0, 0), |it| (it.cut, it.stored.entries.get()));
     let (current, finalized) = (views.current.get(), views.last_finalized.get());
     info!(cut, entries, current, finalized, "begun");
-}
-
-/// The engine of a member that begins, or goes on from what its journal held.
-fn engine(config: &Config, recovered: Option<&Recovered>) -> Outcome<Engine> {
-    let (options, begun) = (Options::default(), Moment::from_millis(0));
-    match recovered {
-        Some(it) => Ok(Engine::resume(config, &options, begun, &it.stored, &it.frames)?),
-        None => Ok(Engine::start(config, &options, begun)?),
-    }
 }
 
 /// Begins the journal of a life, from the engine's first output on: the whole record, in place of all that was stored.

@@ -77,6 +77,43 @@ fn a_node_that_was_away_for_2500_views_gets_all_blocks_of_several_peers() {
     ends_well(network);
 }
 
+/// Node 3 sends node 0 nothing, at full speed: node 0 gets each fourth block, and all certificates, of the others.
+#[test]
+fn a_node_that_one_member_leaves_out_keeps_up() {
+    let mut network = network("left-out", 4);
+    network.begin_all().expect("processes");
+    assert!(network.wait_until(&[0], "height", 20, SOON), "{}", log(&network, 0));
+    network.cut_one_way(3, 0).expect("a disk");
+    let others = network.highest(&[1, 2]) + 800;
+    assert!(network.wait_for(&[1, 2], others, LONG), "{}", log(&network, 1));
+    let (here, there) = (count(&network, 0, "height"), count(&network, 1, "height"));
+    assert!(here + 300 > there, "{here} of {there} blocks: {}", log(&network, 0));
+    network.cut(None).expect("a disk");
+    assert!(network.wait_until(&[0], "height", there + 10, SOON), "{}", log(&network, 0));
+    ends_well(network);
+}
+
+/// Blocks of 128 kB, until there are more of them than fit any memory of a node: nothing that was written is written again.
+#[test]
+fn long_blocks_come_at_a_steady_rate() {
+    if std::env::var_os("SIMPLEX_LONG").is_none() {
+        return;
+    }
+    let mut network = network("long-blocks", 4);
+    (0..4).for_each(|index| network.set(index, |it| it.trial.block_bytes = Some(128 << 10)).expect("settings"));
+    network.begin_all().expect("processes");
+    assert!(network.wait_until(&[0], "height", 300, LONG), "{}", log(&network, 0));
+    let begun = Instant::now();
+    assert!(network.wait_until(&[0], "height", 500, LONG), "{}", log(&network, 0));
+    let (first, begun) = (begun.elapsed(), Instant::now());
+    assert!(network.wait_until(&[0], "height", 700, LONG), "{}", log(&network, 0));
+    println!("blocks 300 to 500 in {first:?}, 500 to 700 in {:?}", begun.elapsed());
+    assert!(begun.elapsed() < 5 * first, "{:?} and {first:?}", begun.elapsed());
+    let most = (0..4).map(|index| count(&network, index, "resident_kb")).max();
+    assert!(most.is_some_and(|it| it < 128 << 10), "{most:?} kB");
+    ends_well(network);
+}
+
 /// The members have pruned what node 3 lacks.
 #[test]
 fn a_block_that_nobody_has_is_an_error_that_names_its_height() {

@@ -1,7 +1,7 @@
-//! A network of four under one fault after another, for as long as `SIMPLEX_CHAOS` says, in minutes: kills, torn ends of journals, stops,
-//! pauses, partitions, slow links, and a member that floods. After each the network heals soon, and in the end all agree.
+//! A network of four under one fault after another, for as long as `SIMPLEX_CHAOS` says, in minutes: kills, torn ends of files, stops, pauses,
+//! partitions, links that are cut one way or slow, and a member that floods. After each the network heals soon, and in the end all agree.
 //!
-//! `tests/node.py --chaos MINUTES` runs it; `SIMPLEX_SEED` chooses the faults.
+//! `tests/node/node.py --chaos MINUTES` runs it; `SIMPLEX_SEED` chooses the faults.
 
 mod members;
 
@@ -12,24 +12,29 @@ use simplex_node::settings::Protocol;
 use simplex_view_state::{Epoch, FetchKind, Participant, Round, Subject, View, Vote};
 use simplex_wire::Message;
 use std::collections::BTreeMap;
-use std::fs;
+use std::fs::{self, OpenOptions};
+use std::io::Write;
+use std::path::PathBuf;
 use std::process::Command;
 use std::thread::{self, sleep};
 use std::time::{Duration, Instant};
 
 /// Within what time all nodes finalize views again.
 const HEALS_WITHIN: Duration = Duration::from_secs(10);
+/// Within what time a network that heals later is still looked at.
+const GIVEN_UP_AFTER: Duration = Duration::from_secs(120);
 /// How much memory a node has at most, in kilobytes.
 const MOST_KB: u64 = 64 << 10;
 /// The member that floods.
 const FAULTY: u32 = 3;
+const ALL: [u32; 4] = [0, 1, 2, 3];
 
 struct Chaos {
     network: Network,
     random: u64,
     most_kb: u64,
-    /// Of each fault how often it was tried, and the longest until the network healed.
-    healed: BTreeMap<&'static str, (u32, Duration)>,
+    /// How long it took after each fault until the network had healed.
+    healed: BTreeMap<&'static str, Vec<Duration>>,
 }
 
 impl Chaos {
@@ -37,7 +42,7 @@ impl Chaos {
         let plan = Plan {
             nodes: 4,
             protocol: Protocol {
-                pace_ms: 5,
+                pace_ms: 150,
                 leader_timeout_ms: 500,
                 certification_timeout_ms: 1000,
                 timeout_retry_ms: 250,
@@ -75,36 +80,63 @@ impl Chaos {
     /// Tries one fault, and waits until it has healed.
     fn step(&mut self) {
         let node = self.below(4) as u32;
-        let fault = match self.below(6) {
-            0 => self.kill(node),
-            1 => self.stop(node),
-            2 => self.suspend(node),
-            3 => self.part(node),
-            4 => self.slow(node),
+        let fault = match self.below(9) {
+            0 => self.kill(node, Self::tear_journal),
+            1 => self.kill(node, Self::tear_blocks),
+            2 => self.stop(node),
+            3 => self.suspend(node),
+            4 => self.part(node),
+            5 => self.part_one(node),
+            6 => self.cut_one_way(node),
+            7 => self.slow(node),
             _ => self.flood(),
         };
-        let (begun, all) = (Instant::now(), [0, 1, 2, 3]);
-        let view = self.network.highest(&all) + 3;
-        let is_healed = self.network.wait_for(&all, view, HEALS_WITHIN);
-        assert!(
-            is_healed,
-            "{fault}: view {view} is not finalized by all: {:?}",
-            self.network.folder()
-        );
-        let entry = self.healed.entry(fault).or_default();
-        *entry = (entry.0 + 1, entry.1.max(begun.elapsed()));
-        let memory = all.into_iter().filter_map(|index| self.network.metric(index, "resident_kb"));
+        let heals: &[u32] = if fault == FLOODED { &ALL[..FAULTY as usize] } else { &ALL };
+        self.heals(fault, heals);
+        if fault == FLOODED {
+            // (the others refuse a member that forged for a time)
+            self.heals("the member that had flooded, begun again", &ALL);
+        }
+        let memory = ALL.into_iter().filter_map(|index| self.network.metric(index, "resident_kb"));
         self.most_kb = memory.chain([self.most_kb]).max().unwrap_or(0);
-        assert!(self.most_kb <= MOST_KB, "{fault}: {} kB", self.most_kb);
     }
 
-    fn kill(&mut self, node: u32) -> &'static str {
+    /// Waits until these nodes finalize three views more.
+    fn heals(&mut self, fault: &'static str, nodes: &[u32]) {
+        let (begun, view) = (Instant::now(), self.network.highest(nodes) + 3);
+        let is_healed = self.network.wait_for(nodes, view, GIVEN_UP_AFTER);
+        let folder = self.network.folder();
+        assert!(is_healed, "{fault}: view {view} is not finalized by {nodes:?}: {folder:?}");
+        self.healed.entry(fault).or_default().push(begun.elapsed());
+    }
+
+    fn kill(&mut self, node: u32, tear: impl FnOnce(&mut Self, u32) -> &'static str) -> &'static str {
         self.network.kill(node).expect("a process");
-        let torn = 1 + self.below(60) as usize;
-        self.network.tear(node, torn).expect("a journal");
+        let fault = tear(self, node);
         self.pause();
         self.network.begin(node).expect("a process");
+        fault
+    }
+
+    fn tear_journal(&mut self, node: u32) -> &'static str {
+        let torn = 1 + self.below(60) as usize;
+        self.network.tear(node, torn).expect("a journal");
         "killed, and its journal torn"
+    }
+
+    /// Leaves a beginning of a record behind the last ones of blocks and of the archive, and of a line behind the chain's.
+    fn tear_blocks(&mut self, node: u32) -> &'static str {
+        let torn = 1 + self.below(200) as usize;
+        let data = self.network.data(node);
+        for folder in ["blocks", "archive"] {
+            let Some(last) = last_file(data.join(folder)) else { continue };
+            // (the first record's beginning, as far as a segment has one)
+            let bytes = fs::read(&last).expect("a segment");
+            let first = bytes.get(simplex_node::segments::HEAD as usize..).unwrap_or_default();
+            append(last, &first[..torn.min(first.len() / 2)]);
+        }
+        append(data.join("chain"), &b"1234 5678"[..1 + torn % 9]);
+        "killed, and its blocks, archive and chain torn"
     }
 
     fn stop(&mut self, node: u32) -> &'static str {
@@ -114,6 +146,7 @@ impl Chaos {
             assert!(begun.elapsed() < Duration::from_secs(60), "it does not stop");
             sleep(Duration::from_millis(20));
         }
+        self.healed.entry("told to stop, and ended").or_default().push(begun.elapsed());
         self.pause();
         self.network.begin(node).expect("a process");
         "stopped, and begun again"
@@ -132,6 +165,22 @@ impl Chaos {
         self.pause();
         self.network.cut(None).expect("a disk");
         "parted, two and two"
+    }
+
+    fn part_one(&mut self, node: u32) -> &'static str {
+        let others: Vec<u32> = ALL.into_iter().filter(|it| *it != node).collect();
+        self.network.cut(Some((&[node], &others))).expect("a disk");
+        self.pause();
+        self.network.cut(None).expect("a disk");
+        "parted, one and three"
+    }
+
+    fn cut_one_way(&mut self, node: u32) -> &'static str {
+        let to = (node + 1 + self.below(3) as u32) % 4;
+        self.network.cut_one_way(node, to).expect("a disk");
+        self.pause();
+        self.network.cut(None).expect("a disk");
+        "a link cut one way"
     }
 
     fn slow(&mut self, node: u32) -> &'static str {
@@ -161,7 +210,7 @@ impl Chaos {
                     while Instant::now() < until {
                         number += 1;
                         let frame = flooding(keys, view, number).frame();
-                        if std::io::Write::write_all(&mut session, &frame).is_err() {
+                        if session.write_all(&frame).is_err() {
                             return;
                         }
                     }
@@ -171,7 +220,7 @@ impl Chaos {
         let goes_on = self.network.wait_for(&[0, 1, 2], view + 3, HEALS_WITHIN);
         assert!(goes_on, "three of four finalize nothing beside a flood");
         self.network.begin(FAULTY).expect("a process");
-        "flooded by one member"
+        FLOODED
     }
 
     fn signal(&mut self, node: u32, signal: &str) {
@@ -186,8 +235,13 @@ impl Chaos {
         // (the member that floods signs votes that its own process does not know of)
         let of_honest = votes.iter().filter(|vote| vote.signer != FAULTY);
         assert_eq!(contradictions(of_honest, 1), Vec::<String>::new());
-        for (fault, (times, longest)) in &self.healed {
-            println!("{fault}: {times} times, healed within {:.1} s", longest.as_secs_f64());
+        for (fault, times) in &mut self.healed {
+            times.sort();
+            let (half, longest) = (times[times.len() / 2].as_secs_f64(), times[times.len() - 1].as_secs_f64());
+            println!(
+                "{fault}: {} times, after {half:.1} s (median), {longest:.1} s (longest)",
+                times.len()
+            );
         }
         let last = chains.iter().filter_map(|it| it.last()).map(|it| it.view).max().unwrap_or(0);
         println!(
@@ -195,8 +249,27 @@ impl Chaos {
             votes.len(),
             self.most_kb
         );
+        let late: Vec<_> = self
+            .healed
+            .iter()
+            .filter(|(fault, times)| fault.starts_with("the member") || times.iter().all(|it| *it <= HEALS_WITHIN))
+            .collect();
+        assert_eq!(late.len(), self.healed.len(), "some healed later than within {HEALS_WITHIN:?}");
+        assert!(self.most_kb <= MOST_KB, "{} kB", self.most_kb);
         fs::remove_dir_all(self.network.folder()).expect("a folder");
     }
+}
+
+const FLOODED: &str = "flooded by one member";
+
+/// The last file of a folder by its name.
+fn last_file(folder: PathBuf) -> Option<PathBuf> {
+    fs::read_dir(folder).ok()?.flatten().map(|it| it.path()).max()
+}
+
+fn append(path: PathBuf, bytes: &[u8]) {
+    let mut file = OpenOptions::new().append(true).open(path).expect("a file");
+    file.write_all(bytes).expect("a disk");
 }
 
 /// What a member that floods sends: a vote of its own of many views, an ask, and a vote in another's name.
@@ -213,6 +286,8 @@ fn flooding(keys: &simplex_node::crypto::Keys, view: u64, number: u64) -> Messag
     };
     match number % 1000 {
         0 => Message::Vote(vote(0)),
+        it if it % 50 == 0 => Message::Block(vec![it as u8; 100_000]),
+        it if it % 25 == 0 => Message::AskRange(View::GENESIS, View::new(view)),
         it if it % 2 == 0 => Message::Vote(vote(FAULTY)),
         _ => Message::AskCertificate(FetchKind::Decision, View::new(number % (view + 1))),
     }

@@ -131,9 +131,33 @@ fn a_leader_that_proposes_twice_is_seen_by_each_honest_node() {
             let evidence: Vec<&str> = log.lines().filter(|it| it.contains("two votes of one member")).collect();
             let is_of_leader = |it: &&str| it.contains("first_signature") && it.contains(&format!("signer={} ", nodes - 1));
             assert!(!evidence.is_empty() && evidence.iter().all(is_of_leader), "node {index}: {log}");
+            let file = simplex_node::evidence::path(&network.data(index));
+            let said = run(&["evidence", "--config", text_of(&network.config(0)), text_of(&file)], true);
+            let is_shown = |it: &str| it.starts_with(&format!("member {} signed two votes to notarize in view ", nodes - 1));
+            assert!(said.lines().count() > 0 && said.lines().all(is_shown), "node {index}: {said}");
+            let other = format!("{}.other", text_of(&file));
+            let text = fs::read_to_string(&file).expect("a file");
+            let (line, rest) = text.split_once('\n').expect("a line");
+            let (line, digit) = line.split_at(line.len() - 1);
+            fs::write(&other, format!("{line}{}\n{rest}", if digit == "0" { 1 } else { 0 })).expect("a disk");
+            let said = run(&["evidence", "--config", text_of(&network.config(0)), &other], false);
+            assert!(said.contains("line 1: ") && said.contains("1 of "), "{said}");
         }
         ends_well(network, 1);
     }
+}
+
+/// Node 3's application builds blocks that are too long to be sent: they are not proposed, and it says why.
+#[test]
+fn a_block_that_no_peer_would_take_is_an_error_of_who_built_it() {
+    let mut network = Network::new(plan("oversized", 4)).expect("keys and settings");
+    network.set(3, |it| it.trial.block_bytes = Some(2 << 20)).expect("settings");
+    network.begin_all().expect("processes");
+    assert!(network.wait_until(&[3], "oversized_blocks", 2, START), "{}", logs(&network));
+    goes_on(&network, &[0, 1, 2]);
+    let said = fs::read_to_string(network.log(3)).expect("a log");
+    assert!(said.contains("ERROR") && said.contains("a block that no peer would take"), "{said}");
+    ends_well(network, 1);
 }
 
 #[test]
@@ -403,6 +427,7 @@ fn text_of(path: &Path) -> &str {
 fn run(arguments: &[&str], is_good: bool) -> String {
     let mut child = Command::new(env!("CARGO_BIN_EXE_simplex-node"))
         .args(arguments)
+        .stdout(Stdio::piped())
         .stderr(Stdio::piped())
         .spawn()
         .expect("a process");
@@ -415,7 +440,7 @@ fn run(arguments: &[&str], is_good: bool) -> String {
         sleep(Duration::from_millis(20));
     }
     let done = child.wait_with_output().expect("a process");
-    let said = String::from_utf8_lossy(&done.stderr).into_owned();
+    let said = String::from_utf8_lossy(&[done.stdout, done.stderr].concat()).into_owned();
     assert_eq!(done.status.success(), is_good, "{said}");
     said
 }

@@ -33,6 +33,10 @@ struct Attacked {
 
 impl Attacked {
     fn begin(name: &str) -> Attacked {
+        Attacked::begin_by(name, |network| network.begin(0))
+    }
+
+    fn begin_by(name: &str, begin: impl FnOnce(&mut Network) -> simplex_node::Outcome) -> Attacked {
         let plan = Plan {
             nodes: 4,
             protocol: Protocol {
@@ -51,7 +55,7 @@ impl Attacked {
         let settings = settings_of(&network);
         let (keys, credentials) = played(&settings);
         let addresses = settings[0].members.iter().map(|it| it.address.clone()).collect();
-        network.begin(0).expect("a process");
+        begin(&mut network).expect("a process");
         assert!(network.wait_until(&[0], "current_view", 1, SOON), "it does not begin");
         let genesis = settings[0].identity().expect("keys").genesis();
         Attacked {
@@ -151,6 +155,44 @@ fn strangers_that_do_not_greet_keep_no_member_out() {
     attacked.end();
 }
 
+/// How long a process, or a thread, has had a processor, by its folder in `/proc`.
+fn processor_time(of: &str) -> Duration {
+    let stat = fs::read_to_string(format!("/proc/{of}/stat")).expect("it runs");
+    let ticks = stat.rsplit(')').next().expect("fields").split(' ').skip(12).take(2);
+    Duration::from_millis(10 * ticks.map(|it| it.parse::<u64>().expect("a number")).sum::<u64>())
+}
+
+/// Strangers take all file descriptors of the process: it waits, in place of trying without end, and goes on once they are gone.
+#[test]
+fn a_node_without_file_descriptors_waits_and_takes_members_again() {
+    let attacked = Attacked::begin_by("descriptors", |network| network.begin_with_few_files(0, 50));
+    let metrics = attacked.settings[0].metrics.expect("an address");
+    let process = attacked.network.process(0).expect("it runs").to_string();
+    let (begun, until) = (Instant::now(), Duration::from_secs(4));
+    let mut strangers = Vec::new();
+    let before = processor_time(&process);
+    // What a thread gets here that tries without end, on a machine that does much else.
+    let trying = thread::spawn(move || {
+        while begun.elapsed() < until {
+            std::hint::spin_loop();
+        }
+        processor_time("thread-self")
+    });
+    while begun.elapsed() < until {
+        // (those that do not greet are ended after two seconds)
+        strangers.extend((0..20).filter_map(|_| TcpStream::connect(&attacked.addresses[0]).ok()));
+        strangers.extend((0..5).filter_map(|_| TcpStream::connect(metrics).ok()));
+        strangers.drain(..strangers.len().saturating_sub(150));
+        sleep(Duration::from_millis(200));
+    }
+    let (spent, most) = (processor_time(&process) - before, trying.join().expect("it ends"));
+    assert!(4 * spent < most, "{spent:?} of a processor, where one without end has {most:?}");
+    drop(strangers);
+    let link = attacked.link(1);
+    attacked.goes_through(&link, 1..5);
+    attacked.end();
+}
+
 #[test]
 fn a_greeting_has_two_seconds_as_a_whole() {
     let attacked = Attacked::begin("drips");
@@ -242,6 +284,49 @@ fn blocks_that_nobody_asked_for_cost_little() {
     attacked.comes_to("slowed_readers", 1);
     is_over.store(true, Relaxed);
     flooding.join().expect("it ends");
+    attacked.end();
+}
+
+/// A leader signs as many blocks of a MiB for its views as it likes, and sends each again and again.
+#[test]
+fn proposals_without_end_cost_little() {
+    let attacked = Attacked::begin("proposals");
+    let frame = |view: u64, content: u8| {
+        let context = Context {
+            round: round(view),
+            leader: Participant::new(3),
+            parent: View::GENESIS,
+            parent_payload: attacked.genesis,
+        };
+        let block = Block::new(&context, &vec![content; 1_000_000]);
+        let proposal = Proposal {
+            round: context.round,
+            parent: context.parent,
+            payload: block.payload(),
+        };
+        let vote = attacked.vote(3, Subject::Notarize(proposal));
+        Message::Proposal(vote, block.bytes().to_vec()).frame()
+    };
+    let frames: Vec<Vec<u8>> = (1..10).flat_map(|term| [1, 2, 3].map(|content| frame(4 * term, content))).collect();
+    let (flood, is_over) = (attacked.link(3), Arc::new(AtomicBool::new(false)));
+    let flooding = thread::spawn({
+        let is_over = is_over.clone();
+        move || {
+            let mut frames = frames.iter().cycle();
+            while !is_over.load(Relaxed) && frames.next().is_some_and(|it| flood.write_all(it).is_ok()) {}
+        }
+    });
+    let link = attacked.link(1);
+    let before = stored_blocks(&attacked.network.data(0));
+    for view in 1..40 {
+        attacked.goes_through(&link, view..view + 1);
+        assert!(attacked.counts("resident_kb") < MOST_KB, "{} kB", attacked.counts("resident_kb"));
+    }
+    attacked.comes_to("slowed_readers", 1);
+    is_over.store(true, Relaxed);
+    flooding.join().expect("it ends");
+    let stored = stored_blocks(&attacked.network.data(0)) - before;
+    assert!(stored <= 10 * 1_001_000, "{stored} bytes: one block of a view");
     attacked.end();
 }
 

@@ -105,6 +105,29 @@ fn a_node_that_lost_its_journal_is_refused_by_what_it_left() {
     end(network);
 }
 
+/// All that the node stored is gone with its disk: its settings know better.
+#[test]
+fn a_node_whose_disk_is_not_mounted_is_refused() {
+    let mut network = stopped("unmounted", 1);
+    network.set(0, |it| it.has_journal = true).expect("settings");
+    let (data, elsewhere) = (network.data(0), network.folder().join("elsewhere"));
+    fs::rename(&data, &elsewhere).expect("a disk");
+    for _ in 0..2 {
+        let said = refused(&network, 0);
+        assert!(
+            said.contains("by `has_journal` this node has one") && said.contains("Put the journal back"),
+            "{said}"
+        );
+        assert!(!journal::path(&data).exists(), "no other journal is begun");
+    }
+    fs::remove_dir_all(&data).expect("what the refused ones made");
+    fs::rename(&elsewhere, &data).expect("a disk");
+    network.begin(0).expect("a process");
+    assert!(network.wait_until(&[0], "height", 3, SOON), "it goes on");
+    network.stop().expect("it stops");
+    end(network);
+}
+
 #[test]
 fn a_journal_of_another_key_is_refused() {
     let mut network = stopped("key", 1);

@@ -1,15 +1,22 @@
-//! A node whose votes another process signs.
+//! A node whose votes another process signs, or a signer of its host's own.
 
+use openssl::pkey::PKey;
 use simplex_node::crypto::{hex, make_key, raw_key};
+use simplex_node::inbox::Event;
+use simplex_node::ledger::{Ledger, Options};
 use simplex_node::network::{Network, Plan, folder_of};
-use simplex_node::settings::{Protocol, Settings};
+use simplex_node::settings::Protocol;
 use simplex_node::signer::guard::Owner;
-use simplex_node::signer::{Remote, Signer};
+use simplex_node::signer::{Local, Remote};
+use simplex_node::{Outcome, Settings, Signature, Signer, Start, open_with_signer, run_with_signer};
 use simplex_view_state::{Digest, Epoch, Proposal, Round, Subject, View};
 use std::fs;
 use std::path::PathBuf;
 use std::process::{Child, Command, Stdio};
-use std::thread::sleep;
+use std::sync::Arc;
+use std::sync::atomic::{AtomicUsize, Ordering::Relaxed};
+use std::sync::mpsc::channel;
+use std::thread::{self, sleep};
 use std::time::{Duration, Instant};
 
 const SOON: Duration = Duration::from_secs(120);
@@ -201,5 +208,85 @@ fn what_does_not_fit_is_refused_by_name_and_with_what_to_do() {
     signed.kill();
     let lacking = node("local", &mut signed);
     assert!(lacking.contains("sock: ") && lacking.contains("simplex-node signer"), "{lacking}");
+    fs::remove_dir_all(signed.network.folder()).expect("a folder");
+}
+
+/// A signer of the host's own, which counts what it signs.
+struct Counted {
+    local: Local,
+    signed: Arc<AtomicUsize>,
+}
+
+impl Signer for Counted {
+    fn sign(&self, subject: &Subject, text: &[u8]) -> Outcome<Signature> {
+        self.signed.fetch_add(1, Relaxed);
+        self.local.sign(subject, text)
+    }
+}
+
+/// Node 0 in this process, by a signer with the key of a file. It has the key of its links alone.
+fn hosted(signed: &Signed, key: &str, count: &Arc<AtomicUsize>) -> (Settings, Counted) {
+    let mut settings = Settings::read(&signed.network.config(0)).expect("settings");
+    settings.signer = None;
+    let pem = fs::read(signed.path(key)).expect("a key");
+    let secret = PKey::private_key_from_pem(&pem).expect("a key");
+    let local = Local::new(settings.network.clone(), secret);
+    (
+        settings,
+        Counted {
+            local,
+            signed: count.clone(),
+        },
+    )
+}
+
+#[test]
+fn a_host_runs_a_node_by_a_signer_of_its_own() {
+    let mut signed = Signed::new("hosted");
+    (1..4).for_each(|index| signed.network.begin(index).expect("a process"));
+    let count = Arc::new(AtomicUsize::new(0));
+    let (settings, signer) = hosted(&signed, "0.pem", &count);
+    // (a replica stays on its thread)
+    let (opened, inbox) = channel();
+    let running = thread::spawn(move || {
+        let ledger = |start: &Start| Ledger::open(start, Options::default());
+        let (replica, inbox) = open_with_signer(settings, signer, ledger).expect("good settings");
+        opened.send(inbox).expect("the test waits");
+        replica.run().map_err(|error| error.to_string())
+    });
+    let inbox = inbox.recv_timeout(SOON).expect("it begins");
+    assert!(signed.network.wait_until(&[0], "finalizes", 5, SOON), "it does not vote");
+    inbox.tell(Event::Stop);
+    running.join().expect("no panic").expect("it stops");
+    assert!(count.load(Relaxed) >= 10, "{} votes", count.load(Relaxed));
+    signed.network.stop().expect("they stop");
+    assert!(simplex_node::audit::disagreements(&signed.network.chains().expect("chains")).is_empty());
+    fs::remove_dir_all(signed.network.folder()).expect("a folder");
+}
+
+/// Votes under another key, which all others would take for forgeries, do not leave.
+#[test]
+fn a_hosts_signer_with_another_key_and_two_signers_at_once_are_refused() {
+    let signed = Signed::new("other-key");
+    let count = Arc::new(AtomicUsize::new(0));
+    let run = |change: fn(&mut Settings)| {
+        let (mut settings, signer) = hosted(&signed, "1.pem", &count);
+        settings.protocol.leader_timeout_ms = 10;
+        change(&mut settings);
+        let (ended, end) = channel();
+        thread::spawn(move || {
+            let done = run_with_signer(settings, signer, |start| Ledger::open(start, Options::default()));
+            ended.send(done.expect_err("it is refused").to_string())
+        });
+        end.recv_timeout(SOON).expect("it ends by itself")
+    };
+    let twice = run(|it| it.signer = Some("sock".into()));
+    assert!(twice.contains("leave one of them away"), "{twice}");
+    let other = run(|_| ());
+    assert!(other.contains("another key than that of member 0"), "{other}");
+    assert_eq!(count.load(Relaxed), 1, "the first vote ends it");
+    let (settings, _) = hosted(&signed, "0.pem", &count);
+    let none = simplex_node::run(settings, |start| Ledger::open(start, Options::default())).expect_err("it is refused");
+    assert!(none.to_string().contains("name its process as `signer`"), "{none}");
     fs::remove_dir_all(signed.network.folder()).expect("a folder");
 }

@@ -1,4 +1,4 @@
-//! The operator's walk-through in docs/PRODUCTION.md: each of its commands, as the page has it.
+//! The commands of docs/PRODUCTION.md (the operator's walk-through) and of docs/TRACE.md, each as the page has it.
 
 use std::fs;
 use std::io::Read;
@@ -9,19 +9,16 @@ use std::process::{Command, Stdio};
 use std::thread::sleep;
 use std::time::{Duration, Instant};
 
-const PAGE: &str = "../../docs/PRODUCTION.md";
-const HEAD: &str = "## Four nodes, step by step";
 /// Within what time four nodes come so far, on a machine that does much else.
 const SOON: Duration = Duration::from_secs(300);
 
-/// The page's commands, at other ports.
-fn commands(port: u16) -> String {
-    let page = fs::read_to_string(Path::new(env!("CARGO_MANIFEST_DIR")).join(PAGE)).expect("the page");
-    let (_, rest) = page.split_once(HEAD).expect("the walk-through");
-    let (_, rest) = rest.split_once("```bash\n").expect("its commands");
+/// The commands of a page's first block below a head, behind how the block begins.
+fn commands(page: &str, head: &str, begin: &str) -> String {
+    let page = fs::read_to_string(Path::new(env!("CARGO_MANIFEST_DIR")).join("../../docs").join(page)).expect("the page");
+    let (_, rest) = page.split_once(head).expect("the head");
+    let (_, rest) = rest.split_once(begin).expect("the block");
     let (commands, _) = rest.split_once("```").expect("their end");
-    assert!(commands.contains("port=27200"), "the commands name their ports first");
-    commands.replace("port=27200", &format!("port={port}"))
+    commands.to_owned()
 }
 
 /// A port from which on twenty are free.
@@ -30,8 +27,8 @@ fn free_ports() -> u16 {
     (30_000..50_000).step_by(20).find(is_free).expect("ports")
 }
 
-fn scratch() -> PathBuf {
-    let folder = std::env::temp_dir().join(format!("simplex-walk-{}", std::process::id()));
+fn scratch(name: &str) -> PathBuf {
+    let folder = std::env::temp_dir().join(format!("simplex-{name}-{}", std::process::id()));
     fs::create_dir_all(&folder).expect("a folder for the test");
     folder
 }
@@ -67,12 +64,36 @@ fn run(commands: &str, folder: &Path) -> Result<String, String> {
 
 #[test]
 fn the_commands_of_the_walk_through_run() {
-    let folder = scratch();
-    let said = run(&commands(free_ports()), &folder).unwrap_or_else(|said| panic!("the commands failed in {}: {said}", folder.display()));
+    let folder = scratch("walk");
+    let steps = commands("PRODUCTION.md", "## Four nodes, step by step", "```bash\n");
+    assert!(steps.contains("port=27200"), "the commands name their ports first");
+    let steps = steps.replace("port=27200", &format!("port={}", free_ports()));
+    let said = run(&steps, &folder).unwrap_or_else(|said| panic!("the commands failed in {}: {said}", folder.display()));
     assert!(said.is_empty(), "{said}");
     assert!(fs::metadata(folder.join("3.floor")).expect("a floor").len() > 0);
     let again =
         run("simplex-node floor --config 3.toml --out 3.floor 2>&1", &folder).expect_err("a floor that is there is not overwritten");
     assert!(again.contains("name a file that is not there yet"), "{again}");
+    fs::remove_dir_all(folder).expect("the test's own folder");
+}
+
+#[test]
+fn the_commands_for_traces_run() {
+    let folder = scratch("traces");
+    let commands = commands("TRACE.md", "# Traces", "```sh\ncd node && cargo build --release\n").replace("target/release/", "");
+    let tools = Path::new(env!("CARGO_BIN_EXE_simplex-node"));
+    for name in ["simplex-sim", "simplex-view"] {
+        let tool = tools.with_file_name(name);
+        assert!(
+            tool.exists(),
+            "{}: build the whole workspace, by `cargo build --workspace`",
+            tool.display()
+        );
+    }
+    let said = run(&commands, &folder).unwrap_or_else(|said| panic!("the commands failed in {}: {said}", folder.display()));
+    assert!(said.lines().any(|it| it.starts_with("OK")), "{said}");
+    for made in ["run.html", "run.trace"] {
+        assert!(fs::metadata(folder.join(made)).expect(made).len() > 10_000, "{made} is short");
+    }
     fs::remove_dir_all(folder).expect("the test's own folder");
 }

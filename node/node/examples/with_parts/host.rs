@@ -1,75 +1,45 @@
 //! The host of one member, made of the crates that the node is made of.
 
-use crate::inbox::Inboxes;
-use crate::keys::{Keys, Outcome};
-use simplex_chain::{FinalChain, Tail};
-use simplex_identity::{Identity, members_digest};
+use simplex_chain::{Delivery, Tail};
 use simplex_journal::Journal;
-use simplex_net::{Credentials, Greeting, Members, Peers, Places};
-use simplex_view_state::{Config, Digest, Engine, Epoch, Input, Moment, Options, Order, Output, Participant, View};
+use simplex_keys::{FromMember, Keys, Messages};
+use simplex_net::{Inbox, Peers, Places};
+use simplex_view_state::{Engine, Input, Moment, Options, Order, Output, Participant};
 use simplex_wire::{Block, Message};
-use std::collections::HashMap;
+use std::error::Error;
 use std::path::Path;
-use std::sync::{Arc, mpsc};
+use std::sync::Arc;
 use std::time::{Duration, Instant};
+
+pub type Outcome<T = ()> = Result<T, Box<dyn Error + Send + Sync>>;
 
 /// How many outputs are carried out before messages and time get a turn.
 const MOST_OUTPUTS: usize = 100;
 
 pub struct Host {
-    me: Participant,
-    members: u32,
     keys: Arc<Keys>,
     engine: Engine,
     journal: Journal,
     peers: Peers,
-    inbox: mpsc::Receiver<(Participant, Message)>,
-    blocks: HashMap<Digest, Block>,
-    chain: FinalChain<Block>,
+    inbox: Arc<Inbox<FromMember>>,
+    blocks: Delivery<Block>,
     begun: Instant,
     pub delivered: Vec<Block>,
 }
 
 impl Host {
     /// Takes the folder, and starts the member or resumes it from its journal.
-    pub fn begin(me: Participant, secret: &[u8; 32], public: &[[u8; 32]], keys: Keys, places: &Places, folder: &Path) -> Outcome<Host> {
-        let (network, key, members) = (keys.network.clone(), public[me.get() as usize], public.len() as u32);
-        let identity = Identity {
-            network,
-            key,
-            epoch: 1,
-            term_length: 1,
-            members: members_digest(public),
-        };
-        let (journal, engine) = opened(me, members, &identity, folder)?;
-        let (to_host, inbox) = mpsc::channel();
-        let keys = Arc::new(keys);
-        let greeting = Greeting::new(&[("network", &keys.network.to_string()), ("epoch", "1")]);
-        let credentials = Credentials::new(Members::of_raw_key(me, secret, public)?, greeting)?;
-        let inboxes = Inboxes {
-            keys: keys.clone(),
-            to_host,
-        };
-        let peers = Peers::start(places, credentials, inboxes, Arc::new(()))?;
-        let tail = Tail {
-            height: 0,
-            view: View::GENESIS,
-            payload: identity.genesis(),
-        }; // or the application's last block
-        let (blocks, chain, begun, delivered) = (HashMap::new(), FinalChain::new(tail), Instant::now(), Vec::new());
-        Ok(Host {
-            me,
-            members,
-            keys,
-            engine,
-            journal,
-            peers,
-            inbox,
-            blocks,
-            chain,
-            begun,
-            delivered,
-        })
+    pub fn begin(keys: Arc<Keys>, places: &Places, folder: &Path) -> Outcome<Host> {
+        let identity = keys.identity(1, 1);
+        let (journal, recovered) = Journal::open(folder, &identity, true)?;
+        let engine = simplex_journal::engine(recovered.as_ref(), &keys.config(&identity)?, &Options::default())?;
+        let (messages, inbox) = Messages::new(keys.clone());
+        let peers = Peers::start(places, keys.credentials(&identity)?, messages, Arc::new(()))?;
+        let blocks = Delivery::new(Tail::genesis(identity.genesis())); // or behind the application's last block
+        let (begun, delivered) = (Instant::now(), Vec::new());
+        #[rustfmt::skip]
+        let host = Host { keys, engine, journal, peers, inbox, blocks, begun, delivered };
+        Ok(host)
     }
 
     /// Carries out what the engine returns, and passes it what comes, until enough is done.
@@ -81,44 +51,37 @@ impl Host {
             }
             self.journal.sync()?;
             let wait = self.now().until(self.engine.wake()).min(Duration::from_millis(20));
-            if let Ok((from, message)) = self.inbox.recv_timeout(wait) {
+            if let Some((from, message)) = self.inbox.take(wait) {
                 self.receive(from, message)?;
             }
         }
         Ok(())
     }
 
-    /// Carries out one output.
     fn carry_out(&mut self, output: Output) -> Outcome {
         match output {
             Output::Store(entries) => self.journal.append(&entries)?,
             Output::Replace(entries) => self.journal.replace(&entries)?,
             Output::Vote(order) => self.vote(&order)?,
-            Output::Broadcast(certificate) => self.send_to_others(&Message::Certificate(certificate)),
-            Output::Fetch(fetch) => fetch
-                .of
-                .iter()
-                .for_each(|to| self.send(*to, &Message::AskCertificate(fetch.kind, fetch.view))),
+            Output::Broadcast(certificate) => self.peers.broadcast(&Message::Certificate(certificate)),
+            Output::Fetch(fetch) => {
+                let ask = Message::AskCertificate(fetch.kind, fetch.view);
+                fetch.of.iter().for_each(|to| self.peers.send_message(*to, &ask));
+            }
             Output::Build(context) => {
-                let block = Block::new(&context, format!("a block of member {}", self.me).as_bytes());
+                let block = Block::new(&context, format!("a block of member {}", self.keys.me()).as_bytes());
                 let payload = block.payload();
-                self.blocks.insert(payload, block);
-                self.pass(Input::Built { context, payload })?;
+                self.insert(block)?;
+                self.pass(context.built(payload))?;
             }
-            Output::Verify(_, proposal) => {
-                let (view, is_valid) = (
-                    proposal.view(),
-                    self.blocks.get(&proposal.payload).is_some_and(|it| it.is_of(&proposal)),
-                );
-                self.pass(Input::Verified { view, is_valid })?;
+            Output::Verify(_, it) => {
+                let is_valid = self.blocks.get(&it.payload).is_some_and(|block| block.is_of(&it));
+                self.pass(it.verified(is_valid))?;
             }
-            Output::Certify(proposal) => self.pass(Input::Certified {
-                view: proposal.view(),
-                is_success: true,
-            })?,
+            Output::Certify(it) => self.pass(it.certified(true))?,
             Output::Finalized(proposal) => {
-                self.chain.finalize(&proposal, None, &self.blocks)?;
-                self.deliver();
+                let blocks = self.blocks.finalize(&proposal)?;
+                self.deliver(blocks);
             }
             Output::StopBuilding(_) | Output::ProposedTwice(..) | Output::Equivocated(..) | Output::Forget(_) => {}
         }
@@ -129,13 +92,9 @@ impl Host {
     fn vote(&mut self, order: &Order) -> Outcome {
         self.journal.sync()?;
         let vote = order.signed(self.keys.sign(&order.text)?);
-        let is_leader = self.engine.leader(vote.subject.round().view) == Some(self.me);
+        let is_leader = self.engine.leader(vote.subject.round().view) == Some(self.keys.me());
         let block = vote.proposal().and_then(|it| self.blocks.get(&it.payload)).filter(|_| is_leader);
-        let message = match block {
-            Some(block) => Message::Proposal(vote.clone(), block.bytes().to_vec()),
-            None => Message::Vote(vote.clone()),
-        };
-        self.send_to_others(&message);
+        self.peers.broadcast(&Message::of_vote(vote.clone(), block));
         self.pass(Input::Vote(vote))
     }
 
@@ -143,44 +102,38 @@ impl Host {
     fn receive(&mut self, from: Participant, message: Message) -> Outcome {
         match message {
             Message::Proposal(vote, block) => {
-                let block = Block::decode(block)?;
-                self.blocks.insert(block.payload(), block);
+                self.insert(Block::decode(block)?)?;
                 if let Some(proposal) = vote.proposal() {
-                    self.pass(Input::Proposal {
-                        from: vote.signer,
-                        proposal,
-                    })?;
+                    let from = vote.signer;
+                    self.pass(Input::Proposal { from, proposal })?;
                 }
                 self.pass(Input::Vote(vote))?;
             }
             Message::Vote(vote) => self.pass(Input::Vote(vote))?,
             Message::Certificate(certificate) => self.pass(Input::Certificate(certificate))?,
-            Message::AskCertificate(_, view) => {
-                let found = self.engine.serve(view)?;
-                found.iter().for_each(|it| self.send(from, &Message::Certificate(it.clone())));
-            }
-            Message::AskBlock(_, digest) => {
-                self.blocks
-                    .get(&digest)
-                    .iter()
-                    .for_each(|it| self.send(from, &Message::Block(it.bytes().to_vec())));
-            }
-            Message::Block(bytes) => {
-                let block = Block::decode(bytes)?;
-                self.blocks.insert(block.payload(), block.clone());
-                self.chain.arrived(&block, &self.blocks)?;
-                self.deliver();
-            }
-            Message::AskRange(..) | Message::Range(_) | Message::NoRange(..) => {}
+            Message::AskCertificate(_, view) => self.answer(from, self.engine.serve(view)?.map(Message::Certificate)),
+            Message::AskBlock(_, digest) => self.answer(from, self.blocks.get(&digest).map(|it| Message::Block(it.bytes().to_vec()))),
+            Message::Block(bytes) => self.insert(Block::decode(bytes)?)?,
+            _ => {} // it keeps no archive, and its application has no snapshots
         }
         Ok(())
     }
 
-    /// Delivers final blocks in order, and asks for one that is missing.
-    fn deliver(&mut self) {
-        self.delivered.extend(self.chain.take(&self.blocks).into_iter().map(|it| it.block));
-        if let Some((view, digest)) = self.chain.hole() {
-            self.send_to_others(&Message::AskBlock(view, digest));
+    fn answer(&self, to: Participant, found: Option<Message>) {
+        found.iter().for_each(|it| self.peers.send_message(to, it));
+    }
+
+    fn insert(&mut self, block: Block) -> Outcome {
+        let blocks = self.blocks.insert(block)?;
+        self.deliver(blocks);
+        Ok(())
+    }
+
+    /// Delivers final blocks, and asks for one that is missing.
+    fn deliver(&mut self, blocks: Vec<Block>) {
+        self.delivered.extend(blocks);
+        if let Some((view, digest)) = self.blocks.hole() {
+            self.peers.broadcast(&Message::AskBlock(view, digest));
         }
     }
 
@@ -192,27 +145,4 @@ impl Host {
     fn now(&self) -> Moment {
         Moment::from_millis(self.begun.elapsed().as_millis() as u64)
     }
-
-    fn send(&self, to: Participant, message: &Message) {
-        self.peers.send(to, Arc::new(message.frame()));
-    }
-
-    fn send_to_others(&self, message: &Message) {
-        (0..self.members)
-            .map(Participant::new)
-            .filter(|to| *to != self.me)
-            .for_each(|to| self.send(to, message));
-    }
-}
-
-/// Takes the folder's journal, and starts the engine or resumes it.
-fn opened(me: Participant, members: u32, identity: &Identity, folder: &Path) -> Outcome<(Journal, Engine)> {
-    let config = Config::new(members.try_into()?, Some(me), Epoch::new(1), identity.genesis());
-    let (options, now) = (Options::default(), Moment::from_millis(0));
-    let (journal, recovered) = Journal::open(folder, identity, true)?;
-    let engine = match recovered {
-        Some(it) => Engine::resume(&config, &options, now, &it.stored, &it.frames)?,
-        None => Engine::start(&config, &options, now)?,
-    };
-    Ok((journal, engine))
 }

@@ -1,5 +1,7 @@
-//! The thread of the application. What the engine waits for comes first, then final blocks, one at a time in between.
+//! The thread of the application. What the engine waits for comes first, then what is asked of snapshots, then final blocks, one at a time in
+//! between.
 
+use super::requests::{Request, Serving};
 use super::{Application, Cancelled};
 use crate::chain::Entry;
 use crate::inbox::{Event, Inbox};
@@ -18,6 +20,8 @@ const DURABLE: Duration = Duration::from_secs(1);
 /// How long the engine's thread waits at most for a reply before it waits for the disk: a wait for the disk takes longer, and one serves
 /// the votes that follow from the reply too.
 pub const REPLY_WITHIN: Duration = Duration::from_micros(500);
+/// How many requests of a peer wait at most.
+const MOST_REQUESTS: usize = 8;
 
 /// What the application is asked, and the engine waits for.
 #[derive(Debug)]
@@ -74,6 +78,7 @@ struct Waiting {
     questions: VecDeque<Asked>,
     /// What it works on.
     running: Option<((Kind, View), Cancelled)>,
+    requests: VecDeque<Request>,
     finals: VecDeque<Entry>,
     is_closed: bool,
 }
@@ -100,12 +105,13 @@ pub struct Worker {
 }
 
 impl Worker {
-    /// Begins the thread. It answers by [`Event::Answered`], and tells that it can't go on by [`Event::Failed`].
-    pub fn begin(application: impl Application, inbox: Arc<Inbox>, counters: Arc<Counters>) -> io::Result<Worker> {
+    /// Begins the thread. It answers by [`Event::Answered`] and [`Event::Replied`], and tells that it can't go on by [`Event::Failed`].
+    pub fn begin(application: impl Application, serving: Serving, inbox: Arc<Inbox>, counters: Arc<Counters>) -> io::Result<Worker> {
         let shared = Arc::new(Shared::default());
         counters.height.store(application.height(), Relaxed);
         let mut work = Work {
             application,
+            serving,
             shared: shared.clone(),
             counters,
             asked_at: Instant::now(),
@@ -169,6 +175,16 @@ impl Worker {
         }
     }
 
+    /// Asks something of snapshots. A peer that asks for too much is not replied to.
+    pub fn request(&self, request: Request) {
+        let mut waiting = self.shared.lock();
+        let of_peer = |it: &&Request| it.peer().is_some() && it.peer() == request.peer();
+        if waiting.requests.iter().filter(of_peer).count() < MOST_REQUESTS {
+            waiting.requests.push_back(request);
+            self.shared.arrival.notify_one();
+        }
+    }
+
     /// These blocks are final, and in the archive.
     pub fn finalized(&self, entries: Vec<Entry>) {
         self.shared.lock().finals.extend(entries);
@@ -181,6 +197,7 @@ impl Worker {
             let mut waiting = self.shared.lock();
             waiting.is_closed = true;
             waiting.questions.clear();
+            waiting.requests.clear();
             waiting.running.iter().for_each(|(_, cancelled)| cancelled.cancel());
         }
         self.shared.arrival.notify_one();
@@ -211,12 +228,14 @@ impl Drop for End {
 /// What is to be done next.
 enum Next {
     Question(Asked),
+    Request(Box<Request>),
     Final(Box<Entry>),
     End,
 }
 
 struct Work<A> {
     application: A,
+    serving: Serving,
     shared: Arc<Shared>,
     counters: Arc<Counters>,
     asked_at: Instant,
@@ -237,11 +256,16 @@ impl<A: Application> Work<A> {
                     // (behind that: while a question is open, its reply is waited for)
                     self.shared.lock().running = None;
                 }
+                Next::Request(request) => {
+                    let reply = self.serving.reply(*request, &mut self.application)?;
+                    reply.into_iter().for_each(|it| inbox.tell(Event::Replied(it)));
+                    self.counters.height.store(self.application.height(), Relaxed);
+                }
                 Next::Final(entry) => self.take(&entry.block)?,
                 Next::End => return Ok(()),
             }
             if self.asked_at.elapsed() > DURABLE {
-                let durable = self.application.durable()?;
+                let durable = self.application.durable()?.min(self.serving.needed_above());
                 self.asked_at = Instant::now();
                 inbox.tell(Event::Answered(Answer::Durable(durable)));
             }
@@ -254,6 +278,9 @@ impl<A: Application> Work<A> {
             if let Some(asked) = waiting.questions.pop_front() {
                 waiting.running = Some((asked.0.key(), asked.1.clone()));
                 return Next::Question(asked);
+            }
+            if let Some(request) = waiting.requests.pop_front() {
+                return Next::Request(Box::new(request));
             }
             if let Some(entry) = waiting.finals.pop_front() {
                 return Next::Final(Box::new(entry));
@@ -288,6 +315,7 @@ impl<A: Application> Work<A> {
     fn take(&mut self, block: &Block) -> io::Result<()> {
         if block.view > self.application.last().0 {
             self.application.finalized(block)?;
+            self.serving.note(block, &mut self.application);
             self.counters.height.store(self.application.height(), Relaxed);
         }
         Ok(())
@@ -385,7 +413,7 @@ mod tests {
         let (inbox, counters) = (Arc::new(Inbox::new(1)), Arc::new(Counters::default()));
         let slow = Slow { taken: Vec::new(), begun };
         (
-            Worker::begin(slow, inbox.clone(), counters.clone()).expect("a thread"),
+            Worker::begin(slow, Serving::default(), inbox.clone(), counters.clone()).expect("a thread"),
             seen,
             inbox,
             counters,

@@ -1,13 +1,17 @@
 //! The thread of the archive: it writes final blocks, and serves peers from them, so that the thread of the engine never waits for either.
 
-use super::{Archive, Behind};
-use crate::chain::Entry;
+use super::asks::Asks;
+use super::{Archive, Behind, Limits};
+use crate::chain::{Entry, Tail};
+use crate::faults::{Stage, Trial};
 use crate::inbox::{Event, Inbox};
 use crate::metrics::Counters;
 use crate::peers::Peers;
+use crate::state_sync::installation;
 use simplex_view_state::{Digest, Participant, View};
-use simplex_wire::{LONGEST_RANGE, Message};
+use simplex_wire::{LONGEST_RANGE, Manifest, Message};
 use std::io;
+use std::path::PathBuf;
 use std::sync::Arc;
 use std::sync::atomic::{AtomicU64, AtomicUsize, Ordering::Relaxed};
 use std::sync::mpsc::{Receiver, RecvTimeoutError, Sender, channel};
@@ -19,6 +23,10 @@ use tracing::error;
 const BATCH: usize = 1024;
 /// How often the disk is waited for: until then the blocks are among those of proposals, on the disk.
 const SYNC: Duration = Duration::from_millis(500);
+/// For how long peers are served before orders are taken again.
+const SLICE: Duration = Duration::from_millis(10);
+/// How long it is waited for orders where peers have used up their shares.
+const PAUSE: Duration = Duration::from_millis(20);
 /// How often it is logged at most that peers can't be served.
 const LOGGED: Duration = Duration::from_secs(60);
 
@@ -29,8 +37,54 @@ enum Order {
     Range(Participant, View, View),
     /// A peer asked for a block of a view.
     Block(Participant, View, Digest),
+    /// A peer is offered a snapshot, which the final block of a view binds.
+    Offer(Participant, Manifest, View),
     /// The application has all blocks up to a height on the disk.
     Durable(u64),
+    /// The application took a snapshot: the archive begins anew after it.
+    BeginAfter(Tail),
+}
+
+impl Order {
+    /// The peer that asks, where one does.
+    fn peer(&self) -> Option<Participant> {
+        match self {
+            Order::Range(of, ..) | Order::Block(of, ..) | Order::Offer(of, ..) => Some(*of),
+            Order::Append(_) | Order::Durable(_) | Order::BeginAfter(_) => None,
+        }
+    }
+}
+
+/// Where the archive is, and how it is opened.
+#[derive(Clone, Debug)]
+pub struct Place {
+    /// The node's folder.
+    pub folder: PathBuf,
+    /// The digest of genesis.
+    pub genesis: [u8; 32],
+    /// How it is kept.
+    pub limits: Limits,
+    /// Whether the disk is waited for.
+    pub syncs: bool,
+    /// What is tried.
+    pub trial: Trial,
+}
+
+impl Place {
+    /// Opens the archive. One that has no block goes on from this one. How many bytes of a last record that was cut off are left out is the
+    /// second answer.
+    pub fn open(&self, start: Tail) -> io::Result<(Archive, u64)> {
+        Archive::open(&self.folder, self.genesis, self.limits, self.syncs, start)
+    }
+
+    /// Opens an archive after a snapshot, in place of the one of older blocks, which is set aside.
+    pub fn begin_after(&self, start: Tail) -> io::Result<Archive> {
+        installation::set_archive_aside(&self.folder, start.height)?;
+        self.trial.reached(Stage::Aside);
+        let (archive, _) = self.open(start)?;
+        installation::discard(&self.folder)?;
+        Ok(archive)
+    }
 }
 
 /// The thread that owns the archive.
@@ -45,12 +99,14 @@ pub struct Keeper {
 
 impl Keeper {
     /// Begins the thread. It tells of blocks that are written by [`Event::Archived`], and that the disk refuses by [`Event::Failed`].
-    pub fn begin(archive: Archive, peers: Arc<Peers>, inbox: Arc<Inbox>, counters: Arc<Counters>) -> io::Result<Keeper> {
+    pub fn begin(archive: Archive, place: Place, peers: Arc<Peers>, inbox: Arc<Inbox>, counters: Arc<Counters>) -> io::Result<Keeper> {
         let (orders, taken) = channel();
         let waiting = Arc::new(AtomicUsize::new(0));
         let synced = Arc::new(AtomicU64::new(archive.tail().view.get()));
         let work = Work {
             archive,
+            asks: Asks::new(peers.count()),
+            place,
             peers,
             inbox,
             counters,
@@ -86,6 +142,16 @@ impl Keeper {
         self.order(Order::Block(to, view, payload));
     }
 
+    /// Has a peer offered a snapshot, with the final blocks that vouch for it.
+    pub fn offer(&self, to: Participant, manifest: Manifest, bound_in: View) {
+        self.order(Order::Offer(to, manifest, bound_in));
+    }
+
+    /// The application took a snapshot: the archive begins anew after it, and the one that was is set aside.
+    pub fn begin_after(&self, tail: Tail) {
+        self.order(Order::BeginAfter(tail));
+    }
+
     /// The application has all blocks up to this height on the disk: those may be pruned.
     pub fn durable(&self, height: u64) {
         self.order(Order::Durable(height));
@@ -108,7 +174,7 @@ impl Keeper {
         }
     }
 
-    /// Waits until all that was ordered is done.
+    /// Waits until all that was ordered is done, but for what peers ask.
     pub fn stop(&mut self) {
         self.orders = None;
         if let Some(thread) = self.thread.take() {
@@ -120,6 +186,8 @@ impl Keeper {
 /// What the thread owns.
 struct Work {
     archive: Archive,
+    place: Place,
+    asks: Asks<Order>,
     peers: Arc<Peers>,
     inbox: Arc<Inbox>,
     counters: Arc<Counters>,
@@ -133,7 +201,8 @@ struct Work {
 impl Work {
     fn run(mut self, orders: &Receiver<Order>) {
         loop {
-            let first = match orders.recv_timeout(SYNC) {
+            let wait = if self.asks.is_empty() { SYNC } else { self.pause() };
+            let first = match orders.recv_timeout(wait) {
                 Ok(first) => Some(first),
                 Err(RecvTimeoutError::Timeout) => None,
                 Err(RecvTimeoutError::Disconnected) => break,
@@ -159,9 +228,23 @@ impl Work {
         Ok(())
     }
 
+    /// Serves peers for a while, and returns how long to wait for orders then: not at all where more asks can be served.
+    fn pause(&mut self) -> Duration {
+        let begun = Instant::now();
+        while begun.elapsed() < SLICE {
+            let now = Instant::now();
+            let Some((of, ask)) = self.asks.next(now) else { return PAUSE };
+            if let Err(error) = self.answer(ask) {
+                self.log(&error);
+            }
+            self.asks.took(of, now.elapsed(), Instant::now());
+        }
+        Duration::ZERO
+    }
+
     /// Writes first: peers can wait.
     fn carry_out(&mut self, batch: Vec<Order>) -> io::Result<()> {
-        let (mut written, mut asks) = (Vec::new(), Vec::new());
+        let mut written = Vec::new();
         for order in batch {
             match order {
                 Order::Append(entries) => {
@@ -169,7 +252,8 @@ impl Work {
                     written.extend(entries);
                 }
                 Order::Durable(height) => self.durable = height,
-                ask => asks.push(ask),
+                Order::BeginAfter(tail) => self.begin_after(tail)?,
+                Order::Range(of, ..) | Order::Block(of, ..) | Order::Offer(of, ..) => self.asks.push(of, order, Instant::now()),
             }
         }
         if !written.is_empty() {
@@ -180,19 +264,30 @@ impl Work {
         self.archive.prune(self.durable)?;
         self.counters.archive_bytes.store(self.archive.bytes(), Relaxed);
         self.counters.archive_first.store(self.archive.first().unwrap_or(0), Relaxed);
-        for ask in asks {
-            if let Err(error) = self.answer(ask) {
-                self.log(&error);
-            }
-        }
         Ok(())
+    }
+
+    fn begin_after(&mut self, tail: Tail) -> io::Result<()> {
+        self.archive = self.place.begin_after(tail)?;
+        self.durable = 0;
+        self.synced.store(tail.view.get(), Relaxed);
+        Ok(())
+    }
+
+    /// A snapshot with the final blocks from the one that binds it on, up to one whose finalization is here.
+    fn offer_of(&mut self, manifest: Manifest, bound_in: View) -> io::Result<Option<Message>> {
+        let before = View::new(bound_in.get().saturating_sub(1));
+        let most = LONGEST_RANGE.saturating_sub(manifest.encode().len());
+        let Behind::Blocks(range) = self.archive.behind(before, bound_in, most)? else {
+            return Ok(None);
+        };
+        let has_bond = range.blocks.last().is_some_and(|it| it.view == bound_in);
+        Ok(has_bond.then_some(Message::Snapshot(manifest, range)))
     }
 
     /// Serves a peer within its share. What is not served it asks for again.
     fn answer(&mut self, ask: Order) -> io::Result<()> {
-        let (Order::Range(to, ..) | Order::Block(to, ..)) = ask else {
-            return Ok(());
-        };
+        let Some(to) = ask.peer() else { return Ok(()) };
         if !self.peers.may_serve(to) {
             return Ok(());
         }
@@ -203,7 +298,8 @@ impl Work {
                 Behind::Pruned(first) => Message::NoRange(after, first),
                 Behind::Nothing => Message::NoRange(after, View::GENESIS),
             }),
-            Order::Append(_) | Order::Durable(_) => None,
+            Order::Offer(_, manifest, bound_in) => self.offer_of(manifest, bound_in)?,
+            Order::Append(_) | Order::Durable(_) | Order::BeginAfter(_) => None,
         };
         if let Some(message) = message {
             self.peers.serve(to, &message);

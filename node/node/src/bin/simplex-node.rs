@@ -1,15 +1,14 @@
 //! One member of a network, as a process, with the sample application.
 
 use clap::{Parser, Subcommand};
-use simplex_node::ledger::Ledger;
+use simplex_node::ledger::{Ledger, Options};
 use simplex_node::version::version;
 use simplex_node::{Outcome, Settings};
-use simplex_node::{crypto, floor, signer};
+use simplex_node::{crypto, evidence, floor, signer};
 use std::fs::File;
 use std::io::Write;
 use std::path::PathBuf;
 use std::process::ExitCode;
-use std::time::Duration;
 use tracing_subscriber::EnvFilter;
 
 /// A member of a network that runs the Simplex protocol.
@@ -55,6 +54,14 @@ enum Command {
         #[arg(long)]
         begin_at: Option<u64>,
     },
+    /// Verifies the evidence against members that a node collected: says what each line shows, and fails where one shows nothing.
+    Evidence {
+        /// The settings of any node of the network, for the members' public keys.
+        #[arg(long)]
+        config: PathBuf,
+        /// The file: `evidence` of a node's data.
+        file: PathBuf,
+    },
     /// Writes the last finalized proposal of a node that does not run, with its certificate: another node can begin there.
     Floor {
         /// The settings of that node.
@@ -76,6 +83,7 @@ fn main() -> ExitCode {
     let outcome = match (arguments.command, arguments.config) {
         (Some(Command::Keygen { out }), _) => crypto::make_key(&out).map(|public| println!("{public}")),
         (Some(Command::Floor { config, out }), _) => write_floor(&config, &out),
+        (Some(Command::Evidence { config, file }), _) => verify_evidence(&config, &file),
         (Some(it @ Command::Signer { .. }), _) => sign(it),
         (None, Some(config)) => run(&config, arguments.trace),
         (None, None) => Err("--config is lacking".into()),
@@ -119,9 +127,20 @@ fn write_floor(config: &std::path::Path, out: &std::path::Path) -> Outcome {
     Ok(())
 }
 
+fn verify_evidence(config: &std::path::Path, file: &std::path::Path) -> Outcome {
+    let verified = evidence::verify(&Settings::read(config)?, file)?;
+    for it in &verified {
+        println!("{}", it.as_ref().unwrap_or_else(|why| why));
+    }
+    match verified.iter().filter(|it| it.is_err()).count() {
+        0 => Ok(()),
+        wrong => Err(format!("{}: {wrong} of {} lines show nothing", file.display(), verified.len()).into()),
+    }
+}
+
 fn run(config: &std::path::Path, trace: Option<PathBuf>) -> Outcome {
     let mut settings = Settings::read(config)?;
     settings.events = trace.or(settings.events);
-    let works_for = Duration::from_millis(settings.trial.application_ms);
-    simplex_node::run(settings, |start| Ledger::open(start, works_for))
+    let options = Options::of(&settings);
+    simplex_node::run(settings, |start| Ledger::open(start, options))
 }

@@ -11,6 +11,8 @@ use std::time::{Duration, Instant};
 const LONGEST_REQUEST: u64 = 8192;
 /// How many requests are answered at once: who is slow with one holds up no other.
 const MOST_REQUESTS: usize = 16;
+/// How long it is waited where the system has no room for a connection or a thread.
+const NO_ROOM: Duration = Duration::from_millis(50);
 
 /// Serves the counters by HTTP, one request a connection.
 pub fn serve(address: SocketAddr, counters: Arc<Counters>) -> io::Result<SocketAddr> {
@@ -18,7 +20,12 @@ pub fn serve(address: SocketAddr, counters: Arc<Counters>) -> io::Result<SocketA
     let bound = listener.local_addr()?;
     thread::Builder::new().name("metrics".into()).spawn(move || {
         let open = Arc::new(());
-        for stream in listener.incoming().flatten() {
+        for stream in listener.incoming() {
+            // (there may be no file descriptor left for it)
+            let Ok(stream) = stream else {
+                thread::sleep(NO_ROOM);
+                continue;
+            };
             if Arc::strong_count(&open) > MOST_REQUESTS {
                 continue;
             }
@@ -28,7 +35,7 @@ pub fn serve(address: SocketAddr, counters: Arc<Counters>) -> io::Result<SocketA
                 drop(its_place);
             });
             if begun.is_err() {
-                thread::sleep(Duration::from_millis(50));
+                thread::sleep(NO_ROOM);
             }
         }
     })?;

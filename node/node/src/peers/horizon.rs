@@ -5,10 +5,10 @@ use super::locked;
 use super::verified::Verified;
 use crate::vote::kind_of;
 use simplex_view_state::{CertificateKind, Digest, Participant, Subject, View, Vote};
-use simplex_wire::digest;
+use simplex_wire::{Manifest, digest};
 use std::collections::{BTreeMap, HashMap, HashSet};
-use std::sync::Mutex;
 use std::sync::atomic::{AtomicU64, Ordering::Relaxed};
+use std::sync::{Arc, Mutex};
 
 /// How far above the current view the signature of a vote or proposal is verified at all, and what comes is remembered.
 const AHEAD: u64 = 64;
@@ -25,6 +25,19 @@ pub struct Horizon {
     verified: Verified,
     wanted: Mutex<HashSet<Digest>>,
     ranges: Mutex<HashSet<View>>,
+    snapshot: Mutex<WantedSnapshot>,
+}
+
+/// What the member asks for of snapshots.
+#[derive(Clone, Default, Debug)]
+pub enum WantedSnapshot {
+    /// Nothing.
+    #[default]
+    None,
+    /// Offers of any.
+    Offers,
+    /// Pieces of the one with this manifest, with its digest, by their indices.
+    Pieces(Arc<Manifest>, Digest, HashSet<u32>),
 }
 
 #[derive(Default)]
@@ -73,6 +86,23 @@ impl Horizon {
     /// The views behind which the member asks for final blocks. Other ranges are dropped.
     pub fn want_ranges(&self, after: HashSet<View>) {
         *locked(&self.ranges) = after;
+    }
+
+    /// What the member asks for of snapshots. All else is dropped.
+    pub fn want_snapshot(&self, wanted: WantedSnapshot) {
+        *locked(&self.snapshot) = wanted;
+    }
+
+    pub(super) fn wants_offers(&self) -> bool {
+        matches!(&*locked(&self.snapshot), WantedSnapshot::Offers)
+    }
+
+    /// The manifest of the snapshot of which a piece is asked for; `None` where it is not asked for.
+    pub(super) fn wants_piece(&self, snapshot: &Digest, index: u32) -> Option<Arc<Manifest>> {
+        match &*locked(&self.snapshot) {
+            WantedSnapshot::Pieces(manifest, digest, asked) if digest == snapshot && asked.contains(&index) => Some(manifest.clone()),
+            _ => None,
+        }
     }
 
     pub(super) fn wants_range(&self, after: View) -> bool {

@@ -11,11 +11,12 @@ use crate::settings::Turns;
 use crate::vote::is_sound;
 use simplex_net::{Bucket, Connection, Receiver};
 use simplex_view_state::{Certificate, Digest, Epoch, Participant, Subject, Vote};
-use simplex_wire::{Message, digest};
+use simplex_wire::{Manifest, Message, Range, digest};
 use std::io;
 use std::sync::Arc;
 use std::sync::atomic::Ordering::Relaxed;
 use std::time::Instant;
+use tracing::warn;
 
 /// How many forged messages end a connection.
 const MOST_FORGED: u32 = 16;
@@ -65,6 +66,13 @@ impl Connection for Link {
         if self.forged > MOST_FORGED {
             return Err(io::ErrorKind::PermissionDenied.into());
         }
+        // (the piece is asked of another member at once)
+        if let Message::Piece(snapshot, index, _) = &message
+            && !is_of_use
+            && self.reader.horizon.wants_piece(snapshot, *index).is_some()
+        {
+            return Ok(Some(Message::NoPiece(*snapshot, *index)));
+        }
         Ok(is_of_use.then_some(message))
     }
 
@@ -112,13 +120,15 @@ impl Link {
                 horizon.show(self.from, subject);
                 is_sound(&subject, epoch) && horizon.is_kept(subject.round().view) && !horizon.has(&subject) && self.verify_first(it)
             }
-            Message::AskCertificate(..) | Message::AskBlock(..) | Message::AskRange(..) => self.asks.take(1.0, Instant::now()),
-            Message::Range(it) => {
-                is_sound(&it.certificate.subject(), epoch)
-                    && horizon.wants_range(it.after)
-                    && self.verify_certificate(&it.certificate)
-                    && (it.is_linked() || self.count(false))
+            Message::AskCertificate(..) | Message::AskBlock(..) | Message::AskRange(..) | Message::AskSnapshot | Message::AskPiece(..) => {
+                self.asks.take(1.0, Instant::now())
             }
+            Message::Range(it) => horizon.wants_range(it.after) && self.verify_range(it),
+            Message::Snapshot(_, it) => horizon.wants_offers() && self.verify_range(it),
+            Message::Piece(snapshot, index, bytes) => horizon
+                .wants_piece(snapshot, *index)
+                .is_some_and(|it| self.verify_piece(&it, *index, bytes)),
+            Message::NoPiece(snapshot, index) => horizon.wants_piece(snapshot, *index).is_some(),
             Message::NoRange(after, _) => horizon.wants_range(*after),
             Message::Block(bytes) => horizon.wants(bytes),
         }
@@ -143,6 +153,26 @@ impl Link {
         let votes = self.reader.keys.votes_in(it);
         let is_good = votes.is_some_and(|it| self.verify_all(&it, || false) == Some(true));
         self.count(is_good)
+    }
+
+    /// Returns whether the blocks of a range are those that its certificate names, and that is good.
+    fn verify_range(&mut self, it: &Range) -> bool {
+        is_sound(&it.certificate.subject(), self.reader.epoch)
+            && self.verify_certificate(&it.certificate)
+            && (it.is_linked() || self.count(false))
+    }
+
+    /// Returns whether a piece is the one that the manifest names. Another one counts as a forged signature.
+    fn verify_piece(&mut self, of: &Manifest, index: u32, bytes: &[u8]) -> bool {
+        let is_good = of.is_piece(index, bytes) || self.count(false);
+        if !is_good {
+            self.reader.counters.wrong_pieces.fetch_add(1, Relaxed);
+            warn!(
+                peer = self.from.get(),
+                index, "a member sent another piece of a snapshot than the chain vouches for"
+            );
+        }
+        is_good
     }
 
     /// Returns whether a certificate is good, and none on the same was passed on before it or meanwhile.

@@ -2,6 +2,7 @@
 
 use super::Replica;
 use crate::crypto::hex;
+use crate::evidence::Evidence;
 use crate::faults::Fault;
 use crate::leader_votes::Found;
 use crate::settings::Outcome;
@@ -63,27 +64,33 @@ impl Replica {
     }
 
     /// Acts on what a comparison of proposals found: logs evidence, and sends a leader's vote to those that voted for another proposal.
-    pub(super) fn compare(&mut self, found: Found) {
+    pub(super) fn compare(&mut self, found: Found) -> Outcome {
         if let Some((first, second)) = found.evidence {
-            self.log_evidence(&first, &second);
+            self.note_evidence(&first, &second)?;
             self.show_leader(first.subject.round().view, first.signer);
         }
         if let Some((vote, to)) = found.to_send {
             let message = Message::Vote(vote);
             to.into_iter().for_each(|peer| self.parts.peers.send(peer, &message));
         }
+        Ok(())
     }
 
     /// Two votes of one member that contradict each other, as the engine found them.
-    pub(super) fn show(&mut self, first: &Vote, second: &Vote) {
+    pub(super) fn show(&mut self, first: &Vote, second: &Vote) -> Outcome {
         self.parts.counters.contradictions.fetch_add(1, Relaxed);
-        self.log_evidence(first, second);
+        self.note_evidence(first, second)
     }
 
-    /// Logs two votes of one member that contradict each other, each with its signature: whoever reads them can verify that. Once a view.
-    fn log_evidence(&mut self, first: &Vote, second: &Vote) {
+    /// Logs two votes of one member that contradict each other, and writes them to the file of evidence, each with its signature: whoever
+    /// reads them can verify that. Once a view.
+    fn note_evidence(&mut self, first: &Vote, second: &Vote) -> Outcome {
         let (signer, view) = (first.signer, first.subject.round().view);
         if self.shown.insert((view, signer)) {
+            self.evidence.write(&Evidence {
+                first: first.clone(),
+                second: second.clone(),
+            })?;
             let (first_signature, second_signature) = (hex(&first.signature), hex(&second.signature));
             let (signer, view, first, second) = (signer.get(), view.get(), first.subject, second.subject);
             warn!(
@@ -96,6 +103,7 @@ impl Replica {
                 "two votes of one member"
             );
         }
+        Ok(())
     }
 
     /// Counts and logs that a leader proposed twice, once a view.

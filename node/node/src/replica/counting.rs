@@ -78,8 +78,8 @@ impl Replica {
             info!(view = views.current.get(), "the clock jumps");
         }
         if self.parts.settings.trial.cut.is_some() {
-            let members = self.parts.settings.trial.cut_off();
-            self.parts.peers.cut_off(members);
+            let cuts = self.parts.settings.trial.cuts();
+            self.parts.peers.cut(cuts);
         }
         Ok(())
     }

@@ -47,7 +47,7 @@ impl Replica {
         let (subject, view) = (it.subject(), it.round().view);
         if self.parts.engine.admits_vote(view) {
             let found = self.leader_votes.see_certificate(&it);
-            self.compare(found);
+            self.compare(found)?;
         }
         if self.handle(Input::Certificate(it))? {
             self.parts.horizon.know(subject);

@@ -2,9 +2,10 @@
 //! asked for them in ranges.
 
 use super::Replica;
-use crate::chain::Entry;
+use crate::chain::{Entry, FinalChain, Tail};
 use crate::settings::Outcome;
-use simplex_view_state::{CertificateKind, Participant, Proposal, View};
+use simplex_chain::CatchUp;
+use simplex_view_state::{CertificateKind, Participant, Proposal, Subject, View};
 use simplex_wire::{Message, Range};
 use std::sync::atomic::Ordering::Relaxed;
 use std::time::{Duration, Instant};
@@ -78,15 +79,42 @@ impl Replica {
         self.catch_up.refused(from, after, first > View::GENESIS, now);
     }
 
+    /// How many of the others have pruned the block after the chain's last one.
+    pub(super) fn pruned(&self) -> usize {
+        self.catch_up.pruned_by(self.chain.tail().view)
+    }
+
+    /// The chain goes on after this block, which the application has by a snapshot: nothing is known of what follows but its last
+    /// finalization.
+    pub(super) fn begin_after(&mut self, tail: Tail) -> Outcome {
+        self.parts.keeper.begin_after(tail);
+        self.chain = FinalChain::new(tail);
+        self.catch_up = CatchUp::new(self.parts.settings.me(), self.parts.settings.count().get());
+        self.lag = Lag::none();
+        let last = self.views()?.last_finalized;
+        if let Some(it) = self.parts.engine.certificate(CertificateKind::Finalization, last)?
+            && let Subject::Finalize(proposal) = it.subject()
+        {
+            self.chain.finalize(&proposal, Some(it), &self.parts.blocks)?;
+        }
+        self.deliver()
+    }
+
     /// Hands final blocks to the archive, block on block, as far as none is lacking.
     pub(super) fn deliver(&mut self) -> Outcome {
-        let entries = self.chain.take(&self.parts.blocks);
+        // (while the application takes a snapshot, the chain is about to begin anew)
+        let entries = if self.state_sync.is_restoring() {
+            Vec::new()
+        } else {
+            self.chain.take(&self.parts.blocks)
+        };
         if !entries.is_empty() {
             self.lag.grew = Instant::now();
             self.parts.keeper.append(entries);
         }
         let (hole, target) = (self.chain.hole(), self.chain.target());
-        self.waiting.deliver(hole, self.turns.leader(target), self.parts.clock.now());
+        let asked = hole.filter(|_| !self.state_sync.spares_blocks());
+        self.waiting.deliver(asked, self.turns.leader(target), self.parts.clock.now());
         if self.parts.blocks.bytes() > MOST_BLOCKS && hole.is_some() {
             self.parts.blocks.forget(target)?;
         }
@@ -104,7 +132,8 @@ impl Replica {
         let (tail, target) = (self.chain.tail(), self.chain.target());
         self.note_lag();
         let is_long = self.lag.since.is_some_and(|(since, _)| since.elapsed() > PATIENCE);
-        if self.chain.hole().is_none() || (target.get() - tail.view.get() < FAR && !is_long) {
+        let is_near = target.get() - tail.view.get() < FAR && !is_long;
+        if self.chain.hole().is_none() || is_near || self.state_sync.spares_blocks() {
             self.parts.horizon.want_ranges(Default::default());
             return;
         }
@@ -155,12 +184,12 @@ impl Replica {
         let is_nowhere = others > 0 && pruned == others;
         let height = if is_nowhere { tail.height + 1 } else { 0 };
         self.parts.counters.missing_height.store(height, Relaxed);
-        if is_nowhere && is_due(&mut self.lag.lack_logged, LACK_LOGGED) {
+        if is_nowhere && self.parts.settings.state_sync.is_none() && is_due(&mut self.lag.lack_logged, LACK_LOGGED) {
             error!(
                 height,
                 after_view = tail.view.get(),
-                "no other member has the final block of this height any more: begin this member anew at a floor, with a copy of another \
-                 one's `archive` and `chain` in its folder; and give the members a larger `most_bytes` in `[archive]`"
+                "no other member has the final block of this height any more: set `state_sync` and begin this node again, so that it takes \
+                 the application's state of another one; and give the members a larger `most_bytes` in `[archive]`"
             );
         }
     }

@@ -9,7 +9,7 @@ use simplex_identity::NetworkName;
 use simplex_view_state::Subject;
 use std::collections::BTreeMap;
 use std::fs::{self, File, OpenOptions, TryLockError};
-use std::io::Write;
+use std::io::{ErrorKind, Write};
 use std::path::{Path, PathBuf};
 
 /// How many votes are in the file before old ones are dropped.
@@ -176,14 +176,13 @@ impl Guard {
         let highest = self.votes.last_key_value().map_or(0, |((view, _), _)| *view);
         self.lowest = self.lowest.max(highest.saturating_sub(KEPT_VIEWS));
         self.votes = self.votes.split_off(&(self.lowest, '\0'));
-        let new = self.path.with_extension("new");
-        let mut file = OpenOptions::new().create(true).truncate(true).write(true).read(true).open(&new)?;
+        let (new, mut file) = new_file(&self.path)?;
         lock(&new, &file)?;
         let lines = self.votes.iter().map(|((view, kind), text)| format!("{view} {kind} {text}\n"));
         let all: String = std::iter::once(self.head()).chain(lines).collect();
-        file.write_all(all.as_bytes())?;
-        file.sync_all()?;
-        fs::rename(&new, &self.path)?;
+        let written = file.write_all(all.as_bytes()).and_then(|()| file.sync_all());
+        written.map_err(|error| at(&new, error))?;
+        fs::rename(&new, &self.path).map_err(|error| at(&new, error))?;
         sync_folder(&self.path)?;
         self.file = file;
         Ok(())
@@ -204,6 +203,24 @@ fn lock(path: &Path, file: &File) -> Outcome {
         Err(TryLockError::WouldBlock) => Err(at(path, "another signer has this file: end that one first").into()),
         Err(TryLockError::Error(error)) => Err(at(path, error).into()),
     }
+}
+
+/// A file beside this one that was not there: its name with `.new` behind it, and a number where a file has that name already, which may be
+/// anybody's and stays as it is.
+fn new_file(path: &Path) -> Outcome<(PathBuf, File)> {
+    let named = |number: u32| {
+        let mut name = path.as_os_str().to_owned();
+        name.push(if number == 0 { ".new".to_owned() } else { format!(".new{number}") });
+        PathBuf::from(name)
+    };
+    for new in (0..1000).map(named) {
+        match OpenOptions::new().create_new(true).append(true).read(true).open(&new) {
+            Ok(file) => return Ok((new, file)),
+            Err(error) if error.kind() == ErrorKind::AlreadyExists => {}
+            Err(error) => return Err(at(&new, error).into()),
+        }
+    }
+    Err(at(&named(0), "this file and a thousand more like it are in the way: move them away").into())
 }
 
 fn sync_folder(path: &Path) -> Outcome {
@@ -336,6 +353,23 @@ mod tests {
         drop(guard);
         let mut guard = Guard::open(&path, owner()).expect("its own");
         assert!(refused(&mut guard, finalize(20_002)).contains("never both"));
+    }
+
+    #[test]
+    fn old_votes_are_dropped_beside_files_of_others_which_stay_as_they_are() {
+        let path = path("guard-beside").with_file_name("guard.txt");
+        let beside = ["guard.new", "guard.txt.new", "guard.txt.new1"].map(|name| path.with_file_name(name));
+        beside.iter().for_each(|it| fs::write(it, "mine").expect("a disk"));
+        let mut guard = Guard::create(&path, owner(), 1).expect("a disk");
+        for view in 1..=20_000 {
+            guard.votes.insert((view, 'x'), hex(&nullify(view).encode()));
+        }
+        guard.admit(&nullify(20_001)).expect("a disk");
+        drop(guard);
+        let guard = Guard::open(&path, owner()).expect("its own");
+        assert_eq!(guard.lowest, 20_001 - KEPT_VIEWS);
+        assert!(beside.iter().all(|it| fs::read_to_string(it).expect("a file") == "mine"));
+        assert!(!path.with_file_name("guard.txt.new2").exists());
     }
 
     #[test]

@@ -25,6 +25,12 @@ pub const SOON: Duration = Duration::from_secs(60);
 pub struct Link(Arc<Mutex<Session>>);
 
 impl Link {
+    /// A connection that was begun.
+    #[allow(dead_code, reason = "some tests alone need it")]
+    pub fn of(session: Session) -> Link {
+        Link(Arc::new(Mutex::new(session)))
+    }
+
     /// Begins a connection of a member to the node at an address.
     #[allow(dead_code, reason = "some tests alone need it")]
     pub fn begin(credentials: &Credentials, address: &Address) -> Link {

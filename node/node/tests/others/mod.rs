@@ -4,7 +4,7 @@ use crate::members::{Link, SOON, hear, played, settings_of};
 use simplex_node::crypto::Keys;
 use simplex_node::network::{Network, Plan, folder_of};
 use simplex_node::peers;
-use simplex_node::settings::Protocol;
+use simplex_node::settings::{Protocol, Settings};
 use simplex_view_state::{Certificate, Context, Digest, Epoch, Participant, Proposal, Round, Subject, View, Vote};
 use simplex_wire::{Block, Message};
 use std::fs;
@@ -43,7 +43,12 @@ fn plan(name: &str) -> Plan {
 #[allow(dead_code, reason = "some tests alone need it")]
 impl Others {
     pub fn around_a_node(name: &str) -> Others {
+        Others::around_a_node_with(name, |_| ())
+    }
+
+    pub fn around_a_node_with(name: &str, change: impl FnOnce(&mut Settings)) -> Others {
         let mut network = Network::new(plan(name)).expect("keys and settings");
+        network.set(0, change).expect("a disk");
         let settings = settings_of(&network);
         let (keys, credentials) = played(&settings);
         let (told, heard) = channel();

@@ -60,6 +60,9 @@ struct Arguments {
     /// How long each message is on its way, in milliseconds.
     #[arg(long, default_value_t = 0)]
     delay: u64,
+    /// How many bytes each block holds.
+    #[arg(long, value_parser = clap::value_parser!(u32).range(1..=1_000_000))]
+    block_bytes: Option<u32>,
     /// Votes do not wait for the disk.
     #[arg(long)]
     no_sync: bool,
@@ -113,6 +116,8 @@ fn run(arguments: &Arguments) -> Outcome<bool> {
     }
     let folder = arguments.folder.clone().unwrap_or_else(|| folder_of("run"));
     let mut network = Network::new(plan(arguments, folder.clone())?)?;
+    let bytes = arguments.block_bytes.map(|it| it as usize);
+    (0..arguments.nodes).try_for_each(|index| network.set(index, |it| it.trial.block_bytes = bytes))?;
     let traces = traced::begin(&mut network, arguments)?;
     network.begin_all()?;
     let (begun, mut kills) = (Instant::now(), Vec::new());

@@ -1,0 +1,221 @@
+//! State sync: a node that lacks more final blocks than it wants to fetch, or blocks that its peers have pruned, takes the application's state
+//! of its peers in their place.
+//!
+//! 1. It asks all others for a snapshot. What one offers is verified: a finalization of n - f members, blocks that are linked to it, of which
+//!    the lowest binds the snapshot's manifest. So a member can offer an old snapshot, and no false one.
+//! 2. Of those that were offered in a second it fetches the highest one, in [`pieces`], of all others at once. Each piece has the digest that
+//!    the manifest says. Who sends another one, or none, is asked no more.
+//! 3. The pieces are in a file, which is installed ([`installation`]) once the journal has a finalization that is no lower than the snapshot:
+//!    so the journal, which stays as it is, is never behind the application.
+//!
+//! All the while the node votes. The blocks after the snapshot come as they do for any node that lags.
+
+pub mod installation;
+pub mod pieces;
+
+use installation::Download;
+use pieces::Pieces;
+use simplex_view_state::{Digest, Participant, View};
+use simplex_wire::Manifest;
+use std::collections::BTreeSet;
+use std::sync::Arc;
+use std::time::{Duration, Instant};
+
+/// How often others are asked for snapshots, until one has a good one.
+pub const ASKED_EVERY: Duration = Duration::from_secs(2);
+/// How long after the first good offer another one may be chosen.
+pub const CHOSEN_AFTER: Duration = Duration::from_secs(1);
+/// How long blocks are not asked for while others are asked for snapshots.
+pub const BLOCKS_WAIT: Duration = Duration::from_secs(10);
+/// How long no piece may come before another snapshot is asked for.
+pub const STALLED: Duration = Duration::from_secs(60);
+
+/// A snapshot that a finalized block binds.
+#[derive(Clone, Debug)]
+pub struct Offer {
+    /// What it is of.
+    pub manifest: Arc<Manifest>,
+    /// The manifest's digest.
+    pub digest: Digest,
+    /// The view of the finalization that vouches for it.
+    pub finalized: View,
+}
+
+/// How far a node is with a snapshot.
+#[derive(Debug, Default)]
+pub enum StateSync {
+    /// It needs none.
+    #[default]
+    Idle,
+    /// Others are asked for snapshots.
+    Asking {
+        /// Since when.
+        begun: Instant,
+        /// Since when nobody had one, and that was not said.
+        since: Instant,
+        /// When they were asked last.
+        asked: Option<Instant>,
+        /// The highest one that is good, and when the first one came.
+        best: Option<(Instant, Offer)>,
+        /// Who offered one since others were asked last.
+        offered: BTreeSet<Participant>,
+    },
+    /// Pieces are fetched.
+    Fetching(Box<Fetch>),
+    /// The application takes it.
+    Restoring(Offer),
+}
+
+/// A snapshot whose pieces are fetched.
+#[derive(Debug)]
+pub struct Fetch {
+    /// Which one.
+    pub offer: Offer,
+    /// Which pieces are asked of whom.
+    pub pieces: Pieces,
+    /// The file that they are in.
+    pub download: Download,
+    /// When a piece came last.
+    pub grew: Instant,
+}
+
+impl StateSync {
+    /// Begins to ask.
+    pub fn begin() -> StateSync {
+        StateSync::Asking {
+            begun: Instant::now(),
+            since: Instant::now(),
+            asked: None,
+            best: None,
+            offered: BTreeSet::new(),
+        }
+    }
+
+    /// Takes a good offer, where one is asked for. The highest one counts.
+    pub fn offered(&mut self, offer: Offer) {
+        let StateSync::Asking { best, .. } = self else { return };
+        match best {
+            Some((_, other)) if other.manifest.height >= offer.manifest.height => {}
+            Some((_, other)) => *other = offer,
+            None => *best = Some((Instant::now(), offer)),
+        }
+    }
+
+    /// The offer that is chosen now, if it is time.
+    pub fn chosen(&self) -> Option<Offer> {
+        match self {
+            StateSync::Asking {
+                best: Some((since, offer)),
+                ..
+            } if since.elapsed() >= CHOSEN_AFTER => Some(offer.clone()),
+            _ => None,
+        }
+    }
+
+    /// Whether others are to be asked for snapshots now.
+    pub fn is_to_ask(&mut self) -> bool {
+        match self {
+            StateSync::Asking { asked, offered, .. } if asked.is_none_or(|it| it.elapsed() >= ASKED_EVERY) => {
+                *asked = Some(Instant::now());
+                offered.clear();
+                true
+            }
+            _ => false,
+        }
+    }
+
+    /// Whether others were asked for so long in vain that it is to be said, which it is once in such a time.
+    pub fn is_in_vain(&mut self) -> bool {
+        match self {
+            StateSync::Asking { since, best: None, .. } if since.elapsed() >= STALLED => {
+                *since = Instant::now();
+                true
+            }
+            _ => false,
+        }
+    }
+
+    /// Whether a snapshot comes in place of the blocks that are lacking, so that these are not asked for.
+    pub fn spares_blocks(&self) -> bool {
+        match self {
+            StateSync::Idle => false,
+            StateSync::Asking { begun, .. } => begun.elapsed() < BLOCKS_WAIT,
+            StateSync::Fetching(_) | StateSync::Restoring(_) => true,
+        }
+    }
+
+    /// Whether a member's offer is looked at: one of each, each time that they are asked.
+    pub fn takes_offer_of(&mut self, from: Participant) -> bool {
+        match self {
+            StateSync::Asking { offered, .. } => offered.insert(from),
+            _ => false,
+        }
+    }
+
+    /// Whether the application takes a snapshot: until it has, no final block is handed on.
+    pub fn is_restoring(&self) -> bool {
+        matches!(self, StateSync::Restoring(_))
+    }
+
+    /// The fetch of this snapshot.
+    pub fn fetch_of(&mut self, snapshot: &Digest) -> Option<&mut Fetch> {
+        match self {
+            StateSync::Fetching(it) if it.offer.digest == *snapshot => Some(it),
+            _ => None,
+        }
+    }
+}
+
+/// Whether a node that lacks so many final views takes a snapshot: `above` is its setting, and `pruned` of the others, of which at most
+/// `faulty` lie, have pruned the next block.
+pub fn is_wanted(above: Option<u64>, lacking: u64, pruned: usize, others: usize, faulty: usize) -> bool {
+    above.is_some_and(|above| lacking > above || (others > 0 && pruned >= (others - faulty.min(others)).max(1)))
+}
+
+/// Whom a fetch asks for what: a piece of this index.
+pub type Ask = (Participant, u32);
+
+#[cfg(test)]
+mod tests {
+    use super::*;
+
+    fn offer(height: u64) -> Offer {
+        let manifest = Manifest::of(height, View::new(height), Digest::default(), &[1]).expect("a piece");
+        Offer {
+            digest: manifest.digest(),
+            manifest: Arc::new(manifest),
+            finalized: View::new(height + 9),
+        }
+    }
+
+    #[test]
+    fn of_what_is_offered_the_highest_counts_after_a_while() {
+        let mut it = StateSync::begin();
+        assert!(!it.is_in_vain());
+        assert!(it.is_to_ask() && !it.is_to_ask());
+        let of = Participant::new;
+        assert!(it.takes_offer_of(of(2)) && it.takes_offer_of(of(3)) && !it.takes_offer_of(of(2)));
+        assert!(!StateSync::Idle.takes_offer_of(of(2)));
+        for height in [20, 60, 40] {
+            it.offered(offer(height));
+        }
+        assert!(it.chosen().is_none());
+        let StateSync::Asking {
+            best: Some((since, _)), ..
+        } = &mut it
+        else {
+            panic!("{it:?}")
+        };
+        *since -= CHOSEN_AFTER;
+        assert_eq!(it.chosen().map(|it| it.manifest.height), Some(60));
+    }
+
+    #[test]
+    fn a_snapshot_is_wanted_where_too_much_is_lacking_or_pruned() {
+        assert!(!is_wanted(None, u64::MAX, 3, 3, 1), "no setting");
+        assert!(!is_wanted(Some(100), 100, 1, 3, 1), "one may lie");
+        assert!(is_wanted(Some(100), 101, 0, 3, 1));
+        assert!(is_wanted(Some(100), 1, 2, 3, 1), "a faulty one never says so");
+        assert!(!is_wanted(Some(100), 1, 0, 0, 0), "a member alone");
+    }
+}
