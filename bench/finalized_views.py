@@ -1,5 +1,5 @@
-"""Many views that are finalized and not dropped, a record that is restarted once, and a term that is far longer than a life's
-work: what an engine comes to that runs for long, or whose leader proposes far ahead."""
+"""Many views that are finalized and not dropped, a record that is restarted once, and a term that is far longer than
+any run: the state of a member that runs for long, or whose leader proposes far ahead."""
 
 from healthy_views import payload
 

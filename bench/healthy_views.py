@@ -1,4 +1,4 @@
-"""Whole views of a healthy member: what a driver asks and hands in from the proposal to the pruning, with the replies.
+"""Whole views of a healthy member: a host's calls from the proposal to the pruning, with the replies.
 
 Member 0 of four leads each fourth term. Each view builds on the one before, and each payload is 7."""
 

@@ -43,11 +43,11 @@ def table(seconds):
         for words in ((), ("--no-sync",)):
             lines = list(run("--nodes", str(nodes), "--seconds", str(seconds), *words))
             rows = [found.groups() for line in lines if (found := ROW.match(line))]
-            lives = [found.groups() for line in lines if (found := LIFE.match(line))]
+            lifetimes = [found.groups() for line in lines if (found := LIFE.match(line))]
             mean = lambda kept, place: sum(float(it[place]) for it in kept) / len(kept)
             views, half, most = (mean(rows, place) for place in (2, 3, 4))
-            waits = mean(lives, 3) / mean(rows, 1)
-            shares = " | ".join(f"{mean(lives, place):.1f} %" for place in (0, 1, 2, 4, 5))
+            waits = mean(lifetimes, 3) / mean(rows, 1)
+            shares = " | ".join(f"{mean(lifetimes, place):.1f} %" for place in (0, 1, 2, 4, 5))
             disk = "not waited for" if words else "waited for"
             print(f"| {nodes} | {disk} | {views:.0f} | {half:.1f} ms | {most:.1f} ms | {waits:.2f} | {shares} |", flush=True)
 

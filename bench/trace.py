@@ -17,7 +17,7 @@ import time
 from pathlib import Path
 
 sys.path.insert(0, str(Path(__file__).resolve().parent.parent / "tests"))
-from lib import chromium  # noqa: E402
+from lib.pages import chromium  # noqa: E402
 from lib.program import ROOT  # noqa: E402
 
 NETWORKS = (("4 members", "--members 4 --views 1000"), ("7 members, 2 of them equivocate, terms of 5",

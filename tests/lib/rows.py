@@ -1,7 +1,7 @@
 """Scripts of members whose settings change from life to life: budgets, stalls, retentions, and recoveries at a floor.
 
 `enduring` alone serves them, since `viewstate` has no line for settings. What stands behind each reply is one line's; a line
-`settings STALL BUDGET RETENTION FLOOR` sets up the lives that begin from then on, with 0 for no stall timeout and for genesis."""
+`settings STALL BUDGET RETENTION FLOOR` sets up the lifetimes that begin from then on, with 0 for no stall timeout and for genesis."""
 
 from lib.scripts import REPLIED, Script
 
@@ -90,11 +90,11 @@ VOTES = """
     record => record 8
 """
 ROWS = (
-    ("a view that was given up is skipped within the budget of each life", 5, BUDGETS),
+    ("a view that was abandoned is skipped within the budget of each lifetime", 5, BUDGETS),
     ("the first view that is not finalized stalls, in the life that has a stall timeout", 5, STALLS),
     ("a pruning goes by the last life's retention, and a retention grows only before", 1, RETENTIONS),
     ("entries below the retention of a floor are passed over, and a later floor rolls nothing back", 1, RECOVERIES),
-    ("votes and verdicts over lives that begin at floors", 1, VOTES),
+    ("votes and verdicts over lifetimes that begin at floors", 1, VOTES),
 )
 
 

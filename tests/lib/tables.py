@@ -3,7 +3,7 @@
 
     tests/lib/tables.py
 
-`tests/copies.py` fails where a table is not the one that is written here. A new page is named in `src/program.rt` by hand."""
+`tests/pages/copies.py` fails where a table is not the one that is written here. A new page is named in `src/program.rt` by hand."""
 
 import sys
 from pathlib import Path
