@@ -21,7 +21,7 @@ pub fn output() -> FlatOutput
     no_output(STATUS_NO_HANDLE)
 }
 
-/// Returns the status of an engine.
+/// Returns what a getter of an engine's status returns for a null handle: that status, and zeros.
 pub fn engine_status() -> FlatStatus
     ensures { result.status ≡ 15 }
 {
@@ -34,7 +34,7 @@ pub fn engine_status() -> FlatStatus
     }
 }
 
-/// Returns an open fetch.
+/// Returns what a getter of an open fetch returns for a null handle: that status, and no fetch.
 pub fn open() -> FlatOpen
     ensures { result.status ≡ 15 }
 {

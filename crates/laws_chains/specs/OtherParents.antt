@@ -33,7 +33,7 @@ certifies_other p =
     ∷ (Calls (Certified p.round.view true 0), Judged true (Some (certificate p)))
     ∷ []
 
--- the member that voted for the proposal that is not certified
+-- the member that voted for the proposal that is not certified: it receives proposals (`hears`), verifies and certifies them, and votes
 abbrev pub misled : Execution ℕ ℕ ℕ
 misled = execution_from (long_start 0) (
     hears (first_of 0) true
@@ -45,7 +45,7 @@ misled = execution_from (long_start 0) (
     ++ votes_for 0 two
     ∷ [])
 
--- another one
+-- a member that voted for the proposal that is certified, as the leader led the others to
 abbrev pub led : ℕ → Execution ℕ ℕ ℕ
 led me = execution_from (long_start me) (
     hears (first_of 1) true

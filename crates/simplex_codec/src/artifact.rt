@@ -136,7 +136,7 @@ fn decode_kind<S: SchemeCodec, D: DigestCodec>(
     }
 }
 
-/// The artifact of an accepted certificate.
+/// Returns an accepted certificate as an entry of the record.
 fn accepted<S: SchemeCodec, D: Digest>(entry: Certificate<S, D>) -> Artifact<S, D>
     ensures same { artifact_bytes D.bytes S.certificate_bytes S.signature_bytes result ≡ encoding D.bytes
         (certificate_facts S.certificate_bytes entry) }

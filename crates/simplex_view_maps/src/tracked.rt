@@ -118,8 +118,8 @@ impl<V> Tracked<V> {
         distance(view, self.entries[place].0, probes) > 0
     }
 
-    /// Returns whether the view is at its place.
-    fn stands_at(&self, place: usize, view: View) -> bool
+    /// Returns whether the entry at this place is the view's.
+    fn has_view_at(&self, place: usize, view: View) -> bool
         requires { place ≡ map.len (below self.now view) }
         ensures { result ≡ map.contains_key self.now view }
     {
@@ -137,7 +137,7 @@ impl<V> Tracked<V> {
         if place == self.len() {
             return place;
         }
-        if self.stands_at(place, view) {
+        if self.has_view_at(place, view) {
             place + 1
         } else {
             place
@@ -149,7 +149,7 @@ impl<V> Tracked<V> {
         ensures { option_copied result ≡ map.get self.now view }
     {
         let (place, _) = self.find(view);
-        if self.stands_at(place, view) {
+        if self.has_view_at(place, view) {
             Some(&*self.entries[place].1)
         } else {
             None
@@ -163,7 +163,7 @@ impl<V> Tracked<V> {
         ensures value { option_copied_mut result ≡ map.get self.old view }
     {
         let (place, _) = self.find(view);
-        if !self.stands_at(place, view) {
+        if !self.has_view_at(place, view) {
             return None;
         }
         let entry = self.entries.get_mut(place)?;
@@ -178,7 +178,7 @@ impl<V> Tracked<V> {
         ensures after { self.new ≡ after_insert self.old view value result }
     {
         let (place, _) = self.find(view);
-        if self.stands_at(place, view) {
+        if self.has_view_at(place, view) {
             return Ok(Some(value));
         }
         let boxed = boxed(self.entries.allocator(), value)?;
@@ -316,7 +316,7 @@ impl<V: Drop> Tracked<V> {
         ensures { self.new ≡ map.remove self.old view }
     {
         let (place, _) = self.find(view);
-        if self.stands_at(place, view) {
+        if self.has_view_at(place, view) {
             self.entries.remove(place);
         }
     }

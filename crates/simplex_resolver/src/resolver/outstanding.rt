@@ -18,7 +18,7 @@ fn add_view(views: &mut BTreeSet<View>, view: View) -> Result<(), AllocError>
     Ok(())
 }
 
-/// The lowest view of the range that is among the views.
+/// Returns the lowest of the views from `start` to `end`, both included.
 fn first_within(views: &BTreeSet<View>, start: View, end: View) -> Option<View>
     requires { start ≤ end }
     ensures { result ≡ slice_get (filter (λ v. nat_le start v && nat_le v end) views.now.keys) 0 }
@@ -26,7 +26,7 @@ fn first_within(views: &BTreeSet<View>, start: View, end: View) -> Option<View>
     views.range(start..=end).next().copied()
 }
 
-/// Drops the views of the range, at the cost of those that are dropped.
+/// Removes the views from `start` to `end`, both included. What it costs grows with the views that it removes.
 pub(super) fn drop_range(views: &mut BTreeSet<View>, start: View, end: View)
     ensures { (v : ℕ) → has views.new.keys v ≡ (not (nat_le start v && nat_le v end) && has views.old.keys v) }
 {

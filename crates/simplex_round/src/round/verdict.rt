@@ -10,7 +10,7 @@ use super::{Certification, Round};
 use simplex_types::types::{CertificateScheme, Digest, Proposal};
 
 impl<S: CertificateScheme, D: Digest> Round<S, D> {
-    /// The progress of the certification.
+    /// Returns how far the certification of this view has come.
     pub fn certification(&self) -> Certification
         ensures { result ≡ self.now.certification }
     {

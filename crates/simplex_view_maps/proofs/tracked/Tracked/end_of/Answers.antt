@@ -13,8 +13,8 @@ overflow_add-result g c =
     let fits : c.find-place.result.0 + 1 < 2 ^ 64 = omega (arith, at_most, other, c.len.type_inv) in
     search rules
 
-pub returns-then-stands_at : goal.returns-then-stands_at
-returns-then-stands_at g c = len-below-there _ _ _ c.find-place.ensures.place (sym c.if-stands_at.ensures)
+pub returns-then-has_view_at : goal.returns-then-has_view_at
+returns-then-has_view_at g c = len-below-there _ _ _ c.find-place.ensures.place (sym c.if-has_view_at.ensures)
 
-pub returns-else-stands_at : goal.returns-else-stands_at
-returns-else-stands_at g c = len-below-not_there _ _ _ c.find-place.ensures.place (sym c.if-stands_at.ensures)
+pub returns-else-has_view_at : goal.returns-else-has_view_at
+returns-else-has_view_at g c = len-below-not_there _ _ _ c.find-place.ensures.place (sym c.if-has_view_at.ensures)

@@ -11,7 +11,7 @@ use Rattle.simplex_view_maps.proofs.tracked.Tracked.get_mut.Goals as goal
 pub returns-in_err-entry : goal.returns-in_err-entry
 returns-in_err-entry g c =
     let same = entries_of_made _ _ refl c.self.invariant in
-    let within = (value_at _ _ _ _ same c.find-place.ensures.place (sym c.if-not-stands_at.ensures)).0 in
+    let within = (value_at _ _ _ _ same c.find-place.ensures.place (sym c.if-not-has_view_at.ensures)).0 in
     let there : c.find-place.result.0 < length c.self.inside.entries = omega (arith, within, same_length c.self.inside.entries) in
     absurd (false≢true (c.in_err-entry.ensures.variant.1 there))
 
@@ -21,7 +21,7 @@ invariant_of-self-lent g c =
     let entry = c.in_ok-entry.entry.now in
     let same = entries_of_made (unboxed entries) _ refl c.self.invariant in
     λ w. sorted_from_entries (unboxed (set entries c.find-place.result.0 (entry.0, with_value entry.1 w))) _
-    (boxed_written _ _ entries _ entry w same c.find-place.ensures.place (sym c.if-not-stands_at.ensures) c.in_ok-entry.ensures.value)
+    (boxed_written _ _ entries _ entry w same c.find-place.ensures.place (sym c.if-not-has_view_at.ensures) c.in_ok-entry.ensures.value)
 
 pub returns : goal.returns
 returns g c =
@@ -29,7 +29,7 @@ returns g c =
     let entry = c.in_ok-entry.entry.now in
     let same = entries_of_made _ _ c.self.view_is c.self.invariant in
     let place = rw c.self.view_is at c.find-place.ensures.place in
-    let there = rw c.self.view_is at (sym c.if-not-stands_at.ensures) in
+    let there = rw c.self.view_is at (sym c.if-not-has_view_at.ensures) in
     let read = c.in_ok-entry.ensures.value in (
       lent_alike (λ w. made_from_entries (unboxed (set entries c.find-place.result.0 (entry.0, with_value entry.1 w))) _ (boxed_written _ _ entries _ entry w same place there read)),
       record { writes_back = tt; value = rw c.deref_mut.ensures.value (boxed_value _ _ entries _ entry same place there read) },

@@ -1,11 +1,11 @@
--- How the contract of `stands_at` follows: the map has the view exactly where the entry at its place is the view's, and not past the end.
+-- How the contract of `has_view_at` follows: the map has the view exactly where the entry at its place is the view's, and not past the end.
 use Rattle.std.proofs.Common.{◌∙◌, ◌≤◌, length, ap, sym, refl, Some, inl, inr, arith}
 use Rattle.std.proofs.lemmas.Bool.{cases_lt, false≢true}
 use Rattle.std.proofs.lemmas.Option.{slice_get-get_or, slice_get_past}
 use Rattle.simplex_view_maps.specs.Tracked.{unboxed}
 use Rattle.simplex_view_maps.proofs.Maps.{entries_of_made, contains_at, contains_past}
 use Rattle.simplex_view_maps.proofs.Unboxed.{unboxed_at, same_length, opened}
-use Rattle.simplex_view_maps.proofs.tracked.Tracked.stands_at.Goals as goal
+use Rattle.simplex_view_maps.proofs.tracked.Tracked.has_view_at.Goals as goal
 
 pub returns-in-Some : goal.returns-in-Some
 returns-in-Some g c =

@@ -13,10 +13,10 @@ pub invariant_of-self-2 : goal.invariant_of-self-2
 invariant_of-self-2 g c =
     let same = entries_of_made _ _ c.self.view_is c.self.invariant in
     let put = unboxed-insert _ _ _ _ _ _ c.in_ok-boxed.ensures.holds c.in_default.ensures.items in
-    sorted_from_entries _ _ (inserted _ _ _ _ _ _ same c.find-place.ensures.place (sym c.if-stands_at.ensures) put)
+    sorted_from_entries _ _ (inserted _ _ _ _ _ _ same c.find-place.ensures.place (sym c.if-has_view_at.ensures) put)
 
 pub returns-clause-after : goal.returns-clause-after
 returns-clause-after g c =
     let same = entries_of_made _ _ c.self.view_is c.self.invariant in
     let put = unboxed-insert _ _ _ _ _ _ c.in_ok-boxed.ensures.holds c.in_default.ensures.items in
-    made_from_entries _ _ (inserted _ _ _ _ _ _ same c.find-place.ensures.place (sym c.if-stands_at.ensures) put)
+    made_from_entries _ _ (inserted _ _ _ _ _ _ same c.find-place.ensures.place (sym c.if-has_view_at.ensures) put)

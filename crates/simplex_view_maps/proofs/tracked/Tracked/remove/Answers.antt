@@ -7,18 +7,18 @@ use Rattle.simplex_view_maps.proofs.tracked.Tracked.remove.Goals as goal
 pub remove-requires : goal.remove-requires
 remove-requires g c =
     let same = entries_of_made _ _ c.self.view_is c.self.invariant in
-    let within = (value_at _ _ _ _ same c.find-place.ensures.place (sym c.if-stands_at.ensures)).0 in
+    let within = (value_at _ _ _ _ same c.find-place.ensures.place (sym c.if-has_view_at.ensures)).0 in
     omega (arith, within, same_length c.self.inside.entries)
 
 pub invariant_of-self : goal.invariant_of-self
 invariant_of-self g c =
     let same = entries_of_made _ _ c.self.view_is c.self.invariant in
-    sorted_from_entries _ _ (removed _ _ _ _ _ same c.find-place.ensures.place (sym c.if-stands_at.ensures) (unboxed-remove c.self.inside.entries c.remove.new.self c.find-place.result.0 c.remove.ensures))
+    sorted_from_entries _ _ (removed _ _ _ _ _ same c.find-place.ensures.place (sym c.if-has_view_at.ensures) (unboxed-remove c.self.inside.entries c.remove.new.self c.find-place.result.0 c.remove.ensures))
 
-pub returns-then-stands_at : goal.returns-then-stands_at
-returns-then-stands_at g c =
+pub returns-then-has_view_at : goal.returns-then-has_view_at
+returns-then-has_view_at g c =
     let same = entries_of_made _ _ c.self.view_is c.self.invariant in
-    made_from_entries _ _ (removed _ _ _ _ _ same c.find-place.ensures.place (sym c.if-stands_at.ensures) (unboxed-remove c.self.inside.entries c.remove.new.self c.find-place.result.0 c.remove.ensures))
+    made_from_entries _ _ (removed _ _ _ _ _ same c.find-place.ensures.place (sym c.if-has_view_at.ensures) (unboxed-remove c.self.inside.entries c.remove.new.self c.find-place.result.0 c.remove.ensures))
 
-pub returns-else-stands_at : goal.returns-else-stands_at
-returns-else-stands_at g c = remove_absent _ _ (sym c.if-stands_at.ensures)
+pub returns-else-has_view_at : goal.returns-else-has_view_at
+returns-else-has_view_at g c = remove_absent _ _ (sym c.if-has_view_at.ensures)
