@@ -1,4 +1,5 @@
--- What is asked of peers: how a resolver's effects change the open fetches, and that these are exactly of missing certificates.
+-- What is asked of peers: how a resolver's effects change the open fetches, and that these are exactly of missing
+-- certificates.
 use Rattle.std.specs.Prelude.{◌≡◌, ℕ, ◌<◌, Bool, true, false, not, ◌&&◌, nat_lt, List, [], ◌∷◌, All, is_some}
 use Rattle.simplex_resolver.specs.Repair.{has}
 use Rattle.simplex_resolver.specs.declared.resolver.effect.Effect.{Effect}
@@ -63,8 +64,8 @@ module _ {K L D : Type 0} where
   abbrev pub is_missing : List ℕ → StateFacts K L D → Fetch → Bool
   is_missing wanted x fetch = nat_lt x.finalized fetch.view && not (is_held wanted x fetch)
 
-  -- exactly the missing certificates are asked for: each fetch is of a view above the last finalized one, and of a certificate that the
-  -- state does not have; and nothing that the resolver has open is left out
+  -- exactly the missing certificates are asked for: each fetch is of a view above the last finalized one, and of a
+  -- certificate that the state does not have; and nothing that the resolver has open is left out
   pub record FetchesTheMissing (wanted : List ℕ) (x : StateFacts K L D) (fetches : List Fetch) : Type 0 where
     pub ahead : All (λ fetch. x.finalized < fetch.view) fetches
     pub lacking : All (λ fetch. is_held wanted x fetch ≡ false) fetches

@@ -8,7 +8,8 @@ use Rattle.engine_fetches.specs.declared.fetches.Fetch.{Fetch}
 use Rattle.engine_fetches.specs.declared.repair.Repair.{Repair}
 use Rattle.engine_fetches.specs.OutstandingFetches.{after_effects}
 
--- the fetches have become these, asked of the same peers round-robin, and a finalization passed this view; everything else is the same
+-- the fetches have become these, asked of the same peers round-robin, and a finalization passed this view; everything
+-- else is the same
 pub record HasPassed (view : ℕ) (fetches : List Fetch) (old new : Repair) : Type 0 where
   pub fetches_now : new.fetches.wanted.items ≡ fetches
   pub peers : new.fetches.peers ≡ old.fetches.peers
@@ -31,8 +32,8 @@ pub record IsRepaired (moment : ℕ) (call : Call) (old new : Repair) : Type 0 w
   pub passed : new.passed ≡ old.passed
   pub behind : new.is_behind ≡ old.is_behind
 
--- a call that names no view above v is refused: without memory, fetches may be left out; else the resolver says why, and it and the fetches
--- are unchanged
+-- a call that names no view above v is refused: without memory, fetches may be left out; else the resolver says why,
+-- and it and the fetches are unchanged
 abbrev pub IsUnrepaired : ℕ → Fault → Repair → Repair → Type 0
 IsUnrepaired v OutOfMemory old new = Unit {0}
 IsUnrepaired v fault old new =

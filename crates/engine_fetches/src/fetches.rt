@@ -3,7 +3,8 @@
 //! It guarantees:
 //!
 //! - a fetch stays open until its certificate arrived or a finalization passed it;
-//! - a fetch is asked again once the retry interval is over, of the next peer in round-robin order and never of this member;
+//! - a fetch is asked again once the retry interval is over, of the next peer in round-robin order and never of this
+//!   member;
 //! - `wake` is the moment of the next asking.
 //!
 //! Moments are milliseconds and never decrease.
@@ -148,8 +149,8 @@ impl Fetches {
         }
     }
 
-    /// Opens a fetch, which is due at once: of this member first, if one is named. Returns whether it was opened; one that is open is
-    /// unchanged.
+    /// Opens a fetch, which is due at once: of this member first, if one is named. Returns whether it was opened; one
+    /// that is open is unchanged.
     pub fn open(
         &mut self,
         kind: FetchKind,
@@ -203,8 +204,8 @@ impl Fetches {
             .retain(|fetch| !fetch.is_within(kind, first, last));
     }
 
-    /// Returns the first fetch whose moment has come, and the peer to ask. The fetch is due again, of the next peer, after the retry
-    /// interval. An engine calls this until there is none.
+    /// Returns the first fetch whose moment has come, and the peer to ask. The fetch is due again, of the next peer,
+    /// after the retry interval. An engine calls this until there is none.
     pub fn ask(&mut self, now: u64) -> Option<Ask>
         ensures asked_again { IsAsking now self.old result self.new }
         ensures still { (kind : _) (view : ℕ)

@@ -1,4 +1,5 @@
-//! The requests to peers: the resolver, which decides of which views nullifications are outstanding, and the open fetches.
+//! The requests to peers: the resolver, which decides of which views nullifications are outstanding, and the open
+//! fetches.
 //!
 //! It guarantees that no outstanding view above the last finalized one is left out.
 
@@ -70,15 +71,15 @@ impl Repair {
         &self.fetches
     }
 
-    /// Passes a certificate to the resolver, and opens and closes fetches as it says. A missing certificate is asked for from this moment
-    /// on.
+    /// Passes a certificate to the resolver, and opens and closes fetches as it says. A missing certificate is asked
+    /// for from this moment on.
     ///
     /// - `no_other`: so a fetch that the resolver does not want was open before, and was not wanted then either.
     ///
     /// # Errors
     ///
-    /// Those of `LawfulResolver::updated`. After `OutOfMemory` fetches may be left out; after another error the resolver and the fetches
-    /// are unchanged.
+    /// Those of `LawfulResolver::updated`. After `OutOfMemory` fetches may be left out; after another error the
+    /// resolver and the fetches are unchanged.
     pub fn updated<S: CertificateScheme, D: Digest>(
         &mut self,
         certificate: &Certificate<S, D>,
@@ -187,15 +188,16 @@ impl Repair {
         self.fetches.ask(now)
     }
 
-    /// Returns whether a wanted view above this one may be left out: because memory ran out, or higher ones were passed.
+    /// Returns whether a wanted view above this one may be left out: because memory ran out, or higher ones were
+    /// passed.
     fn may_leave_out(&self, finalized: View) -> bool
         ensures { IsFalse result ↔ ((self.now.is_behind ≡ false) × (self.now.passed ≤ finalized)) }
     {
         self.is_behind || finalized < self.passed
     }
 
-    /// Closes the fetches of certificates that the state is not missing, and no other. Since the last finalized view never decreases, no
-    /// fetch is left out.
+    /// Closes the fetches of certificates that the state is not missing, and no other. Since the last finalized view
+    /// never decreases, no fetch is left out.
     ///
     /// # Errors
     ///

@@ -37,9 +37,10 @@ module _ {S L D K G C : Type 0} where
   IsUnpruned old new = IsUnchanged old new ⊎ ((new.failed ≡ true) × (new.member.facts ≡ pruned_member old.member.facts))
 
 module _ {S L D K G C : Type 0} (bytes_of : C → List ℕ) where
-  -- over all that was returned and what is queued: each vote comes after an output that stores it, and the proposals that are reported as
-  -- final rise; until the engine fails, a journal that carries them out holds a prefix of the record, and each stored vote leaves; the last
-  -- finalized view of the member is the highest one that was reported; and how far back the stored entries reach is noted
+  -- over all that was returned and what is queued: each vote comes after an output that stores it, and the proposals
+  -- that are reported as final rise; until the engine fails, a journal that carries them out holds a prefix of the
+  -- record, and each stored vote leaves; the last finalized view of the member is the highest one that was reported;
+  -- and how far back the stored entries reach is noted
   pub record IsJournaled (given : List (Output S D Stored K G C)) (member : Journaled S L D K G C) : Type 0 where
     pub lawful : IsLawfulOutbox given member.outbox
     pub stored : member.failed ≡ false
@@ -63,9 +64,10 @@ module _ {S L D K G C : Type 0} (bytes_of : C → List ℕ) where
   IsWholeAlive member = member.failed ≡ false → IsWhole member
 
 module _ {S L D K G C : Type 0} (same : D → D → Bool) (elect : Elect L) (bytes_of : C → List ℕ) where
-  -- besides, in a lifetime that began when the member had done `earlier`, `all` is what it has done so far, as member `i`: it has signed
-  -- each vote of its record, and accepted each finalization that was reported or is queued to be; and until the engine fails, a host may
-  -- stop after each output that was returned or is queued, and amid each `Store`, also of the entries by which the record has grown since
+  -- besides, in a lifetime that began when the member had done `earlier`, `all` is what it has done so far, as member
+  -- `i`: it has signed each vote of its record, and accepted each finalization that was reported or is queued to be;
+  -- and until the engine fails, a host may stop after each output that was returned or is queued, and amid each
+  -- `Store`, also of the entries by which the record has grown since
   pub record IsTraced (term_length i : ℕ) (earlier : List (TraceEvent D)) (given : List (Output S D Stored K G C))
       (all : List (TraceEvent D))
       (member : Journaled S L D K G C) : Type 0 where
@@ -111,9 +113,9 @@ pub record HasRisen {K L D : Type 0} (first last : StateFacts K L D) : Type 0 wh
 module _ {S L D K G C : Type 0} (same : D → D → Bool) (elect : Elect L) (bytes_of : C → List ℕ)
     (is_signature : K → Subject D → G → Type 0)
     (taken : Option (Subject D)) where
-  -- what `IsJournaled` says is preserved, what was queued stays queued, and what the member has done stays done; besides it accepts certificates
-  -- only on this subject, and signs votes, under its key; of the finalizations that it accepts each of a view above all reported ones is
-  -- reported; and while it has not failed, its views do not fall
+  -- what `IsJournaled` says is preserved, what was queued stays queued, and what the member has done stays done;
+  -- besides it accepts certificates only on this subject, and signs votes, under its key; of the finalizations that it
+  -- accepts each of a view above all reported ones is reported; and while it has not failed, its views do not fall
   pub record Continues (old new : Journaled S L D K G C) : Type 0 where
     pub kept : (given : List (Output S D Stored K G C)) → IsJournaled bytes_of given old
         → IsJournaled bytes_of given new
@@ -142,7 +144,8 @@ module _ {L D K : Type 0} (same : D → D → Bool) (elect : Elect L) (taken : O
 module _ {S L D K G C : Type 0} (same : D → D → Bool) (elect : Elect L) (bytes_of : C → List ℕ)
     (is_signature : K → Subject D → G → Type 0)
     (taken : Option (Subject D)) where
-  -- besides, these are returned, and it stays traced by what it has done in that call, and its votes stay signed under its key
+  -- besides, these are returned, and it stays traced by what it has done in that call, and its votes stay signed under
+  -- its key
   pub record EmitsOn (out : List (Output S D Stored K G C)) (old new : Journaled S L D K G C) : Type 0 where
     pub more : List (TraceEvent D)
     pub on_this : All (IsActionOn taken) more

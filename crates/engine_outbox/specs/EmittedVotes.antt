@@ -1,4 +1,4 @@
--- Each vote that an engine stores, it also gives out.
+-- Each vote that an engine stores, it also returns.
 use Rattle.std.specs.Prelude.{◌⊎◌, List, [], ◌∷◌, Contains}
 use Rattle.engine_votes.specs.declared.votes.Vote.{Vote}
 use Rattle.engine_outbox.specs.declared.output.Output.{Output}
@@ -7,8 +7,8 @@ use Rattle.engine_outbox.specs.Entries.{votes_of_entries}
 use Rattle.engine_outbox.specs.Outputs.{entries_in, stored_in}
 
 module _ {S D J K G C : Type 0} where
-  -- of these outputs of one lifetime, each vote that is stored after the first output is an output too, or was stored by the first one,
-  -- which stores the record that the lifetime begins with, with the votes of earlier lifetimes
+  -- of these outputs of one lifetime, each vote that is stored after the first output is an output too, or was stored
+  -- by the first one, which stores the record that the lifetime begins with, with the votes of earlier lifetimes
   abbrev pub AllAreReturned : List (Output S D J K G C) → Type 0
   AllAreReturned [] = Unit {0}
   AllAreReturned (first ∷ rest) =

@@ -47,7 +47,8 @@ module _ {D : Type 0} where
   raised_to view (p ∷ rest) = raised_to (max view p.round.view) rest
 
 module _ {S D J K G C : Type 0} where
-  -- each of these proposals whose view is above all that were reported is queued to be reported as final, and nothing else is
+  -- each of these proposals whose view is above all that were reported is queued to be reported as final, and nothing
+  -- else is
   pub record ReportsRising (finals : List (Proposal D)) (old new : Outbox S D J K G C) : Type 0 where
     pub queued : finals_in new.queue.items ≡ finals_in old.queue.items ++ rising_above old.told finals
     pub told : new.told ≡ raised_to old.told finals

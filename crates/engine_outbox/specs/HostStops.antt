@@ -1,4 +1,5 @@
--- When a host stops between two outputs, or amid a `Store`: the journal that was written so far is the record of a member.
+-- When a host stops between two outputs, or amid a `Store`: the journal that was written so far is the record of a
+-- member.
 use Rattle.std.specs.Prelude.{◌≡◌, ◌⊎◌, ℕ, Bool, List, [], ◌∷◌, ◌++◌, drop, Contains, Vec}
 use Rattle.std.specs.List.{flat_map}
 use Rattle.std.specs.declared.alloc.Global.{Global}
@@ -57,9 +58,9 @@ module _ {S D J K G C : Type 0} where
 
 module _ {S L D K G C : Type 0} (same : D → D → Bool) (elect : Elect L) (bytes_of : C → List ℕ)
     (term_length i : ℕ) (earlier : List (TraceEvent D)) where
-  -- a host may stop after these outputs, of a lifetime that began when the member had done `earlier`, and in which it has done `all` so
-  -- far: the journal that they write is the record of the member at some moment of this lifetime, and each vote that they store was
-  -- signed by then
+  -- a host may stop after these outputs, of a lifetime that began when the member had done `earlier`, and in which it
+  -- has done `all` so far: the journal that they write is the record of the member at some moment of this lifetime, and
+  -- each vote that they store was signed by then
   pub record MayStopAfter (all : List (TraceEvent D)) (outs : List (Output S D Stored K G C)) : Type 0 where
     pub member : SignedMember K L D G
     pub since : List (TraceEvent D)
@@ -69,13 +70,15 @@ module _ {S L D K G C : Type 0} (same : D → D → Bool) (elect : Elect L) (byt
     pub holds : IsRecordOf bytes_of member (journal_of outs)
     pub signed : WereSigned (earlier ++ since) (votes_of_entries (stored_in outs))
 
-  -- it may after each of these outputs, and amid each `Store`; before the first output of a lifetime nothing of it was written
+  -- it may after each of these outputs, and amid each `Store`; before the first output of a lifetime nothing of it was
+  -- written
   abbrev pub MayStopAfterEach : List (TraceEvent D) → List (Output S D Stored K G C) → Type 0
   MayStopAfterEach all [] = ⊥
   MayStopAfterEach all (first ∷ rest) =
       (carried : List (Output S D Stored K G C)) → MayBeCarriedOut rest carried → MayStopAfter all (first ∷ carried)
 
-  -- it may after these outputs and the first entries by which the record has grown since it had this number, however many of them
+  -- it may after these outputs and the first entries by which the record has grown since it had this number, however
+  -- many of them
   abbrev pub MayStopAmid : List (TraceEvent D) → List (Output S D Stored K G C) → SignedMember K L D G → ℕ → Type 0
   MayStopAmid all outs member count =
       (part : Vec (Artifact S D K G C) Global) (rest : List (Artifact S D K G C))

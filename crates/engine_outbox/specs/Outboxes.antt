@@ -14,8 +14,9 @@ use Rattle.engine_outbox.specs.Finalizations.{finals_in, RiseByView, EndsAt}
 use Rattle.engine_outbox.specs.Outputs.{stored_in, storing, work_in, AreBehind}
 
 module _ {S D J K G C : Type 0} where
-  -- over all that was returned and what is queued each vote comes after an output that stores it, and so would the vote that may be
-  -- repeated; and the views of the proposals that are reported as final rise, up to the highest one that was reported
+  -- over all that was returned and what is queued each vote comes after an output that stores it, and so would the vote
+  -- that may be repeated; and the views of the proposals that are reported as final rise, up to the highest one that
+  -- was reported
   pub record IsLawfulOutbox (given : List (Output S D J K G C)) (box : Outbox S D J K G C) : Type 0 where
     pub behind : AreBehind [] (given ++ box.queue.items)
     pub repeat : IfSome box.repeat (λ vote. Contains (votes_of_entries (stored_in (given ++ box.queue.items))) vote)

@@ -27,11 +27,13 @@ abbrev pub is_far_below : (reach lowest current : ℕ) → Bool
 is_far_below reach lowest current = nat_lt (current - lowest) (lowest - reach)
 
 module _ {K L D : Type 0} where
-  -- the lowest view whose entries a pruning retains: one that the state retains, or the record by its own last finalized view
+  -- the lowest view whose entries a pruning retains: one that the state retains, or the record by its own last
+  -- finalized view
   abbrev pub lowest_retained_after : MemberFacts K L D → StateFacts K L D → ℕ
   lowest_retained_after m x = min (min_active x) (finalized_in m.entries - m.retention)
 
-  -- while the member has not failed, its record has at most this number of entries, or a pruning would drop no more views than it retains
+  -- while the member has not failed, its record has at most this number of entries, or a pruning would drop no more
+  -- views than it retains
   abbrev pub IsShort : ℕ → MemberFacts K L D → Type 0
   IsShort long m = IfSome m.life
       (λ x. (length m.entries ≤ long) ⊎ AreNear (lowest_retained_after m x) x.current m.entries)

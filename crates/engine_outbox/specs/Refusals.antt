@@ -43,8 +43,8 @@ module _ {K L D : Type 0} where
   abbrev pub without_offer_at : ℕ → MemberFacts K L D → MemberFacts K L D
   without_offer_at view m = record m { outstanding_work = without_offer m.outstanding_work view }
 
-  -- what an ignored call changes: nothing; or a reason of a timeout notes its moment, and so does a verdict, for which nothing waits any
-  -- more
+  -- what an ignored call changes: nothing; or a reason of a timeout notes its moment, and so does a verdict, for which
+  -- nothing waits any more
   abbrev pub IsLeftByCall : CallFacts D → MemberFacts K L D → MemberFacts K L D → Type 0
   IsLeftByCall (TriggerTimeout _ _ now) m left = (left ≡ m) ⊎ IsNoted now m left
   IsLeftByCall (Certified view _ now) m left = (left ≡ m) ⊎ IsNoted now (without_offer_at view m) left

@@ -22,9 +22,9 @@ use Rattle.engine_outbox.specs.Signatures.{AreSigned}
 use Rattle.engine_outbox.specs.HostStops.{votes_recorded, WereSigned, IsLawfulStop}
 
 module _ {K L D G : Type 0} (same : D → D → Bool) (elect : Elect L) (is_signature : K → Subject D → G → Type 0) where
-  -- a member continues where a lifetime stopped after these outputs, which began when the member had done `earlier`: it has done all that
-  -- was done by then, and signed each vote that was carried out since, and each of its record, under the key of those that the outputs
-  -- store; so its next lifetime may begin with all that
+  -- a member continues where a lifetime stopped after these outputs, which began when the member had done `earlier`: it
+  -- has done all that was done by then, and signed each vote that was carried out since, and each of its record, under
+  -- the key of those that the outputs store; so its next lifetime may begin with all that
   pub record ContinuesFrom {S C : Type 0} (term_length i : ℕ) (earlier : List (TraceEvent D))
       (outs : List (Output S D Stored K G C))
       (member : SignedMember K L D G) : Type 0 where

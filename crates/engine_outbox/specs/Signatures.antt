@@ -1,4 +1,5 @@
--- The signatures of votes: each stored vote, and so each emitted one, is the member's, signed under its key on its own subject.
+-- The signatures of votes: each stored vote, and so each emitted one, is the member's, signed under its key on its own
+-- subject.
 use Rattle.std.specs.Prelude.{◌≡◌, ℕ, List, [], ◌++◌, Contains, Some, IfSome, slice_get}
 use Rattle.simplex_types.specs.declared.types.messages.Subject.{Subject}
 use Rattle.simplex_member.specs.MemberFacts.{MemberFacts, SignedMember}
@@ -22,7 +23,8 @@ module _ {K D G : Type 0} (is_signature : K → Subject D → G → Type 0) (i :
       × is_signature key vote.subject vote.signature
 
 module _ {S L D K G C : Type 0} (is_signature : K → Subject D → G → Type 0) where
-  -- the member signs under the key, and the votes of its record are signed under it, and those that the returned or queued outputs store
+  -- the member signs under the key, and the votes of its record are signed under it, and those that the returned or
+  -- queued outputs store
   pub record IsSignedBy (i : ℕ) (key : K) (given : List (Output S D Stored K G C))
       (member : Journaled S L D K G C) : Type 0 where
     pub signs : SignsBy i key member.member.facts

@@ -35,9 +35,10 @@ use std::alloc::{AllocError, Global};
 
 /// A member, and the outputs of its lifetime that the host must still carry out.
 ///
-/// `IsJournaled` says which outputs were returned so far, in order. `begin` begins that list, each call preserves it by its clause `continues`,
-/// and `next` appends what it returns. `keeps_the_laws` states what is true of the whole list. `Continues` also says what the member has done
-/// in a call: votes, and the acceptance of a passed certificate, which is reported as final if it is a finalization.
+/// `IsJournaled` says which outputs were returned so far, in order. `begin` begins that list, each call preserves it by
+/// its clause `continues`, and `next` appends what it returns. `keeps_the_laws` states what is true of the whole list.
+/// `Continues` also says what the member has done in a call: votes, and the acceptance of a passed certificate, which
+/// is reported as final if it is a finalization.
 #[derive(Drop)]
 pub struct Journaled<S: CertificateScheme, L: Elector<S>, D: Digest> {
     member: LawfulMember<S, L, D>,
@@ -72,14 +73,15 @@ impl<S: Scheme<D>, L: Elector<S>, D: Digest> Journaled<S, L, D> {
     ghost use Rattle.engine_outbox.specs.Signatures.{AreSigned, IsSignedBy, StaysSigned, BeginsSigned, EmitsSigned};
     ghost use Rattle.engine_outbox.specs.Refusals.{is_refused, says_nothing, IsLeftByCall};
 
-    /// Begins a lifetime: the whole record is to be stored in place of all that is stored, before anything else. What is final already is
-    /// never reported.
+    /// Begins a lifetime: the whole record is to be stored in place of all that is stored, before anything else. What
+    /// is final already is never reported.
     ///
     /// - `kept`: nothing was returned.
     /// - `whole`: all of the record is queued.
     /// - `told`: no proposal is queued to be reported as final.
     /// - `begins`: nothing else is queued.
-    /// - `traced`: what the member has done before traces it, if each vote of its record was signed by then (`IsTraced`).
+    /// - `traced`: what the member has done before traces it, if each vote of its record was signed by then
+    ///   (`IsTraced`).
     /// - `signed`: the stored votes are signed under the member's key, if those of its record are (`IsSignedBy`).
     pub fn begin(
         alloc: Global,
@@ -136,8 +138,8 @@ impl<S: Scheme<D>, L: Elector<S>, D: Digest> Journaled<S, L, D> {
 
     /// Passes a certificate to the member. Without memory nothing has changed.
     ///
-    /// - `continues`: the member accepts no certificate but this one; a finalization that it accepts is reported as final, if its view is
-    ///   above all reported views.
+    /// - `continues`: the member accepts no certificate but this one; a finalization that it accepts is reported as
+    ///   final, if its view is above all reported views.
     /// - `answered`, `refused`: as of `call`.
     /// - `no_work`: no work is queued.
     /// - `signed`: the stored votes stay signed under the member's key.
@@ -209,13 +211,14 @@ impl<S: Scheme<D>, L: Elector<S>, D: Digest> Journaled<S, L, D> {
         Ok(())
     }
 
-    /// Prunes the record, after the state's own prune, and queues what is left in place of all that is stored. Before that it queues the
-    /// new entries of the record, since no vote is sent by a record that is replaced.
+    /// Prunes the record, after the state's own prune, and queues what is left in place of all that is stored. Before
+    /// that it queues the new entries of the record, since no vote is sent by a record that is replaced.
     ///
     /// - `whole`: all of the record is queued.
     /// - `waiting`: what the member waits for is the same.
     /// - `pruned`: the record is pruned, as by `Member::prune_record`, and nothing else of the member has changed.
-    /// - `unpruned`: without memory nothing has changed, or it is so pruned and has failed: what is stored is no longer the record.
+    /// - `unpruned`: without memory nothing has changed, or it is so pruned and has failed: what is stored is no longer
+    ///   the record.
     /// - `no_work`: as of `submit`.
     /// - `signed`: the stored votes stay signed under the member's key.
     pub fn prune_record(&mut self) -> Result<(), AllocError>
@@ -231,7 +234,8 @@ impl<S: Scheme<D>, L: Elector<S>, D: Digest> Journaled<S, L, D> {
         self.replace()
     }
 
-    /// Prunes the record, of which all is queued to be stored or was, and queues what is left in place of all that is stored.
+    /// Prunes the record, of which all is queued to be stored or was, and queues what is left in place of all that is
+    /// stored.
     fn replace(&mut self) -> Result<(), AllocError>
         requires { StoresRecord S.certificate_bytes self.old }
         ensures continues { Continues D.eq L.elect S.certificate_bytes S.IsSignature None self.old self.new }
@@ -338,8 +342,8 @@ impl<S: Scheme<D>, L: Elector<S>, D: Digest> Journaled<S, L, D> {
         self.member.state()
     }
 
-    /// Returns whether the member offered the view's proposal for certification and has received no verdict on it; false once it has
-    /// failed.
+    /// Returns whether the member offered the view's proposal for certification and has received no verdict on it;
+    /// false once it has failed.
     pub fn awaits_verdict(&self, view: View) -> bool
         ensures { result ≡ is_offered self.now.member.facts.outstanding_work view }
     {
@@ -364,15 +368,17 @@ impl<S: Scheme<D>, L: Elector<S>, D: Digest> Journaled<S, L, D> {
     /// Does nothing: its contract is the laws of all outputs that it returned, and of all that its member has done.
     ///
     /// - `behind`: each vote comes after an output that stores it, with exactly its signature.
-    /// - `stored`: until it fails, if all of the record is queued or was, a journal that carries out all returned and queued outputs holds
-    ///   the record, and what a journal stores beside it. So a member that is resumed from it continues from the record.
-    /// - `emitted`: until it fails, each stored vote was returned or is queued. The exceptions are votes of the record that the lifetime
-    ///   began with; the first output stores them.
-    /// - `stops`: until it fails, a host may stop after each output that was returned or is queued, and amid each `Store`, of which only
-    ///   the first entries were written. The journal is then the record of a member that this one was at some moment of this lifetime, and
-    ///   that member had signed each vote among these outputs.
+    /// - `stored`: until it fails, if all of the record is queued or was, a journal that carries out all returned and
+    ///   queued outputs holds the record, and what a journal stores beside it. So a member that is resumed from it
+    ///   continues from the record.
+    /// - `emitted`: until it fails, each stored vote was returned or is queued. The exceptions are votes of the record
+    ///   that the lifetime began with; the first output stores them.
+    /// - `stops`: until it fails, a host may stop after each output that was returned or is queued, and amid each
+    ///   `Store`, of which only the first entries were written. The journal is then the record of a member that this
+    ///   one was at some moment of this lifetime, and that member had signed each vote among these outputs.
     /// - `finals`: of each proposal that it reported as final, its member accepted the finalization.
-    /// - `signed`: each vote that it returned is its member's, with a signature on the vote's own subject under the member's key.
+    /// - `signed`: each vote that it returned is its member's, with a signature on the vote's own subject under the
+    ///   member's key.
     /// - `rising`: the views of the proposals that it reported as final rise.
     /// - `last`: the last of them, reported or queued, is of the member's last finalized view.
     /// - `lawful`: what its member has done keeps the voting rules, over all its lifetimes.
@@ -415,8 +421,8 @@ impl<S: Scheme<D>, L: Elector<S>, D: Digest> Journaled<S, L, D> {
 
 /// Does nothing: its contract is the law that a host may stop between any two outputs, and resume from its journal.
 ///
-/// The host carried outputs out in order and stopped after one of them, as `Journaled::keeps_the_laws`, clause `stops`, allows. A member is
-/// then resumed from the journal that these outputs have written.
+/// The host carried outputs out in order and stopped after one of them, as `Journaled::keeps_the_laws`, clause `stops`,
+/// allows. A member is then resumed from the journal that these outputs have written.
 ///
 /// - That member is the same member of the network, and has done what it had done by then.
 /// - It has signed each vote that the host carried out, and each vote of its record.

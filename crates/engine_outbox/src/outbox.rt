@@ -1,9 +1,9 @@
 //! The outbox: the outputs that the host must carry out, in order. No vote leaves before it is stored.
 //!
-//! It guarantees that in the list of all returned and queued outputs, each vote comes after a `Store` or a `Replace` that holds its entry,
-//! with exactly its signature. It reads votes from the entries to be stored, not from what the core returned: `store` receives the new
-//! entries of a record, and each vote in them is queued right after them. It also guarantees that the views of the proposals that it
-//! reports as final rise.
+//! It guarantees that in the list of all returned and queued outputs, each vote comes after a `Store` or a `Replace`
+//! that holds its entry, with exactly its signature. It reads votes from the entries to be stored, not from what the
+//! core returned: `store` receives the new entries of a record, and each vote in them is queued right after them. It
+//! also guarantees that the views of the proposals that it reports as final rise.
 
 ghost use Rattle.std.specs.Prelude.{◌≡◌, ◌++◌, ◌∷◌, [], ◌↔◌, true, nat_lt, None, Some, IsTrue, IsNone, IfOk, OnOk, OnErr, option_to_list};
 ghost use Rattle.std.specs.Option.{option_map_or};
@@ -50,8 +50,8 @@ impl<S: CertificateScheme, D: Digest, J: Drop> Outbox<S, D, J> {
         }
     }
 
-    /// Queues the new entries of a record, to be stored after all others, and then each vote among them. Without memory nothing has
-    /// changed.
+    /// Queues the new entries of a record, to be stored after all others, and then each vote among them. Without memory
+    /// nothing has changed.
     pub fn store(&mut self, fresh: &[Artifact<S, D>]) -> Result<(), AllocError>
         ensures queued { OnOk result (IsStored S.certificate_bytes fresh.now self.old self.new) }
         ensures kept { OnErr result (HasStayed self.old self.new) }
@@ -61,8 +61,9 @@ impl<S: CertificateScheme, D: Digest, J: Drop> Outbox<S, D, J> {
         self.queue_entries(fresh)
     }
 
-    /// Queues a whole record, to be stored in place of all entries, in one step with what is stored beside it: at the start of a lifetime,
-    /// and once the record was pruned. Its votes are not sent again. Without memory nothing has changed.
+    /// Queues a whole record, to be stored in place of all entries, in one step with what is stored beside it: at the
+    /// start of a lifetime, and once the record was pruned. Its votes are not sent again. Without memory nothing has
+    /// changed.
     pub fn replace(&mut self, all: &[Artifact<S, D>], beside: J) -> Result<(), AllocError>
         ensures queued { OnOk result (IsReplaced S.certificate_bytes all.now beside self.old self.new) }
         ensures kept { OnErr result (HasStayed self.old self.new) }
@@ -72,8 +73,8 @@ impl<S: CertificateScheme, D: Digest, J: Drop> Outbox<S, D, J> {
         self.queue_record(all, beside)
     }
 
-    /// Queues the newest stored vote to nullify once more, if it is one of the view. Returns whether it is. Without memory nothing has
-    /// changed.
+    /// Queues the newest stored vote to nullify once more, if it is one of the view. Returns whether it is. Without
+    /// memory nothing has changed.
     pub fn repeat(&mut self, view: View) -> Result<bool, AllocError>
         ensures queued { IfOk result (λ sent. IsRepeated view self.old.repeat sent self.old self.new) }
         ensures kept { OnErr result (HasStayed self.old self.new) }
@@ -134,8 +135,8 @@ impl<S: CertificateScheme, D: Digest, J: Drop> Outbox<S, D, J> {
         self.queue.is_empty()
     }
 
-    /// Does nothing: its contract is the law of all outputs that it returned. Each vote comes after an output that stores it, and the views
-    /// of the proposals that are reported as final rise.
+    /// Does nothing: its contract is the law of all outputs that it returned. Each vote comes after an output that
+    /// stores it, and the views of the proposals that are reported as final rise.
     pub fn keeps_the_law(&self)
         ensures behind { (given : _) → IsLawfulOutbox given self.now → AreBehind [] given }
         ensures rising { (given : _) → IsLawfulOutbox given self.now → RiseByView (finals_in given) }

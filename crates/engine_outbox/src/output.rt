@@ -4,7 +4,8 @@ use engine_fetches::fetches::Ask;
 use engine_votes::votes::Vote;
 use simplex_types::types::{Artifact, Certificate, CertificateScheme, Context, Proposal, View};
 
-/// One output. Carry outputs out in the order in which they are returned. `J` is what a journal stores beside its entries.
+/// One output. Carry outputs out in the order in which they are returned. `J` is what a journal stores beside its
+/// entries.
 #[derive(Drop)]
 pub enum Output<S: CertificateScheme, D, J> {
     /// Append these entries to the journal and sync it, before you carry out the next output.
@@ -13,7 +14,8 @@ pub enum Output<S: CertificateScheme, D, J> {
     Replace(Vec<Artifact<S, D>>, J),
     /// Send this vote of the member to all members.
     Vote(Vote<D, S::Signature>),
-    /// This proposal and all its ancestors are final. Ancestors are not reported: follow parent links to the last block that you delivered.
+    /// This proposal and all its ancestors are final. Ancestors are not reported: follow parent links to the last block
+    /// that you delivered.
     Finalized(Proposal<D>),
     /// Anything else.
     Work(Work<S, D>),
@@ -34,8 +36,8 @@ pub enum Work<S: CertificateScheme, D> {
     Certify(Proposal<D>),
     /// Ask a peer for a certificate.
     Fetch(Ask),
-    /// Two votes of one member that contradict each other. It is returned once of a member, kind and view, as long as the view's votes are
-    /// stored.
+    /// Two votes of one member that contradict each other. It is returned once of a member, kind and view, as long as
+    /// the view's votes are stored.
     Equivocated(Vote<D, S::Signature>, Vote<D, S::Signature>),
     /// The leader of the view, by its key, signed two proposals, which certificates show.
     ProposedTwice(View, S::PublicKey),

@@ -72,7 +72,8 @@ module _ {D : Type 0} where
 
   -- whether a block is abandoned; else another may replace it
   abbrev pub after_watch : Task D → Bool → Consequence D
-  after_watch (task.PendingHandoffAbandonment view) is_abandoned = Asked (if is_abandoned then task.ReleaseProposalRequest view else task.SupersedeProposalRequest view)
+  after_watch (task.PendingHandoffAbandonment view) is_abandoned =
+      Asked (if is_abandoned then task.ReleaseProposalRequest view else task.SupersedeProposalRequest view)
   after_watch _ is_abandoned = Nothing
 
 -- a lone member builds no block on a parent that is not certified before it enters the view
@@ -123,8 +124,8 @@ module _ {S D K G C : Type 0} where
   abbrev pub repeating : ℕ → List (Step S D K G C)
   repeating view = Repeat view ∷ Ask task.GetBestCertificate ∷ Ask task.NextTimeout ∷ []
 
-  -- a vote to nullify was cast, or the previous one is sent once more; if none is allowed, the member is asked again after the retry
-  -- interval
+  -- a vote to nullify was cast, or the previous one is sent once more; if none is allowed, the member is asked again
+  -- after the retry interval
   abbrev pub IsNullifyFollowed : ℕ → Option (Bool × Nullify S K G C) → Plan S D K G C → Plan S D K G C → Type 0
   IsNullifyFollowed now (Some (true, vote)) old new = HasPlanned (repeating vote.round.view) old new
   IsNullifyFollowed now (Some (false, _)) old new = HasPlanned (Ask task.NextTimeout ∷ []) old new

@@ -102,8 +102,8 @@ received_by bytes bytes_of (reply.Certified is_success (Some n)) asked =
     above_genesis n.proposal.round.view (verdict bytes (notarization_facts bytes_of n) is_success)
 received_by bytes bytes_of _ asked = []
 
--- a plan still asks for what it asked for, and asks for what was named as missing, unless that is over; and its resolver, which received
--- exactly these calls, received none that ends it
+-- a plan still asks for what it asked for, and asks for what was named as missing, unless that is over; and its
+-- resolver, which received exactly these calls, received none that ends it
 pub record KeepsFetching {S D K G C : Type 0} (given : List (Cause S D K G C)) (over : FetchKind → ℕ → Bool)
     (calls : List Call) (old new : Plan S D K G C)
     : Type 0 where

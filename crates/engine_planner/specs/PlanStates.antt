@@ -8,8 +8,8 @@ use Rattle.engine_planner.specs.declared.task.Task.TheVariants.{ConstructNotariz
 use Rattle.engine_fetches.specs.declared.fetches.Fetch.{Fetch}
 use Rattle.engine_fetches.specs.Fetches.{due_at, IsEarliest}
 
--- nothing is due at the moment: no step is queued; the member was asked for its timeout, and for the views that it may drop, since the
--- moment came, and about each block to build, since something changed; and no fetch is due
+-- nothing is due at the moment: no step is queued; the member was asked for its timeout, and for the views that it may
+-- drop, since the moment came, and about each block to build, since something changed; and no fetch is due
 pub record IsIdle {S D K G C : Type 0} (now : ℕ) (plan : Plan S D K G C) : Type 0 where
   pub steps : plan.steps.items ≡ []
   pub watched : plan.is_watch_due ≡ false
@@ -40,8 +40,8 @@ module _ {S D K G C : Type 0} where
   abbrev pub touching : ℕ → List (Step S D K G C)
   touching view = asking_for_votes view ++ asking_for_certificates view
 
--- a proposal of the view may be stored beside this number of others: the view is one of the eight after the current one, and fewer than
--- eight are stored
+-- a proposal of the view may be stored beside this number of others: the view is one of the eight after the current
+-- one, and fewer than eight are stored
 abbrev pub may_keep : ℕ → ℕ → ℕ → Bool
 may_keep current view kept = nat_lt current view && nat_le view (current + 8) && nat_lt kept 8
 

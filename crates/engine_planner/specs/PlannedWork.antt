@@ -82,8 +82,8 @@ module _ {S D K G C : Type 0} where
     retry = plan.repair.fetches.retry;
   }
 
--- what a plan stores beside its steps: its views, the blocks to build, the early proposals, the constants of a lifetime, and how many
--- inputs were ignored
+-- what a plan stores beside its steps: its views, the blocks to build, the early proposals, the constants of a
+-- lifetime, and how many inputs were ignored
 pub record Beside (K D : Type 0) : Type 0 where
   pub reached : Views
   pub blocks : List (Building D K)
@@ -114,9 +114,9 @@ module _ {S D K G C : Type 0} where
   abbrev pub has_block : List (Work S D K G C) → Beside K D → ℕ → Bool
   has_block work beside view = list_any (is_build_of view) work || awaits beside view
 
-  -- this work is planned; of each view that was requested, or whose block waited, a block is planned or still waits, unless it is ended; no
-  -- other block is to be built; each proposal that was early, and still is, stays stored; the views and the constants are the same, and no
-  -- input was counted as ignored
+  -- this work is planned; of each view that was requested, or whose block waited, a block is planned or still waits,
+  -- unless it is ended; no other block is to be built; each proposal that was early, and still is, stays stored; the
+  -- views and the constants are the same, and no input was counted as ignored
   pub record IsPlanned (requested : List ℕ) (ended : ℕ → Bool) (work : List (Work S D K G C)) (was : Beside K D)
       (planned : List (Work S D K G C))
       (is : Beside K D) : Type 0 where

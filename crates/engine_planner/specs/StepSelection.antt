@@ -14,7 +14,8 @@ use Rattle.engine_planner.specs.PlanStates.{HasPlanned}
 -- a block of a view below the current one is abandoned; for another the member is asked whether it must be
 abbrev pub watching_one : {K D : Type 0} → ℕ → Building D K → Task D
 watching_one current building =
-    let view = building.context.round.view in if nat_lt view current then ReleaseProposalRequest view else PendingHandoffAbandonment view
+    let view = building.context.round.view in
+    if nat_lt view current then ReleaseProposalRequest view else PendingHandoffAbandonment view
 
 module _ {S D K G C : Type 0} where
   -- the same for each block to build

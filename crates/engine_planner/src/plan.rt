@@ -1,7 +1,7 @@
 //! The engine's plan, and the state that it needs: queued steps, outstanding fetches, blocks to build, early proposals.
 //!
-//! Each call plans exactly what its contract states. An error is out of memory, or an error of the resolver; after an error a plan must not
-//! be used.
+//! Each call plans exactly what its contract states. An error is out of memory, or an error of the resolver; after an
+//! error a plan must not be used.
 
 mod builds;
 mod certificates;
@@ -36,12 +36,13 @@ use std::collections::VecDeque;
 /// Intervals, in milliseconds, and the length of a long record.
 #[derive(Clone, Copy)]
 pub struct Options {
-    /// The interval after which a fetch is asked again, of the next peer. It is at least a millisecond: a fetch that is due again at once
-    /// would be asked for without end.
+    /// The interval after which a fetch is asked again, of the next peer. It is at least a millisecond: a fetch that is
+    /// due again at once would be asked for without end.
     pub retry: u64,
     /// How long a missing certificate may be on its way before the engine asks for it.
     pub on_its_way: u64,
-    /// The engine prunes the record once it has more entries than this, if that drops more of its views than it retains.
+    /// The engine prunes the record once it has more entries than this, if that drops more of its views than it
+    /// retains.
     pub long_record: usize,
 }
 
@@ -102,7 +103,8 @@ pub struct Plan<S: CertificateScheme, D> {
 }
 
 impl<S: CertificateScheme, D: Digest> Plan<S, D> {
-    /// Returns the plan of a lifetime that begins at these views: nothing is planned, built or stored early, and everything is due.
+    /// Returns the plan of a lifetime that begins at these views: nothing is planned, built or stored early, and
+    /// everything is due.
     pub fn new(
         alloc: Global,
         options: Options,
@@ -259,7 +261,8 @@ impl<S: CertificateScheme, D: Digest> Plan<S, D> {
         self.plan(Step::Push(work))
     }
 
-    /// Plans what a change in the view calls for: its votes and certificates are asked for, and the blocks to build are watched.
+    /// Plans what a change in the view calls for: its votes and certificates are asked for, and the blocks to build are
+    /// watched.
     pub fn touch(&mut self, view: View) -> Result<(), AllocError>
         ensures { OnOk result (HasPlanned (touching view) (watching self.old) self.new) }
     {

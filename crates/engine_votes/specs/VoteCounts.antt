@@ -51,7 +51,8 @@ module _ {S D K G C : Type 0} where
   is_pair (Equivocated first second) = true
   is_pair _ = false
 
-  -- a further vote of a member whose first one is this ballot: for the same, or after a pair that was returned; or for something else
+  -- a further vote of a member whose first one is this ballot: for the same, or after a pair that was returned; or for
+  -- something else
   abbrev pub ShowsBoth : Ballot D G → Vote D G → Counted S D K G C → Type 0
   ShowsBoth ballot vote Known = (ballot.is_contradicted ≡ true) ⊎ (ballot.subject ≡ vote.subject)
   ShowsBoth ballot vote (Equivocated first second) =
@@ -60,7 +61,8 @@ module _ {S D K G C : Type 0} where
 
 module _ {S D K G C : Type 0} (same : D → D → Bool) (IsMadeOf : Subject D → List (ℕ × G) → C → Type 0)
     (members : ℕ) where
-  -- the result of a member's vote in an admitted view, by the stored votes of its kind and view, and what is stored then:
+  -- the result of a member's vote in an admitted view, by the stored votes of its kind and view, and what is stored
+  -- then:
   -- - its signer voted for the same before, or a pair of its votes was returned, and nothing changes;
   -- - or it voted for something else, and no pair was returned: that vote, and this one, and the pair is noted;
   -- - or it is added. If the votes for the same are then exactly a quorum, the certificate is made of them.

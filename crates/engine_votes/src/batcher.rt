@@ -2,12 +2,13 @@
 //!
 //! It guarantees:
 //!
-//! - a certificate is made of the signatures of exactly n - f different members on one subject, each of a vote that was passed in;
+//! - a certificate is made of the signatures of exactly n - f different members on one subject, each of a vote that was
+//!   passed in;
 //! - of each member one vote of a kind and view counts, and a contradicting one is returned with it;
 //! - a refused vote changes nothing.
 //!
-//! It stores at most one vote of each kind of each member in each view that was admitted and is not forgotten. The host verifies a vote's
-//! signature before.
+//! It stores at most one vote of each kind of each member in each view that was admitted and is not forgotten. The host
+//! verifies a vote's signature before.
 
 ghost use Rattle.std.specs.Prelude.{◌≡◌, ◌≢◌, ◌≤◌, ◌++◌, ◌∷◌, [], ℕ, true, length, IfOk, OnOk, OnErr, MatchOption};
 ghost use Rattle.std.specs.FinMap as map;
@@ -31,11 +32,11 @@ use std::alloc::{AllocError, Global};
 pub enum Counted<S: CertificateScheme, D> {
     /// Its view is not admitted, or its signer is no member. Nothing has changed.
     Refused,
-    /// Its signer voted for the same before, or a pair of votes that contradict each other was returned of its signer, of this kind and
-    /// view. Nothing has changed.
+    /// Its signer voted for the same before, or a pair of votes that contradict each other was returned of its signer,
+    /// of this kind and view. Nothing has changed.
     Known,
-    /// Its signer voted for something else of this kind in this view before: that vote, and this one. Such a pair is returned once of a
-    /// signer, kind and view; the first vote stays stored.
+    /// Its signer voted for something else of this kind in this view before: that vote, and this one. Such a pair is
+    /// returned once of a signer, kind and view; the first vote stays stored.
     Equivocated(Vote<D, S::Signature>, Vote<D, S::Signature>),
     /// It was taken. The votes for the same are fewer than a quorum, or were one before.
     Taken,
@@ -74,10 +75,11 @@ impl<S: Assembly<D>, D: Digest> Batcher<S, D> {
         }
     }
 
-    /// Counts a vote whose signature is valid. `is_admitted` says whether the state admits votes of its view (`State::admits_vote`).
+    /// Counts a vote whose signature is valid. `is_admitted` says whether the state admits votes of its view
+    /// (`State::admits_vote`).
     ///
-    /// A quorum is n - f of n members, of whom f are fewer than a third. A scheme of more than 2^32 - 1 members has no quorum, and each
-    /// vote is refused. Without memory nothing has changed, and the vote may be counted again.
+    /// A quorum is n - f of n members, of whom f are fewer than a third. A scheme of more than 2^32 - 1 members has no
+    /// quorum, and each vote is refused. Without memory nothing has changed, and the vote may be counted again.
     ///
     /// - `given`: it stores only votes that were passed in.
     /// - `good`: if each vote that was passed in is valid, so is a returned certificate: `verify` accepts it.

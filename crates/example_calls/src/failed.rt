@@ -1,5 +1,5 @@
-//! A state or a resolver that ran out of memory in the midst of a call. Its host may still make each later call, and receives `Failed`.
-//! These functions prove that no other result is possible.
+//! A state or a resolver that ran out of memory in the midst of a call. Its host may still make each later call, and
+//! receives `Failed`. These functions prove that no other result is possible.
 
 ghost use Rattle.std.specs.Prelude.{◌≡◌, ◌≤◌, true, Err};
 ghost use Rattle.simplex_types.specs.Certificates.{notarization_facts};
@@ -16,8 +16,8 @@ use simplex_types::types::{
 };
 use simplex_voter::voter::State;
 
-/// Passes a notarization, and continues whatever the result is: if no memory was found, no vote is returned any more, and nothing times
-/// out.
+/// Passes a notarization, and continues whatever the result is: if no memory was found, no vote is returned any more,
+/// and nothing times out.
 pub fn goes_on_without_memory<S: Scheme<D>, L: Elector<S>, D: Digest>(
     state: &mut State<S, L, D>,
     notarization: Notarization<S, D>,
@@ -195,8 +195,8 @@ pub fn servings_fail<S: Scheme<D>, L: Elector<S>, D: Digest>(state: &mut State<S
     };
 }
 
-/// Records a certificate in a resolver, and continues whatever the result is: if no memory was found, the resolver takes nothing more,
-/// fetches nothing and serves nothing.
+/// Records a certificate in a resolver, and continues whatever the result is: if no memory was found, the resolver
+/// takes nothing more, fetches nothing and serves nothing.
 pub fn resolver_goes_on_without_memory<S: Scheme<D>, D: Digest>(
     state: &mut resolver::State,
     certificate: &Certificate<S, D>,

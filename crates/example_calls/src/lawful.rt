@@ -10,8 +10,8 @@ use lawful_member::lawful::LawfulMember;
 use laws_safety::laws::agreement;
 use simplex_types::types::{Digest, Elector, Proposal, Scheme};
 
-/// Does nothing: its contract is what `keeps_the_laws` says of such votes. All votes to finalize one view that a member has signed, in any
-/// of its lifetimes, are for one proposal.
+/// Does nothing: its contract is what `keeps_the_laws` says of such votes. All votes to finalize one view that a member
+/// has signed, in any of its lifetimes, are for one proposal.
 pub fn a_view_is_finalized_once<S: Scheme<D>, L: Elector<S>, D: Digest>(
     member: &LawfulMember<S, L, D>,
 )
@@ -20,8 +20,8 @@ pub fn a_view_is_finalized_once<S: Scheme<D>, L: Elector<S>, D: Digest>(
     member.keeps_the_laws();
 }
 
-/// Returns whether two proposals have one payload. If both are of one view, and the votes of a network back a finalization of each, they
-/// do.
+/// Returns whether two proposals have one payload. If both are of one view, and the votes of a network back a
+/// finalization of each, they do.
 pub fn blocks_agree<S: Scheme<D>, L: Elector<S>, D: Digest>(
     mine: &Proposal<D>,
     theirs: &Proposal<D>,

@@ -8,7 +8,8 @@ const MODULUS: u64 = 4_294_967_291;
 
 const FACTOR: u64 = 65_599;
 
-/// Returns a number of 32 bits that depends on a seed and on each byte. It distinguishes texts only if nobody tries to deceive.
+/// Returns a number of 32 bits that depends on a seed and on each byte. It distinguishes texts only if nobody tries to
+/// deceive.
 pub(crate) fn checksum(seed: u64, bytes: &[u8]) -> u64
     requires { seed < 2 ^ 32 }
     ensures value { result ≡ checksum_from seed bytes.now }

@@ -12,11 +12,11 @@ use simplex_codec::certificate::decode_certificate;
 use simplex_codec::error::DecodeError;
 use std::alloc::Global;
 
-/// Returns the certificate that the bytes encode: a kind, then the epoch, the view, and of a proposal the parent and the payload, in eight
-/// bytes each, and after them the signers.
+/// Returns the certificate that the bytes encode: a kind, then the epoch, the view, and of a proposal the parent and
+/// the payload, in eight bytes each, and after them the signers.
 ///
-/// Bytes of no certificate are refused: each error but `OutOfMemory` says what is wrong with them. `Scheme::verify` checks whether the
-/// certificate is valid.
+/// Bytes of no certificate are refused: each error but `OutOfMemory` says what is wrong with them. `Scheme::verify`
+/// checks whether the certificate is valid.
 pub fn decode(alloc: Global, bytes: &[u8]) -> Result<Proof, DecodeError>
     ensures decoded { IfOk result (λ proof. encoding block_bytes (certificate_facts seal_bytes proof) ≡ bytes.now) }
     ensures fits { IfOk result (λ proof. IsEncodable (certificate_facts seal_bytes proof)) }

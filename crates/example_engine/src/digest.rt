@@ -35,8 +35,8 @@ impl BlockDigest {
         }
     }
 
-    /// Returns the digest of the block that is built in a view on a parent. A leader can choose among several blocks; `choice` is the
-    /// number of the block.
+    /// Returns the digest of the block that is built in a view on a parent. A leader can choose among several blocks;
+    /// `choice` is the number of the block.
     pub fn of_block(parent: &BlockDigest, view: View, choice: u64) -> BlockDigest
         ensures { block_bytes result ≡ to_be_bytes w64 (block_number (block_bytes parent.now) view choice) }
     {

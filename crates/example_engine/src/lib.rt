@@ -1,5 +1,5 @@
-//! The parts that a user of the engine must provide, in small: digests, signatures, certificates that are made of votes, and all of them as bytes.
-//! Copy it to begin.
+//! The parts that a user of the engine must provide, in small: digests, signatures, certificates that are made of
+//! votes, and all of them as bytes. Copy it to begin.
 #![tactic(auto)]
 
 pub mod assembly;

@@ -1,4 +1,5 @@
-//! Members that finalize views over links that lose messages, in one process: each is an engine with a disk and an application.
+//! Members that finalize views over links that lose messages, in one process: each is an engine with a disk and an
+//! application.
 #![tactic(auto)]
 
 mod disk;

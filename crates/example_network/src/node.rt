@@ -1,4 +1,5 @@
-//! A member: its engine, its disk and its application. It verifies inputs and passes them to the engine, and carries outputs out.
+//! A member: its engine, its disk and its application. It verifies inputs and passes them to the engine, and carries
+//! outputs out.
 
 ghost use Rattle.std.specs.Prelude.{◌<◌};
 

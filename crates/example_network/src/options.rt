@@ -34,7 +34,8 @@ pub enum Asked {
 }
 
 impl Asked {
-    /// Returns what the arguments after the program's name ask for. Each option may occur more than once; the last one counts.
+    /// Returns what the arguments after the program's name ask for. Each option may occur more than once; the last one
+    /// counts.
     pub(crate) fn read(words: &[String]) -> Asked {
         match words {
             [word] if word.as_str() == "--help" => Asked::Help,

@@ -66,11 +66,13 @@ pub record IsTaken (now : ℕ) (input : HostInput) (old : HeldEngine) (r : FlatT
   pub going : old.is_lost ≡ false
   pub answer : Result Bool Fault
   pub tells : IsAnswer answer r
-  -- after an error the engine has failed; one that had failed returns only that, and is unchanged; any other returns out of memory
+  -- after an error the engine has failed; one that had failed returns only that, and is unchanged; any other returns
+  -- out of memory
   pub failed : OnErr answer (has_failed new.engine.core ≡ true)
   pub error : IfErr answer (IsFailure (has_failed old.engine.core))
   pub refused : has_failed old.engine.core ≡ true → (answer ≡ Err Failed) × (new.engine ≡ old.engine)
-  -- an ignored input is dropped: the member has done nothing, and no vote is taken; an input that is not admitted is ignored
+  -- an ignored input is dropped: the member has done nothing, and no vote is taken; an input that is not admitted is
+  -- ignored
   pub dropped : IfOk answer (λ is_of_use. IsFalse is_of_use → IsDropped now input old.engine new.engine)
   pub unadmitted : IsFalse (is_input_admitted certificate_bytes old.engine.core.member.facts input)
       → IfOk answer (λ is_of_use. IsFalse is_of_use
@@ -93,7 +95,8 @@ pub record IsTaken (now : ℕ) (input : HostInput) (old : HeldEngine) (r : FlatT
   pub bounded : StaysBounded host_keys old.engine.core old.engine.batcher new.engine.core new.engine.batcher
   -- no proposal and no block that the application must receive is lost
   pub due_work : OnOk answer (KeepsReports old.engine new.engine)
-  -- the input and what was at hand cause each call of the member, and what is at hand then; what was asked of peers still is
+  -- the input and what was at hand cause each call of the member, and what is at hand then; what was asked of peers
+  -- still is
   pub provenance : OnOk answer
       (IsCausedWith same_host_payload host_leader bytes_in_digest certificate_bytes now
       (input_causes certificate_bytes old.engine.batcher input)
@@ -113,8 +116,8 @@ HasLost old status new = (old.is_lost ≡ true) × (status ≡ 2) × (new ≡ ol
 abbrev pub Takes : ℕ → HostInput → HeldEngine → FlatTaken → HeldEngine → Type 0
 Takes now input old r new = HasLost old r.status new ⊎ IsTaken now input old r new
 
--- nothing was passed to the engine, and everything is unchanged: one of the numbers is not valid, a vote would make a certificate from
--- which leaders are drawn, or there was no memory for its bytes
+-- nothing was passed to the engine, and everything is unchanged: one of the numbers is not valid, a vote would make a
+-- certificate from which leaders are drawn, or there was no memory for its bytes
 abbrev pub IsInputNotPassed : HeldEngine → FlatInput → FlatTaken → HeldEngine → Type 0
 IsInputNotPassed old f r new =
     (new ≡ old) × (((r.status ≡ 6) × (IsNoInput f ⊎ ((old.draws ≡ 1) × (f.kind ≡ input_number of.Vote))))
@@ -175,7 +178,8 @@ pub record IsNothing (status : ℕ) (r : FlatOutput) (new : HeldEngine) : Type 0
   pub nothing : r.kind ≡ 0
   pub last : new.last ≡ None
 
--- an output is returned, its entries written; or they could not be, because memory ran out or no frame holds one, and everything is lost
+-- an output is returned, its entries written; or they could not be, because memory ran out or no frame holds one, and
+-- everything is lost
 abbrev pub IsReturned : HostOutput → FlatStored → FlatOutput → HeldEngine → Type 0
 IsReturned out before r new =
     (IsReadAs out r new × AreFramed out before new.frames.items new.stored × (new.is_lost ≡ false))
@@ -185,16 +189,17 @@ IsReturned out before r new =
 abbrev pub IsAllReturned : List HostOutput → HeldEngine → Type 0
 IsAllReturned given held = held.is_lost ≡ false → IsJournaled certificate_bytes given held.engine.core
 
--- if nothing is queued and all of the record was returned, a journal that carries out all returned outputs holds the record
+-- if nothing is queued and all of the record was returned, a journal that carries out all returned outputs holds the
+-- record
 abbrev pub HoldsRecord : List HostOutput → HeldEngine → Type 0
 HoldsRecord given held =
     held.engine.core.failed ≡ false → held.engine.core.outbox.queue.items ≡ []
     → IsWhole certificate_bytes held.engine.core
     → IsRecordOf certificate_bytes held.engine.core.member (journal_of given)
 
--- an engine is at rest at a moment, with a short record; if each proposal to verify or certify and each block to build was returned, queued
--- or planned, it was returned, or a lone member waits for the block's view; if no stored vote was above those that are taken, each stored
--- vote is a member's, and of a view whose votes are taken
+-- an engine is at rest at a moment, with a short record; if each proposal to verify or certify and each block to build
+-- was returned, queued or planned, it was returned, or a lone member waits for the block's view; if no stored vote was
+-- above those that are taken, each stored vote is a member's, and of a view whose votes are taken
 pub record IsAtRest (now : ℕ) (old new : HostEngine) : Type 0 where
   pub rest : IsEngineAtRest same_host_payload host_leader certificate_bytes now new
   pub short : (given : List HostOutput) → IsJournaled certificate_bytes given old.core
@@ -206,16 +211,20 @@ pub record IsAtRest (now : ℕ) (old new : HostEngine) : Type 0 where
 abbrev pub SettledAsStored : HostEngine → Type 0
 SettledAsStored engine = IsSettledAsStored same_host_payload host_leader certificate_bytes engine
 
--- what a poll at a moment returns, by what the engine returned: an output; nothing, and the engine is at rest; or the engine has failed
+-- what a poll at a moment returns, by what the engine returned: an output; nothing, and the engine is at rest; or the
+-- engine has failed
 abbrev pub IsOutcome : ℕ → Result (Option HostOutput) Fault → HostEngine → FlatStored → FlatOutput → HeldEngine → Type 0
 IsOutcome now (Ok (Some out)) engine stored r new = IsReturned out stored r new
-IsOutcome now (Ok None) engine stored r new = IsNothing 0 r new × (SettledAsStored engine → IsAtRest now engine new.engine)
+IsOutcome now (Ok None) engine stored r new =
+    IsNothing 0 r new × (SettledAsStored engine → IsAtRest now engine new.engine)
 IsOutcome now (Err fault) engine stored r new =
-    IsFailure (has_failed engine.core) fault × IsNothing (fault_status fault) r new × (has_failed new.engine.core ≡ true)
+    IsFailure (has_failed engine.core) fault × IsNothing (fault_status fault) r new
+    × (has_failed new.engine.core ≡ true)
 
 -- an engine that has lost nothing is polled at a moment
 pub record IsAsked (now : ℕ) (old : HeldEngine) (r : FlatOutput) (new : HeldEngine) : Type 0 where
-  -- what the engine returned: first what is queued, in order; then all that is due is done, once at a moment; then what that queued
+  -- what the engine returned: first what is queued, in order; then all that is due is done, once at a moment; then what
+  -- that queued
   pub answer : Result (Option HostOutput) Fault
   pub outcome : IsOutcome now answer old.engine old.stored r new
   pub front : has_failed old.engine.core ≡ false
@@ -247,8 +256,8 @@ pub record IsAsked (now : ℕ) (old : HeldEngine) (r : FlatOutput) (new : HeldEn
   -- no work is lost: what was queued or planned is returned, or still is queued or planned
   pub works : has_failed new.engine.core ≡ false → new.is_lost ≡ false
       → AreAmong (work_ahead old.engine) (work_in (option_to_list new.last) ++ work_ahead new.engine)
-  -- what was at hand causes each call of the member, each output and what is at hand then, except that views may be forgotten below the
-  -- lowest one that it retains; and what was asked of peers still is
+  -- what was at hand causes each call of the member, each output and what is at hand then, except that views may be
+  -- forgotten below the lowest one that it retains; and what was asked of peers still is
   pub provenance : has_failed new.engine.core ≡ false → new.is_lost ≡ false
       → IsCaused same_host_payload host_leader bytes_in_digest certificate_bytes now
       (forgettable new.engine.core.member.facts)

@@ -44,9 +44,10 @@ use Rattle.ffi_engine.specs.EngineHandles.{IsAllReturned, HasShownNothing}
 abbrev pub options_of : FlatOptions → Options
 options_of f = record { retry = f.retry; on_its_way = f.on_its_way; long_record = f.long_record }
 
--- nothing was returned, so what the member has done before traces it; the whole record is to be stored in place of all that is stored and
--- nothing else is queued, no proposal is to be reported as final, nothing is at hand, the member waits for nothing, and leaders are drawn
--- as set; and no certificate is asked for of a view above those that the member has heard of
+-- nothing was returned, so what the member has done before traces it; the whole record is to be stored in place of all
+-- that is stored and nothing else is queued, no proposal is to be reported as final, nothing is at hand, the member
+-- waits for nothing, and leaders are drawn as set; and no certificate is asked for of a view above those that the
+-- member has heard of
 pub record HasReturnedNothing (f : FlatSettings) (held : HeldEngine) : Type 0 where
   pub kept : IsAllReturned [] held
   pub traced : BeginsTraced same_host_payload host_leader certificate_bytes held.engine.core.member held.engine.core
@@ -67,8 +68,8 @@ HasStartedBy start options held =
     HasStartedWith bytes_in_digest host_keys (host_keys start.settings.scheme) (host_signer start.settings.scheme)
     (host_terms start.settings.elector).term_length (with_a_retry (options_of options)) held.engine
 
--- an engine begins with these settings, this table, floor and moment: its member is the one that they begin, and a fetch is asked again
--- after a millisecond at least
+-- an engine begins with these settings, this table, floor and moment: its member is the one that they begin, and a
+-- fetch is asked again after a millisecond at least
 pub record IsEngineStarted (f : FlatSettings) (leaders bytes : List ℕ) (options : FlatOptions) (now : ℕ)
     (held : HeldEngine) : Type 0 where
   pub retry : options.retry ≢ 0
@@ -105,8 +106,8 @@ IsEngineNotStarted f leaders bytes options now (engine_not_started.Member (not_r
     IsNoStart f leaders bytes e
 IsEngineNotStarted f leaders bytes options now e = IsStartRefused f leaders bytes now e
 
--- an engine resumes from the bytes of a journal, which has all entries that were counted, and a fetch is asked again after a millisecond at
--- least
+-- an engine resumes from the bytes of a journal, which has all entries that were counted, and a fetch is asked again
+-- after a millisecond at least
 pub record IsEngineResumed (f : FlatSettings) (leaders bytes : List ℕ) (options : FlatOptions) (now : ℕ)
     (beside : FlatStored) (journal : List ℕ)
     (held : HeldEngine) : Type 0 where

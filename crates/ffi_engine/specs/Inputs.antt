@@ -88,12 +88,15 @@ IsToldAs f bytes (input.Proposal from q) =
     (f.kind ≡ input_number of.Proposal) × (from ≡ f.subject.member) × IsFlatProposal f.subject.proposal q
 IsToldAs f bytes (input.Vote v) = (f.kind ≡ input_number of.Vote) × IsVote f.subject bytes v
 IsToldAs f bytes (input.Certificate c) = (f.kind ≡ input_number of.Certificate) × IsCertificate f.subject bytes c
-IsToldAs f bytes (input.Verified v success) = (f.kind ≡ input_number of.Verified) × (v ≡ f.view) × (flag_number success ≡ f.success)
+IsToldAs f bytes (input.Verified v success) =
+    (f.kind ≡ input_number of.Verified) × (v ≡ f.view) × (flag_number success ≡ f.success)
 IsToldAs f bytes (input.Built c payload) =
     (f.kind ≡ input_number of.Built) × IsContext f.context c × (c.leader.0 ≡ f.subject.member)
     × (bytes_in_digest payload ≡ f.subject.proposal.payload)
-IsToldAs f bytes (input.Certified v success) = (f.kind ≡ input_number of.Certified) × (v ≡ f.view) × (flag_number success ≡ f.success)
-IsToldAs f bytes (input.GivenUp v reason) = (f.kind ≡ input_number of.GivenUp) × (v ≡ f.view) × (reason_number reason ≡ f.reason)
+IsToldAs f bytes (input.Certified v success) =
+    (f.kind ≡ input_number of.Certified) × (v ≡ f.view) × (flag_number success ≡ f.success)
+IsToldAs f bytes (input.GivenUp v reason) =
+    (f.kind ≡ input_number of.GivenUp) × (v ≡ f.view) × (reason_number reason ≡ f.reason)
 
 -- it passes a signature or a certificate
 abbrev pub PassesBytes : FlatInput → Type 0

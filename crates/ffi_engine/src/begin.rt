@@ -33,11 +33,13 @@ impl HeldEngine {
     ghost use Rattle.ffi_engine.specs.EngineStarts.{IsEngineStarted, IsEngineNotStarted, IsEngineNotResumed, IsEngineResumed};
     ghost use Rattle.ffi_engine.specs.declared.begin.EngineNotStarted.TheVariants.{FetchRetryZero};
 
-    /// Starts an engine whose member never voted, from flat settings, a table of leaders and the bytes of the floor's certificate.
+    /// Starts an engine whose member never voted, from flat settings, a table of leaders and the bytes of the floor's
+    /// certificate.
     ///
     /// # Errors
     ///
-    /// `FetchRetryZero` exactly if the options' `retry` is 0, whatever the settings are; otherwise why no member starts with the settings.
+    /// `FetchRetryZero` exactly if the options' `retry` is 0, whatever the settings are; otherwise why no member starts
+    /// with the settings.
     pub fn start(
         alloc: Global,
         flat: &FlatSettings,
@@ -67,8 +69,8 @@ impl HeldEngine {
     ///
     /// # Errors
     ///
-    /// `FetchRetryZero` exactly if the options' `retry` is 0, whatever else is passed; otherwise why no member resumes from the journal, or
-    /// the resolver does not.
+    /// `FetchRetryZero` exactly if the options' `retry` is 0, whatever else is passed; otherwise why no member resumes
+    /// from the journal, or the resolver does not.
     pub fn resume(
         alloc: Global,
         flat: &FlatSettings,

@@ -9,7 +9,8 @@ use ffi_member::view_types::FlatStored;
 pub struct FlatSubject {
     /// 1 to notarize, 2 to nullify, 3 to finalize.
     pub kind: u32,
-    /// The signer of a vote, the sender of a proposal, or the leader of a context; the greatest number of 32 bits if there is none.
+    /// The signer of a vote, the sender of a proposal, or the leader of a context; the greatest number of 32 bits if
+    /// there is none.
     pub member: u32,
     /// Only the round, if it is the subject of a nullification.
     pub proposal: FlatProposal,
@@ -23,17 +24,18 @@ pub struct FlatOptions {
     pub retry: u64,
     /// How long a missing certificate may be on its way before the engine asks for it.
     pub on_its_way: u64,
-    /// The engine prunes the record once it has more entries than this, if that drops more of its views than it retains.
+    /// The engine prunes the record once it has more entries than this, if that drops more of its views than it
+    /// retains.
     pub long_record: u64,
 }
 
-/// An input of an engine. `IsToldAs` says which fields each kind reads. The others may be anything, except `reason` and `success`, which
-/// are checked for each kind.
+/// An input of an engine. `IsToldAs` says which fields each kind reads. The others may be anything, except `reason` and
+/// `success`, which are checked for each kind.
 #[repr(C)]
 #[derive(Clone, Copy)]
 pub struct FlatInput {
-    /// 1 a proposal, 2 a vote, 3 a certificate, 4 that a proposal was verified, 5 that a block was built, 6 that a proposal was certified,
-    /// 7 that a view times out.
+    /// 1 a proposal, 2 a vote, 3 a certificate, 4 that a proposal was verified, 5 that a block was built, 6 that a
+    /// proposal was certified, 7 that a view times out.
     pub kind: u32,
     /// The number of a reason for a timeout; 0 if there is none.
     pub reason: u32,
@@ -43,8 +45,8 @@ pub struct FlatInput {
     pub reserved: u32,
     /// The view of a verdict, or the view that times out.
     pub view: u64,
-    /// The subject and the signer of a vote; the subject of a certificate; a proposal and its sender; the payload that was built, and the
-    /// leader.
+    /// The subject and the signer of a vote; the subject of a certificate; a proposal and its sender; the payload that
+    /// was built, and the leader.
     pub subject: FlatSubject,
     /// The context of a built block.
     pub context: FlatContext,
@@ -54,23 +56,23 @@ pub struct FlatInput {
 #[repr(C)]
 #[derive(Clone, Copy, Debug)]
 pub struct FlatTaken {
-    /// 0; 1 to 4 for a fault, after which the engine has failed. 6 if one of the input's numbers is not valid, and 7 if there was no memory
-    /// for its bytes: then nothing was passed to the engine.
+    /// 0; 1 to 4 for a fault, after which the engine has failed. 6 if one of the input's numbers is not valid, and 7 if
+    /// there was no memory for its bytes: then nothing was passed to the engine.
     pub status: u32,
     /// 0 if the input was ignored, else 1.
     pub is_of_use: u32,
 }
 
-/// An output. `HasOutputOf` says which fields each kind has; the others have no meaning. Its bytes stay behind the handle until the next
-/// output is asked for.
+/// An output. `HasOutputOf` says which fields each kind has; the others have no meaning. Its bytes stay behind the
+/// handle until the next output is asked for.
 #[repr(C)]
 #[derive(Clone, Copy)]
 pub struct FlatOutput {
     /// 0; 1 to 4 for a fault, and 14 if an entry is too long for a frame: then the engine has failed.
     pub status: u32,
-    /// 0 if there is no output now. 1 append to what is stored, 2 store in its place, 3 a vote to sign and to send, 4 a certificate to
-    /// send, 5 verify, 6 build, 7 stop building, 8 certify, 9 fetch, 10 finalized, 11 two votes that contradict each other, 12 two
-    /// proposals of one leader, 13 forget.
+    /// 0 if there is no output now. 1 append to what is stored, 2 store in its place, 3 a vote to sign and to send, 4 a
+    /// certificate to send, 5 verify, 6 build, 7 stop building, 8 certify, 9 fetch, 10 finalized, 11 two votes that
+    /// contradict each other, 12 two proposals of one leader, 13 forget.
     pub kind: u32,
     /// The certificate to fetch: 1 a notarization, 2 a nullification, 4 any one that decides the view.
     pub fetch: u32,

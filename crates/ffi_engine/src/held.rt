@@ -137,7 +137,8 @@ impl HeldEngine {
         }
     }
 
-    /// Returns an output. If its entries find no memory as frames, nothing after it ever leaves, since it was not stored.
+    /// Returns an output. If its entries find no memory as frames, nothing after it ever leaves, since it was not
+    /// stored.
     fn give_out(&mut self, output: HostOutput) -> FlatOutput
         requires empty { self.old.frames.items ≡ [] }
         requires last { self.old.last ≡ None }
@@ -215,7 +216,8 @@ impl HeldEngine {
         Ok(())
     }
 
-    /// Returns the bytes of the last output: entries as frames, the text to sign, a certificate, or the first signature of two.
+    /// Returns the bytes of the last output: entries as frames, the text to sign, a certificate, or the first signature
+    /// of two.
     pub fn first_bytes(&self) -> &[u8]
         ensures { result.now ≡ first_bytes self.now }
     {
@@ -229,14 +231,15 @@ impl HeldEngine {
     /// Does nothing: its contract is the laws of all outputs that it returned, and of all that its member has done.
     ///
     /// - `behind`: each vote comes after an output that stores it, with exactly its order.
-    /// - `stored`: if all of the record was returned, a journal that carries out all returned outputs holds the record, and what a journal
-    ///   stores beside it.
-    /// - `emitted`: until it fails, each stored vote was returned or is queued. The exceptions are votes of the record that the lifetime
-    ///   began with; the first output stores them.
-    /// - `stops`: until it fails, a host may stop after each output that was returned: the journal is then the record of a member that the
-    ///   engine's member was, which had signed each vote among these outputs.
+    /// - `stored`: if all of the record was returned, a journal that carries out all returned outputs holds the record,
+    ///   and what a journal stores beside it.
+    /// - `emitted`: until it fails, each stored vote was returned or is queued. The exceptions are votes of the record
+    ///   that the lifetime began with; the first output stores them.
+    /// - `stops`: until it fails, a host may stop after each output that was returned: the journal is then the record
+    ///   of a member that the engine's member was, which had signed each vote among these outputs.
     /// - `finals`: of each proposal that it reported as final, its member accepted the finalization.
-    /// - `signed`: each vote that it returned is its member's, an order to sign exactly the vote's own bytes with the member's key.
+    /// - `signed`: each vote that it returned is its member's, an order to sign exactly the vote's own bytes with the
+    ///   member's key.
     /// - `rising`: the views of the proposals that it reported as final rise.
     /// - `last`: the last of them, returned or queued, is of the member's last finalized view.
     /// - `lawful`: what its member has done keeps the voting rules, over all its lifetimes.

@@ -24,8 +24,8 @@ use std::alloc::{AllocError, Global};
 /// An input of an engine of the host.
 pub type HostInput = Input<HostScheme, HostDigest>;
 
-/// Returns the input that a flat input represents, with the bytes of the signature or the certificate that it passes; `None` if one of its
-/// numbers is not valid.
+/// Returns the input that a flat input represents, with the bytes of the signature or the certificate that it passes;
+/// `None` if one of its numbers is not valid.
 pub fn input_of(
     alloc: Global,
     flat: &FlatInput,

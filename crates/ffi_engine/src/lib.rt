@@ -1,4 +1,5 @@
-//! An engine behind a handle: its inputs and outputs are plain structs of numbers and bytes, for hosts in other languages.
+//! An engine behind a handle: its inputs and outputs are plain structs of numbers and bytes, for hosts in other
+//! languages.
 #![tactic(auto)]
 
 pub mod begin;

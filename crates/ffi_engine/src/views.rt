@@ -14,8 +14,8 @@ use ffi_member::withheld::withheld_in;
 impl HeldEngine {
     ghost use Rattle.ffi_engine.specs.EngineViews.{ShowsChunk, ShowsFound, ShowsOpenFetch, ShowsServed, ShowsStatus, ShowsView, ShowsWithheld, is_failed};
 
-    /// Returns a part of the bytes of the last output, if `which` is 0; of the second signature of two, if it is 1; and otherwise of what
-    /// was last loaded.
+    /// Returns a part of the bytes of the last output, if `which` is 0; of the second signature of two, if it is 1; and
+    /// otherwise of what was last loaded.
     pub fn chunk(&self, which: u32, from: u64) -> FlatChunk
         ensures { ShowsChunk self.now which from result }
     {
@@ -69,15 +69,16 @@ impl HeldEngine {
         view_in(self.engine.state(), view)
     }
 
-    /// Returns why the member withholds its vote of a kind on a view: 1 asks for a vote to notarize, 2 to nullify, 3 to finalize.
+    /// Returns why the member withholds its vote of a kind on a view: 1 asks for a vote to notarize, 2 to nullify, 3 to
+    /// finalize.
     pub fn withheld(&self, kind: u32, view: u64) -> FlatWithheld
         ensures { ShowsWithheld self.now kind view result }
     {
         withheld_in(self.engine.state(), kind, view)
     }
 
-    /// Loads the bytes of a view's certificate, and returns its subject: 1 asks for a notarization, 2 for a nullification, 3 for a
-    /// finalization.
+    /// Loads the bytes of a view's certificate, and returns its subject: 1 asks for a notarization, 2 for a
+    /// nullification, 3 for a finalization.
     pub fn certificate(&mut self, kind: u32, view: u64) -> FlatFound
         ensures { ShowsFound self.old kind view result self.new }
     {

@@ -31,14 +31,16 @@ IsResolverWritten held status old new = ((status ≡ 0) × (new.held ≡ Some he
 abbrev pub IsEngineWritten : HeldEngine → ℕ → EngineHandle → EngineHandle → Type 0
 IsEngineWritten held status old new = ((status ≡ 0) × (new.held ≡ Some held)) ⊎ ((status ≡ 1) × (new ≡ old))
 
--- the handle of the member that is started was written; or there was no memory for it, or the start is refused, and nothing was
+-- the handle of the member that is started was written; or there was no memory for it, or the start is refused, and
+-- nothing was
 abbrev pub IsStartStatus : FlatSettings → List ℕ → List ℕ → ℕ → ℕ → MemberHandle → MemberHandle → Type 0
 IsStartStatus f leaders bytes now status old new =
     ((status ≡ 0) × IsSomeAnd new.held (IsStarted f leaders bytes now))
     ⊎ ((status ≡ 1) × (new ≡ old))
     ⊎ ((e : NotStarted) × IsNotStarted f leaders bytes now e × (status ≡ not_started_number e) × (new ≡ old))
 
--- the handle of the member that resumes was written; or there was no memory for it, or the resume is refused, and nothing was
+-- the handle of the member that resumes was written; or there was no memory for it, or the resume is refused, and
+-- nothing was
 abbrev pub IsResumeStatus : FlatSettings → List ℕ → List ℕ → ℕ → FlatStored → List ℕ → ℕ → MemberHandle
     → MemberHandle → Type 0
 IsResumeStatus f leaders bytes now beside journal status old new =
@@ -60,7 +62,8 @@ IsReplayStatus term_length journal status old new =
     ⊎ ((status ≡ 1) × (new ≡ old))
     ⊎ ((e : NotReplayed) × IsNotReplayedFrom term_length journal e × (status ≡ not_replayed_number e) × (new ≡ old))
 
--- the handle of the engine that begins was written; or there was no memory for it, or the start is refused, and nothing was
+-- the handle of the engine that begins was written; or there was no memory for it, or the start is refused, and nothing
+-- was
 abbrev pub IsStartedStatus : FlatSettings → List ℕ → List ℕ → FlatOptions → ℕ → ℕ → EngineHandle → EngineHandle → Type 0
 IsStartedStatus f leaders bytes options now status old new =
     ((status ≡ 0) × IsSomeAnd new.held (IsEngineStarted f leaders bytes options now))
@@ -68,7 +71,8 @@ IsStartedStatus f leaders bytes options now status old new =
     ⊎ ((e : EngineNotStarted) × IsEngineNotStarted f leaders bytes options now e
     × (status ≡ engine_not_started_number e) × (new ≡ old))
 
--- the handle of the engine that resumes was written; or there was no memory for it, or the resume is refused, and nothing was
+-- the handle of the engine that resumes was written; or there was no memory for it, or the resume is refused, and
+-- nothing was
 abbrev pub IsResumptionStatus : FlatSettings → List ℕ → List ℕ → FlatOptions → ℕ → FlatStored → List ℕ → ℕ
     → EngineHandle → EngineHandle
     → Type 0

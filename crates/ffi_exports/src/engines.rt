@@ -1,5 +1,6 @@
-//! The functions of an engine that C calls. `engine_at` says what a handle is: null, or a pointer to an engine that `simplex_engine_start`
-//! or `simplex_engine_resume` made, and that no other call has. For null each function returns the status 15, and does nothing.
+//! The functions of an engine that C calls. `engine_at` says what a handle is: null, or a pointer to an engine that
+//! `simplex_engine_start` or `simplex_engine_resume` made, and that no other call has. For null each function returns
+//! the status 15, and does nothing.
 
 ghost use Rattle.std.specs.Prelude.{◌≡◌};
 ghost use Rattle.std.specs.Borrow.{sem};
@@ -21,7 +22,8 @@ use ffi_member::resolver_types::FlatServed;
 use ffi_member::view_types::{FlatChunk, FlatFound, FlatStored, FlatView, FlatWithheld};
 use std::alloc::Global;
 
-/// Starts an engine whose member never voted, and writes its handle. Returns 0, or why there is no engine; then it writes nothing.
+/// Starts an engine whose member never voted, and writes its handle. Returns 0, or why there is no engine; then it
+/// writes nothing.
 #[unsafe(no_mangle)]
 pub extern "C" fn simplex_engine_start(
     alloc: Global,
@@ -41,7 +43,8 @@ pub extern "C" fn simplex_engine_start(
     }
 }
 
-/// Resumes an engine from its journal, and writes its handle. Returns 0, or why there is no engine; then it writes nothing.
+/// Resumes an engine from its journal, and writes its handle. Returns 0, or why there is no engine; then it writes
+/// nothing.
 #[unsafe(no_mangle)]
 pub extern "C" fn simplex_engine_resume(
     alloc: Global,

@@ -1,6 +1,6 @@
-//! The functions that C calls. `held_at` says what a handle is: null, or a pointer to a member that `simplex_member_start` or
-//! `simplex_member_resume` made, and that no other call has. For null each function returns the status 15, and does nothing. `passed_at`
-//! says what these two write.
+//! The functions that C calls. `held_at` says what a handle is: null, or a pointer to a member that
+//! `simplex_member_start` or `simplex_member_resume` made, and that no other call has. For null each function returns
+//! the status 15, and does nothing. `passed_at` says what these two write.
 
 ghost use Rattle.std.specs.Prelude.{◌≡◌};
 ghost use Rattle.std.specs.Borrow.{sem};
@@ -35,7 +35,8 @@ pub extern "C" fn simplex_version() -> u32
     4
 }
 
-/// Starts a member that never voted, and writes its handle. Returns 0, or why there is no member; then it writes nothing.
+/// Starts a member that never voted, and writes its handle. Returns 0, or why there is no member; then it writes
+/// nothing.
 #[unsafe(no_mangle)]
 pub extern "C" fn simplex_member_start(
     alloc: Global,
@@ -53,7 +54,8 @@ pub extern "C" fn simplex_member_start(
     }
 }
 
-/// Resumes a member from its journal, and writes its handle. Returns 0, or why there is no member; then it writes nothing.
+/// Resumes a member from its journal, and writes its handle. Returns 0, or why there is no member; then it writes
+/// nothing.
 #[unsafe(no_mangle)]
 pub extern "C" fn simplex_member_resume(
     alloc: Global,

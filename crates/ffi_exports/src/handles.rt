@@ -13,7 +13,8 @@ use ffi_member::resolver_calls::HeldResolver;
 use std::alloc::Global;
 use std::marker::Model;
 
-/// The place of a member's handle. Before a handle is written there may be anything at it, and it is then released unchanged.
+/// The place of a member's handle. Before a handle is written there may be anything at it, and it is then released
+/// unchanged.
 #[repr(C)]
 #[derive(Drop)]
 pub struct MemberHandle {

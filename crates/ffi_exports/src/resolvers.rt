@@ -1,5 +1,6 @@
 //! The functions of a resolver that C calls. `resolver_at` says what a handle is: null, or a pointer to a resolver that
-//! `simplex_resolver_start` made, and that no other call has. For null each function returns the status 15, and does nothing.
+//! `simplex_resolver_start` made, and that no other call has. For null each function returns the status 15, and does
+//! nothing.
 
 ghost use Rattle.std.specs.Prelude.{◌≡◌};
 ghost use Rattle.std.specs.Borrow.{sem};
@@ -19,7 +20,8 @@ use ffi_member::resolver_types::{
 use ffi_member::view_types::FlatChunk;
 use std::alloc::Global;
 
-/// Starts a resolver from the bytes of a journal, and writes its handle. Returns 0, or why there is no resolver; then it writes nothing.
+/// Starts a resolver from the bytes of a journal, and writes its handle. Returns 0, or why there is no resolver; then
+/// it writes nothing.
 #[unsafe(no_mangle)]
 pub extern "C" fn simplex_resolver_start(
     alloc: Global,

@@ -35,7 +35,8 @@ same_host_payload d e = bytes_eq (bytes_in_digest d) (bytes_in_digest e)
 abbrev pub host_leader : HostElector → Round → Option (List ℕ) → ℕ
 host_leader e round seed = leader_after e round.view seed
 
--- no call was made, and everything is unchanged: one of its numbers is not valid for a call, or there was no memory for its certificate
+-- no call was made, and everything is unchanged: one of its numbers is not valid for a call, or there was no memory for
+-- its certificate
 abbrev pub IsNotMade : Held → FlatCall → FlatReply → Held → Type 0
 IsNotMade old f r new = (new ≡ old) × (((r.status ≡ 6) × IsNoFlatCall f) ⊎ ((r.status ≡ 7) × PassesCertificate f))
 

@@ -37,7 +37,8 @@ use Rattle.ffi_member.specs.Calls.{IsFlatProposal, flat_round}
 use Rattle.ffi_member.specs.Journals.{HostArtifact, IsNotRead, framed}
 use Rattle.ffi_member.specs.Numbers.{fault_status, flag_number, missing_number}
 
--- a resolver that received the entries whose frames these bytes are, and then the end of its replay; nothing is to be read yet
+-- a resolver that received the entries whose frames these bytes are, and then the end of its replay; nothing is to be
+-- read yet
 pub record IsReplayedFrom (term_length : ℕ) (journal : List ℕ) (held : HeldResolver) : Type 0 where
   pub entries : List HostArtifact
   pub read : journal ≡ framed entries
@@ -132,7 +133,8 @@ IsNoResolverCall f = (2 ≤ f.success) ⊎ ((1 ≤ f.proposal.round.view) × ((f
 abbrev pub HasTold : FlatResolverReply → Type 0
 HasTold f = (0 < f.kind) × (f.kind < 5) × (f.success < 2) × (1 ≤ f.proposal.round.view)
 
--- why nothing was passed to the resolver: the view is that of genesis, a number is not valid, or there was no memory for the certificate
+-- why nothing was passed to the resolver: the view is that of genesis, a number is not valid, or there was no memory
+-- for the certificate
 abbrev pub IsUntold : FlatResolverReply → FlatEffects → Type 0
 IsUntold f r =
     (HasNoEffects 5 r × (f.success < 2) × (f.proposal.round.view ≡ 0))

@@ -97,7 +97,8 @@ pub record IsRestartOf (f : FlatRestart) (leaders bytes : List ℕ)
   pub drop : r.drop ≡ f.drop
   pub prune : flag_number r.prune ≡ f.prune
 
--- the member is restarted with this result, which retains the orders of the votes that stay, and all that is read of the handle
+-- the member is restarted with this result, which retains the orders of the votes that stay, and all that is read of
+-- the handle
 pub record IsRestartTo
     (old : Held) (f : FlatRestart) (leaders bytes : List ℕ) (result : Result (Unit {0}) RecoverError)
     (new : Held) : Type 0 where

@@ -147,7 +147,8 @@ pub record IsStartRefused (f : FlatSettings) (leaders bytes : List ℕ) (broken 
   pub numbers : settings_error f leaders ≡ None
   pub first : engine_error config elector ≡ Some broken
 
--- why no member starts with these settings: memory ran out, at the least for those of a member, or they break this rule first
+-- why no member starts with these settings: memory ran out, at the least for those of a member, or they break this rule
+-- first
 abbrev pub IsNoStart : FlatSettings → List ℕ → List ℕ → SettingsError → Type 0
 IsNoStart f leaders bytes error.OutOfMemory = config_error f ≡ None
 IsNoStart f leaders bytes (error.Refused broken) = IsStartRefused f leaders bytes broken

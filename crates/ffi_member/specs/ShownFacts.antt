@@ -62,7 +62,8 @@ pub record AreViewsAfter (m : HostMember) (count : ℕ) (entries : List HostArti
   pub behind : entries_of certificate_bytes entries ≡ drop count m.facts.entries
   pub votes : votes_of entries ≡ votes_since count m
 
--- they are loaded as frames, which hold each of them; or there was no memory for them, or no frame holds one, and nothing is loaded
+-- they are loaded as frames, which hold each of them; or there was no memory for them, or no frame holds one, and
+-- nothing is loaded
 abbrev pub AreShown : List HostArtifact → FlatEntries → List ℕ → Type 0
 AreShown entries r shown =
     ((r.status ≡ 0) × All FitsFrame entries × (shown ≡ framed entries))

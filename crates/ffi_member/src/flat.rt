@@ -18,8 +18,8 @@ pub struct FlatProposal {
     pub payload: [u8; 32],
 }
 
-/// A call. `IsAskedBy` says which fields each kind reads. The others may be anything, except `reason` and `success`, which are checked in
-/// each call.
+/// A call. `IsAskedBy` says which fields each kind reads. The others may be anything, except `reason` and `success`,
+/// which are checked in each call.
 #[repr(C)]
 #[derive(Clone, Copy)]
 pub struct FlatCall {
@@ -43,7 +43,8 @@ pub struct FlatCall {
     pub proposal: FlatProposal,
 }
 
-/// The context in which a proposal is built or verified: its round, and the parent with its payload. `member` has the leader.
+/// The context in which a proposal is built or verified: its round, and the parent with its payload. `member` has the
+/// leader.
 #[repr(C)]
 #[derive(Clone, Copy)]
 pub struct FlatContext {
@@ -54,13 +55,13 @@ pub struct FlatContext {
     pub payload: [u8; 32],
 }
 
-/// The reply to a call. `RepresentsReply` says which fields each kind has; the others have no meaning. A certificate, the text to sign, and lists
-/// stay behind the handle until the next call.
+/// The reply to a call. `RepresentsReply` says which fields each kind has; the others have no meaning. A certificate,
+/// the text to sign, and lists stay behind the handle until the next call.
 #[repr(C)]
 #[derive(Clone, Copy)]
 pub struct FlatReply {
-    /// 0 if the call was made; 1 to 4 for a fault, and 5 if the call is not allowed. 6 if one of its numbers is not valid for a call, and 7
-    /// if there was no memory for its certificate: then no call was made.
+    /// 0 if the call was made; 1 to 4 for a fault, and 5 if the call is not allowed. 6 if one of its numbers is not
+    /// valid for a call, and 7 if there was no memory for its certificate: then no call was made.
     pub status: u32,
     /// The kind of the reply.
     pub kind: u32,

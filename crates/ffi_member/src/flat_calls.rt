@@ -21,8 +21,8 @@ use std::alloc::{AllocError, Global};
 /// A call of a member of the host.
 pub type HostCall = Call<HostScheme, HostDigest>;
 
-/// Returns the call that a flat call represents, with the bytes of the certificate that it passes; `None` if one of its numbers is not
-/// valid for a kind, reason or verdict.
+/// Returns the call that a flat call represents, with the bytes of the certificate that it passes; `None` if one of its
+/// numbers is not valid for a kind, reason or verdict.
 pub fn call_of(
     alloc: Global,
     flat: &FlatCall,

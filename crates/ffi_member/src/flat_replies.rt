@@ -1,5 +1,5 @@
-//! The flat form of a member's replies. None of it takes memory: a certificate, a text to sign and lists stay in the reply, and are read
-//! from it.
+//! The flat form of a member's replies. None of it takes memory: a certificate, a text to sign and lists stay in the
+//! reply, and are read from it.
 
 ghost use Rattle.std.specs.Prelude.{◌≡◌, option_map};
 ghost use Rattle.simplex_types.specs.Certificates.{certificate_facts};

@@ -1,4 +1,5 @@
-//! A member behind a handle, with its last reply: the host reads there what flat replies leave out, which never takes memory.
+//! A member behind a handle, with its last reply: the host reads there what flat replies leave out, which never takes
+//! memory.
 
 ghost use Rattle.std.specs.Prelude.{IfOk, IfErr, ◌≡◌, ◌≤◌, MatchOption, Some, length, slice_get};
 
@@ -44,7 +45,8 @@ impl Held {
     ghost use Rattle.ffi_member.specs.MemberStart.{IsFresh, IsNotStarted, IsStarted};
     ghost use Rattle.ffi_member.specs.MemberHandles.{IsCallServed, IsFetchAt, IsProposalAt, dropped_in, fetches_in, proposals_in, reply_bytes};
 
-    /// Starts a member that never voted, from flat settings, a table of leaders and the bytes of the floor's certificate.
+    /// Starts a member that never voted, from flat settings, a table of leaders and the bytes of the floor's
+    /// certificate.
     pub fn start(
         alloc: Global,
         flat: &FlatSettings,
@@ -78,8 +80,8 @@ impl Held {
         }
     }
 
-    /// Makes a call of the member. The reply has everything but a certificate, a text to sign and lists. The functions below read those
-    /// until the next call is made.
+    /// Makes a call of the member. The reply has everything but a certificate, a text to sign and lists. The functions
+    /// below read those until the next call is made.
     pub fn call(&mut self, flat: &FlatCall, certificate: &[u8]) -> FlatReply
         ensures { IsCallServed self.old flat.now certificate.now result self.new }
     {
@@ -102,7 +104,8 @@ impl Held {
         &self.member
     }
 
-    /// Returns the text to sign for the vote of the last reply, or the bytes of its certificate; nothing if it has neither.
+    /// Returns the text to sign for the vote of the last reply, or the bytes of its certificate; nothing if it has
+    /// neither.
     pub fn bytes(&self) -> &[u8]
         ensures { result.now ≡ reply_bytes self.now.last }
     {

@@ -6,8 +6,9 @@ use crate::view_types::FlatEntries;
 impl Held {
     ghost use Rattle.ffi_member.specs.Pruning.{IsPruned};
 
-    /// Removes from the record what a restart would prune, except for views that the state still tracks, and loads all that is left as
-    /// frames, to be stored in place of the journal. This works also for a member that has failed. The lifetime continues unchanged.
+    /// Removes from the record what a restart would prune, except for views that the state still tracks, and loads all
+    /// that is left as frames, to be stored in place of the journal. This works also for a member that has failed. The
+    /// lifetime continues unchanged.
     ///
     /// The record is pruned also if there was no memory to load it: then `entries` loads it.
     pub fn prune_record(&mut self) -> FlatEntries

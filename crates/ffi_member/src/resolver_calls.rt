@@ -87,7 +87,8 @@ impl HeldResolver {
         }
     }
 
-    /// Passes a newly accepted certificate, or a verdict, to the resolver. The functions below read the effects until the next input.
+    /// Passes a newly accepted certificate, or a verdict, to the resolver. The functions below read the effects until
+    /// the next input.
     pub fn told(&mut self, flat: &FlatResolverReply, certificate: &[u8]) -> FlatEffects
         ensures { IsHeard self.old flat.now certificate.now result self.new }
     {

@@ -6,8 +6,8 @@ use crate::flat::FlatProposal;
 #[repr(C)]
 #[derive(Clone, Copy)]
 pub struct FlatResolverReply {
-    /// 1 for a notarization that was newly accepted, 2 for a nullification, 3 for a finalization; 4 for the verdict on a
-    /// notarization.
+    /// 1 for a notarization that was newly accepted, 2 for a nullification, 3 for a finalization; 4 for the verdict on
+    /// a notarization.
     pub kind: u32,
     /// A verdict: 1 if the proposal is certified, else 0. It is checked for each kind.
     pub success: u32,
@@ -19,8 +19,8 @@ pub struct FlatResolverReply {
 #[repr(C)]
 #[derive(Clone, Copy, Debug)]
 pub struct FlatEffects {
-    /// 0; 1 to 3 for a fault, 5 if the view is 0, 6 if one of the numbers is not valid, and 7 if there was no memory for the certificate:
-    /// after 5 to 7 nothing was passed to the resolver.
+    /// 0; 1 to 3 for a fault, 5 if the view is 0, 6 if one of the numbers is not valid, and 7 if there was no memory
+    /// for the certificate: after 5 to 7 nothing was passed to the resolver.
     pub status: u32,
     /// Unused.
     pub reserved: u32,
@@ -36,11 +36,12 @@ pub struct FlatEffects {
 pub struct FlatEffect {
     /// 0.
     pub status: u32,
-    /// 1: a nullification that covers `view` is to be fetched; 2: nothing is left to ask for at the views `view` to `end`; 3: each request
-    /// at or below `view` is settled; 4: each fetch at or below `view` ends. 0 if there is no such effect.
+    /// 1: a nullification that covers `view` is to be fetched; 2: nothing is left to ask for at the views `view` to
+    /// `end`; 3: each request at or below `view` is settled; 4: each fetch at or below `view` ends. 0 if there is no
+    /// such effect.
     pub kind: u32,
-    /// For 1 the reason: 0 for a missing nullification, 1 for a failed certification. For 2 what is settled: 0 for nullifications, 1 for
-    /// notarizations.
+    /// For 1 the reason: 0 for a missing nullification, 1 for a failed certification. For 2 what is settled: 0 for
+    /// nullifications, 1 for notarizations.
     pub reason: u32,
     /// Unused.
     pub reserved: u32,

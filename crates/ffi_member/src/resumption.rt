@@ -33,8 +33,8 @@ pub enum NotResumed {
 impl Held {
     ghost use Rattle.ffi_member.specs.Resumption.{IsRestartedBy, IsResumedBy};
 
-    /// Resumes a member from its journal: the bytes of its entries as frames, and what was last stored beside them. Nothing is dropped or
-    /// pruned.
+    /// Resumes a member from its journal: the bytes of its entries as frames, and what was last stored beside them.
+    /// Nothing is dropped or pruned.
     pub fn resume(
         alloc: Global,
         flat: &FlatSettings,
@@ -58,8 +58,8 @@ impl Held {
         }
     }
 
-    /// Ends the member's lifetime, also one that has failed, and begins another from its record, with these settings. Before that it drops
-    /// the last entries and prunes the record, as asked.
+    /// Ends the member's lifetime, also one that has failed, and begins another from its record, with these settings.
+    /// Before that it drops the last entries and prunes the record, as asked.
     ///
     /// If the settings are refused, nothing changes.
     pub fn restart(
@@ -103,7 +103,8 @@ pub struct Resumption {
     pub entries: Vec<HostArtifact>,
 }
 
-/// Returns the input of a resume, from flat settings and the bytes of a journal, which has all entries that were counted.
+/// Returns the input of a resume, from flat settings and the bytes of a journal, which has all entries that were
+/// counted.
 pub fn read_resumption(
     alloc: Global,
     flat: &FlatSettings,

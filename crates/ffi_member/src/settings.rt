@@ -55,8 +55,8 @@ impl From<AllocError> for SettingsError {
 /// How a member of the host starts.
 pub type HostStart = Start<HostScheme, HostElector, HostDigest>;
 
-/// Checks flat settings, and returns how a member starts from them, with a table of leaders and the bytes of the floor's certificate, at a
-/// moment in milliseconds.
+/// Checks flat settings, and returns how a member starts from them, with a table of leaders and the bytes of the
+/// floor's certificate, at a moment in milliseconds.
 pub fn start_of(
     alloc: Global,
     flat: &FlatSettings,

@@ -55,7 +55,8 @@ pub struct FlatEntries {
 pub struct FlatView {
     /// 0, or 2 if the member has failed: then no other field has a meaning.
     pub status: u32,
-    /// The index of the view's leader, if the view is tracked and its leader known; else the greatest number of 32 bits.
+    /// The index of the view's leader, if the view is tracked and its leader known; else the greatest number of 32
+    /// bits.
     pub leader: u32,
     /// 1 if the view is tracked.
     pub is_tracked: u32,

@@ -92,8 +92,8 @@ impl Held {
         view_in(self.member.state(), view)
     }
 
-    /// Loads the bytes of a view's certificate, and returns its subject: 1 asks for a notarization, 2 for a nullification, 3 for a
-    /// finalization.
+    /// Loads the bytes of a view's certificate, and returns its subject: 1 asks for a notarization, 2 for a
+    /// nullification, 3 for a finalization.
     pub fn certificate(&mut self, kind: u32, view: u64) -> FlatFound
         ensures { IsFound self.old kind view result self.new }
     {
@@ -117,8 +117,8 @@ impl Held {
         chunk_of(self.shown(), from)
     }
 
-    /// Returns an item of the last reply's lists: 1 asks for a proposal to certify, 2 for a certificate to fetch, 3 for a view that was
-    /// dropped.
+    /// Returns an item of the last reply's lists: 1 asks for a proposal to certify, 2 for a certificate to fetch, 3 for
+    /// a view that was dropped.
     pub fn item(&self, which: u32, index: u64) -> FlatItem
         ensures { IsItem self.now.last which index result }
     {

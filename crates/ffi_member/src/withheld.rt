@@ -14,7 +14,8 @@ use simplex_voter::voter::Withheld;
 impl Held {
     ghost use Rattle.ffi_member.specs.Withheld.{IsWithheld};
 
-    /// Returns why the member withholds its vote of a kind on a view: 1 asks for a vote to notarize, 2 to nullify, 3 to finalize.
+    /// Returns why the member withholds its vote of a kind on a view: 1 asks for a vote to notarize, 2 to nullify, 3 to
+    /// finalize.
     pub fn withheld(&self, kind: u32, view: u64) -> FlatWithheld
         ensures { IsWithheld self.now.member.facts kind view result }
     {

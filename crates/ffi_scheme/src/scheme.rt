@@ -1,7 +1,7 @@
 //! Signing and certificates where a host in another language signs and verifies.
 //!
-//! The core's signature of a vote is an order: the member's index and the very bytes that the host must sign. So what is
-//! proved of signatures is proved of orders; the host itself must sign nothing else.
+//! The core's signature of a vote is an order: the member's index and the very bytes that the host must sign. So what
+//! is proved of signatures is proved of orders; the host itself must sign nothing else.
 
 ghost use Rattle.std.specs.Prelude.{◌≡◌, ◌<◌, ℕ, true, List, Option, Some, None, length, IfOk, OnOk};
 ghost use Rattle.std.specs.Option.{ForSome};

@@ -1,6 +1,6 @@
--- A network of four in terms of two views, whose members have different electors. In view 2 two members vote for a proposal each. Each
--- leads view 3 early by its own elector, and builds the same proposal on what it voted for. Then it restarts with another elector, by
--- which it does not lead view 3.
+-- A network of four in terms of two views, whose members have different electors. In view 2 two members vote for a
+-- proposal each. Each leads view 3 early by its own elector, and builds the same proposal on what it voted for. Then it
+-- restarts with another elector, by which it does not lead view 3.
 use Rattle.std.specs.Prelude.{ℕ, ◌+◌, false, true, List, [], ◌∷◌, ◌++◌, Some, None}
 use Rattle.simplex_types.specs.declared.types.messages.Proposal.{Proposal}
 use Rattle.simplex_voter.specs.declared.voter.propose.ProposalRequest.TheVariants.{Prepare}

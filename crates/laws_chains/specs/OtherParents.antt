@@ -1,5 +1,5 @@
--- A network of four in one term whose leader is faulty and proposes twice in view 1. One member votes for view 2 on the one
--- proposal's payload, and the others on the other one's, which is certified. All of them finalize view 2.
+-- A network of four in one term whose leader is faulty and proposes twice in view 1. One member votes for view 2 on the
+-- one proposal's payload, and the others on the other one's, which is certified. All of them finalize view 2.
 use Rattle.std.specs.Prelude.{◌≡◌, ℕ, true, List, [], ◌∷◌, ◌++◌, Contains, Some}
 use Rattle.simplex_types.specs.declared.types.messages.Context.{Context}
 use Rattle.simplex_types.specs.declared.types.messages.Proposal.{Proposal}
@@ -33,7 +33,8 @@ certifies_other p =
     ∷ (Calls (Certified p.round.view true 0), Judged true (Some (certificate p)))
     ∷ []
 
--- the member that voted for the proposal that is not certified: it receives proposals (`hears`), verifies and certifies them, and votes
+-- the member that voted for the proposal that is not certified: it receives proposals (`hears`), verifies and certifies
+-- them, and votes
 abbrev pub misled : Execution ℕ ℕ ℕ
 misled = execution_from (long_start 0) (
     hears (first_of 0) true

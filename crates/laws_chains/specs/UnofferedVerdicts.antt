@@ -1,5 +1,6 @@
--- A network of four in one term whose leader is faulty and proposes three times in view 1, to each member another proposal. Each
--- votes for it and for view 2 on its payload. View 2 is notarized, and each member takes the verdict that it is good; none offered it.
+-- A network of four in one term whose leader is faulty and proposes three times in view 1, to each member another
+-- proposal. Each votes for it and for view 2 on its payload. View 2 is notarized, and each member takes the verdict
+-- that it is good; none offered it.
 use Rattle.std.specs.Prelude.{◌≡◌, ℕ, ◌+◌, true, List, [], ◌∷◌, ◌++◌, None}
 use Rattle.simplex_types.specs.declared.types.messages.Proposal.{Proposal}
 use Rattle.simplex_types.specs.declared.types.messages.Subject.TheVariants as subject

@@ -17,8 +17,8 @@ use Rattle.simplex_engine.specs.Provenance.{pending_causes, step_causes, IsCause
 use Rattle.simplex_engine.specs.declared.engine.Engine.{Engine}
 
 module _ {S D K G C : Type 0} where
-  -- what was received before such a call: exactly this reply of the application, the leader's timeout, the proposal by its leader, or a
-  -- certificate on the same; any other call is the engine's own
+  -- what was received before such a call: exactly this reply of the application, the leader's timeout, the proposal by
+  -- its leader, or a certificate on the same; any other call is the engine's own
   abbrev pub IsToldBy : List (Cause S D K G C) → CallFacts D → Type 0
   IsToldBy causes (Verified view) = IsIn (Message (task.Verified view)) causes
   IsToldBy causes (VerificationFailed view _ _) = IsIn (Message (task.VerificationFailed view)) causes
@@ -54,7 +54,8 @@ CallsWereReceivedBefore S L D K G C =
     OfEachWay S L D K G C (λ now came out old new steps. (call : CallFacts D) (reply : Reply S D K G C)
     → Contains steps (Calls call, reply) → IsToldBy (came ++ pending_causes old) call)
 
--- what is returned, queued and planned in the end, except what is asked of peers, came in, was at hand, or was brought by a reply
+-- what is returned, queued and planned in the end, except what is asked of peers, came in, was at hand, or was brought
+-- by a reply
 abbrev pub WorkWasGiven : (S L D K G C : Type 0) → Type 0
 WorkWasGiven S L D K G C = OfEachWay S L D K G C (λ now came out old new steps.
     AreAmong (of_works out ++ pending_causes new) ((came ++ pending_causes old) ++ given_by_all now steps))

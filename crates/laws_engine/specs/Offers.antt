@@ -11,7 +11,8 @@ use Rattle.simplex_engine.specs.Provenance.{IsCaused}
 use Rattle.simplex_engine.specs.declared.engine.Engine.{Engine}
 use Rattle.laws_chains.specs.Offers.{IsRunOnOffers}
 
--- each verdict is on a proposal that the member offered and that has none, whatever came in, is returned, and need not be asked for
+-- each verdict is on a proposal that the member offered and that has none, whatever came in, is returned, and need not
+-- be asked for
 abbrev pub EnginesRunOnOffers : (S L D K G C : Type 0) → Type 0
 EnginesRunOnOffers S L D K G C =
     (same : D → D → Bool) (elect : Elect L) (bytes : D → List ℕ) (bytes_of : C → List ℕ) (now : ℕ)
@@ -21,7 +22,8 @@ EnginesRunOnOffers S L D K G C =
     → IsRunOnOffers same elect old.core.member.facts (map (λ e. e.0) it.steps) (map (λ e. told bytes_of e.1) it.steps)
     new.core.member.facts
 
--- a call of an engine that returned `Ok`: its moment, what came in, what was returned, what need not be asked for, and the engine after it
+-- a call of an engine that returned `Ok`: its moment, what came in, what was returned, what need not be asked for, and
+-- the engine after it
 pub record CallOf (S L D K G C : Type 0) : Type 0 where
   pub now : ℕ
   pub came : List (Cause S D K G C)

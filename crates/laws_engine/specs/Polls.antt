@@ -7,7 +7,8 @@ use Rattle.simplex_engine.specs.declared.engine.Engine.{Engine}
 use Rattle.simplex_engine.specs.AtRest.{HasSettled, ReturnsFirst, StaysAtRest}
 
 module _ {S L D K G C : Type 0} (now : ℕ) where
-  -- an engine before and after a poll at this moment that returned `Ok`, by the clauses `front`, `settles` and `stays` of `Engine::poll`
+  -- an engine before and after a poll at this moment that returned `Ok`, by the clauses `front`, `settles` and `stays`
+  -- of `Engine::poll`
   pub record IsPoll (out : Option (Output S D Stored K G C)) (old new : Engine S L D K G C) : Type 0 where
     pub front : ReturnsFirst {E = Fault} old.core.outbox.queue.items (Ok out) old new
     pub settles : old.core.outbox.queue.items ≡ [] → HasSettled now new

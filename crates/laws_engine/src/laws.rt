@@ -5,14 +5,14 @@ ghost use Rattle.laws_engine.specs.Laws.{CallsWereReceivedBefore, NullifiesOnceD
 ghost use Rattle.laws_engine.specs.Offers.{EnginesRunOnOffers, LifetimesRunOnOffers, RunsOnOffersJoin};
 ghost use Rattle.laws_engine.specs.Polls.{PollsSettle, SettledPollsEnd};
 
-/// An engine that changes as `provenance` says passes its member no verdict, block, proposal or certificate, and abandons no leader, except for
-/// what came in or was there before.
+/// An engine that changes as `provenance` says passes its member no verdict, block, proposal or certificate, and
+/// abandons no leader, except for what came in or was there before.
 pub fn calls_were_received_before<S, L, D, K, G, C>()
     ensures { CallsWereReceivedBefore S L D K G C }
 {}
 
-/// All work that it returns, queues or plans came in, was there before, or was in a reply of its member. The exception is what it asks of
-/// peers, which is not followed.
+/// All work that it returns, queues or plans came in, was there before, or was in a reply of its member. The exception
+/// is what it asks of peers, which is not followed.
 pub fn work_was_given<S, L, D, K, G, C>()
     ensures { WorkWasGiven S L D K G C }
 {}
@@ -26,8 +26,8 @@ pub fn nullifies_once_due<S, L, D, K, G, C>()
 ///
 /// - `runs`: the steps of a call that returns `Ok`, as `provenance` says them, are a run on offers.
 /// - `lifetimes`: the same for the steps of all calls of a lifetime that return `Ok`, one after another.
-/// - `join`: after one such run another may follow, as after a restart. `verdicts_on_offers_await_parents` of `laws_chains` says what
-///   follows for a network.
+/// - `join`: after one such run another may follow, as after a restart. `verdicts_on_offers_await_parents` of
+///   `laws_chains` says what follows for a network.
 pub fn engines_run_on_offers<S, L, D, K, G, C>()
     ensures runs { EnginesRunOnOffers S L D K G C }
     ensures lifetimes { LifetimesRunOnOffers S L D K G C }
@@ -37,8 +37,8 @@ pub fn engines_run_on_offers<S, L, D, K, G, C>()
 /// At one moment, with no input in between, an engine's polls come to `None`. `poll` of `polls` is such a poll.
 ///
 /// - `settles`: after as many polls as outputs were queued, one more does all that is due at this moment.
-/// - `ends`: from then on polls return what is queued, in order, and then `None` each time. So there are at most as many further outputs as
-///   the engine has queued by then.
+/// - `ends`: from then on polls return what is queued, in order, and then `None` each time. So there are at most as
+///   many further outputs as the engine has queued by then.
 pub fn polls_end<S, L, D, K, G, C>()
     ensures settles { PollsSettle S L D K G C }
     ensures ends { SettledPollsEnd S L D K G C }

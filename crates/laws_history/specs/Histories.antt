@@ -59,8 +59,9 @@ module _ {K L D : Type 0} (same : D → D → Bool) (elect : Elect L) where
   abbrev pub DeterminesMember : History K L D → MemberFacts K L D → Type 0
   DeterminesMember history m = MatchOption m.life (Unit {0}) (DeterminesState same elect history)
 
-  -- how a member's run leads from one history to another: each call by what the member has open then; a pruning of its record
-  -- says nothing of its state; a restart that is not refused takes again, in some order by view, what the cuts leave of its record
+  -- how a member's run leads from one history to another: each call by what the member has open then; a pruning of its
+  -- record says nothing of its state; a restart that is not refused takes again, in some order by view, what the cuts
+  -- leave of its record
   abbrev pub LeadsTo : MemberFacts K L D → History K L D → List (StepFacts K L D) → List (ReplyFacts K D)
       → History K L D → MemberFacts K L D → Type 0
   LeadsTo m history [] [] last end = (last ≡ history) × (m ≡ end)

@@ -30,8 +30,9 @@ kept_of history = kept_in history.fresh.settings.view_retention history.events
 abbrev pub comes_up : {K L D : Type 0} → (D → D → Bool) → Elect L → ℕ → StateFacts K L D → Event K D → Bool
 comes_up same elect v x e = is_some (enters v x e) || comes_to_track same elect v x e
 
--- what a state knows is what its history says: how it was set up, numbers, which views wait for certification, and of each
--- view that no prune has dropped whether it is tracked and its whole round. A view that a prune dropped isn't known again.
+-- what a state knows is what its history says: how it was set up, numbers, which views wait for certification, and of
+-- each view that no prune has dropped whether it is tracked and its whole round. A view that a prune dropped isn't
+-- known again.
 pub record DeterminesState {K L D : Type 0} (same : D → D → Bool) (elect : Elect L) (history : History K L D)
     (x : StateFacts K L D) : Type 0 where
   pub facts : x ≡ facts_after same elect history.fresh history.events

@@ -1,5 +1,5 @@
--- What events say of leaders, and of which views are tracked. A leader that is set stays, and so does a tracked view that no
--- prune drops.
+-- What events say of leaders, and of which views are tracked. A leader that is set stays, and so does a tracked view
+-- that no prune drops.
 use Rattle.std.specs.Prelude.{ℕ, zero, suc, ◌+◌, ◌-◌, Bool, true, false, ◌&&◌, ◌||◌, ◌==◌, List, Option, Some, None, is_some, is_none, option_and_then, if◌then◌else◌}
 use Rattle.std.specs.Option.{option_or}
 use Rattle.simplex_types.specs.Terms.{next_term_start}
@@ -41,7 +41,8 @@ module _ {K L D : Type 0} (elect : Elect L) where
       let u = c.proposal.round.view in
       window_leader (with_elected_leader elect x (u + 1) (Some c.bytes)) u v
 
-  -- the leader that a certificate gives the view: it elects for the next one, and the first of its kind opens windows above it
+  -- the leader that a certificate gives the view: it elects for the next one, and the first of its kind opens windows
+  -- above it
   abbrev pub leads_by : StateFacts K L D → Bool → ℕ → ProposalFacts D → Option (Leader K)
   leads_by x is_first v c =
       option_or

@@ -27,7 +27,8 @@ module _ {K L D : Type 0} where
   enters v x e =
       if v == entered_by x.terms.term_length (is_tracked x) e && nat_lt x.current v then moment_by e else None
 
-  -- the moment at which the vote to nullify the view is to be repeated: the retry interval after the first poll that finds it decided
+  -- the moment at which the vote to nullify the view is to be repeated: the retry interval after the first poll that
+  -- finds it decided
   abbrev pub retries : ℕ → StateFacts K L D → Event K D → Option ℕ
   retries v x (NextTimeout now) =
       if is_at x v x.current && awaits_retry (round_of x v) then Some (now + x.settings.timeout_retry) else None

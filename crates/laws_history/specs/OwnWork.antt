@@ -1,5 +1,6 @@
--- What a history says of a member's own work: its votes, the proposals that it stores and what it returned. Which vote is decided, and
--- which proposal is stored, depends on what the state knows when the event comes, which is what the events before it made of a new state.
+-- What a history says of a member's own work: its votes, the proposals that it stores and what it returned. Which vote
+-- is decided, and which proposal is stored, depends on what the state knows when the event comes, which is what the
+-- events before it made of a new state.
 use Rattle.std.specs.Prelude.{ℕ, Bool, false, not, ◌&&◌, ◌||◌, ◌==◌, List, [], ◌∷◌, Option, Some, None, is_some, is_none, if◌then◌else◌}
 use Rattle.std.specs.Option.{option_or, option_map_or}
 use Rattle.simplex_types.specs.Proposal.{same_proposal}
@@ -113,7 +114,8 @@ module _ {K L D : Type 0} (same : D → D → Bool) (elect : Elect L) where
   last_said says fresh [] = None
   last_said says fresh (e ∷ before) = option_or (says (facts_after fresh before) e) (last_said says fresh before)
 
-  -- the proposal of the last certificate that settled the view, or else the first one that was received or is the member's own
+  -- the proposal of the last certificate that settled the view, or else the first one that was received or is the
+  -- member's own
   abbrev pub held_in : ℕ → StateFacts K L D → List (Event K D) → Option (Proposal D)
   held_in v fresh [] = None
   held_in v fresh (e ∷ before) =

@@ -124,7 +124,8 @@ module _ {K L D : Type 0} (same : D → D → Bool) (elect : Elect L) where
   abbrev pub asks_for : ℕ → StateFacts K L D → Event K D → Option ℕ
   asks_for v x e = lacked_view (standing_by_event v x e)
 
-  -- the stored proposal is bound to its parent's payload where it is built, returned or replayed, until that is no longer true
+  -- the stored proposal is bound to its parent's payload where it is built, returned or replayed, until that is no
+  -- longer true
   abbrev pub binds : ℕ → StateFacts K L D → Event K D → Option (Option (Proposal D × D))
   binds v x (Proposed context payload _) =
       if v == context.round.view && proposed_answer same elect x context payload

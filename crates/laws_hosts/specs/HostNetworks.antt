@@ -1,4 +1,5 @@
--- A network of hosts: which are faulty, the processes of the others, and the certificates that the votes which they carried out make.
+-- A network of hosts: which are faulty, the processes of the others, and the certificates that the votes which they
+-- carried out make.
 use Rattle.std.specs.Prelude.{◌≡◌, ◌≢◌, ◌⊎◌, ℕ, ◌-◌, ◌*◌, ◌≤◌, ◌<◌, Bool, true, false, List, [], length, slice_get, Contains, Option, Some}
 use Rattle.std.specs.List.{count_by}
 use Rattle.simplex_types.specs.Certificates.{certificate_facts}
@@ -46,8 +47,9 @@ module _ {S L D K G C : Type 0} where
 
 module _ {S L D K G C : Type 0} (same : D → D → Bool) (elect : Elect L) (bytes_of : C → List ℕ)
     (is_signature : K → Subject D → G → Type 0) (keys_of : S → List K) (me : S → Option ℕ) (terms : L → Terms) where
-  -- member `i` has run these processes: at least one; each vote that it passed to an engine was carried out by its signer's host, unless
-  -- that is faulty; and each certificate that it passed, or that was the floor of an engine, may exist
+  -- member `i` has run these processes: at least one; each vote that it passed to an engine was carried out by its
+  -- signer's host, unless that is faulty; and each certificate that it passed, or that was the floor of an engine, may
+  -- exist
   pub record IsHonestHost (term_length i : ℕ) (hosts : List (Host S L D K G C)) (processes : List (Process S L D K G C))
       : Type 0 where
     pub some : processes ≢ []

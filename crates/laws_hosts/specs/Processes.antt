@@ -19,8 +19,8 @@ use Rattle.engine_outbox.specs.Journals.{Journal, journal_of}
 use Rattle.simplex_engine.specs.declared.engine.Engine.{Engine}
 use Rattle.laws_hosts.specs.EngineCalls.{EngineCall, outputs_of, AreEngineCalls}
 
--- a process of a host: the start of its engine, the engine as it began, the calls, the engine after them, and the outputs that the host
--- carried out before it stopped
+-- a process of a host: the start of its engine, the engine as it began, the calls, the engine after them, and the
+-- outputs that the host carried out before it stopped
 pub record Process (S L D K G C : Type 0) : Type 0 where
   pub start : Start S L D K G C
   pub first : Engine S L D K G C
@@ -35,8 +35,8 @@ carried_by (process ∷ rest) = process.carried ++ carried_by rest
 
 module _ {S L D K G C : Type 0} (same : D → D → Bool) (elect : Elect L) (bytes_of : C → List ℕ)
     (keys_of : S → List K) (me : S → Option ℕ) (terms : L → Terms) where
-  -- the member of an engine begins by `start` if nothing was stored (its clauses `begins` and `votes`), and by `resume` from what was stored
-  -- otherwise (its clauses `continues` and `votes`)
+  -- the member of an engine begins by `start` if nothing was stored (its clauses `begins` and `votes`), and by `resume`
+  -- from what was stored otherwise (its clauses `continues` and `votes`)
   abbrev pub MemberBegins : Option Stored → List (Artifact S D K G C) → Start S L D K G C → SignedMember K L D G
       → Type 0
   MemberBegins None entries start member = HasStarted same elect me terms start member.facts × (member.votes ≡ [])
@@ -54,8 +54,9 @@ module _ {S L D K G C : Type 0} (same : D → D → Bool) (elect : Elect L) (byt
 
 module _ {S L D K G C : Type 0} (same : D → D → Bool) (elect : Elect L) (bytes_of : C → List ℕ)
     (is_signature : K → Subject D → G → Type 0) (keys_of : S → List K) (me : S → Option ℕ) (terms : L → Terms) where
-  -- what a process of member `i` of so many members did, in terms of this length: its engine began from the journal, the calls did not make
-  -- it fail, and the host carried out the first outputs, perhaps with a part of the `Store` after them
+  -- what a process of member `i` of so many members did, in terms of this length: its engine began from the journal,
+  -- the calls did not make it fail, and the host carried out the first outputs, perhaps with a part of the `Store`
+  -- after them
   pub record IsProcess (term_length i members : ℕ) (journal : Journal S D Stored K G C) (process : Process S L D K G C)
       : Type 0 where
     pub starts : StartsAs me terms term_length i process.start

@@ -1,4 +1,5 @@
-//! The calls of a host, each made of an engine: what `hosts_agree` says of calls is what the engine's contract promises.
+//! The calls of a host, each made of an engine: what `hosts_agree` says of calls is what the engine's contract
+//! promises.
 
 ghost use Rattle.std.specs.Prelude.{◌≡◌, length, IfOk, Some};
 ghost use Rattle.engine_outbox.specs.Journals.{empty_journal};

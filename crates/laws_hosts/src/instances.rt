@@ -24,7 +24,8 @@ pub fn start_alone<S: Assembly<D>, L: Elector<S>, D: Digest>(
     requires members { L.members start.settings.elector ≡ length (S.participants start.settings.scheme) }
     requires lone { length (S.participants start.settings.scheme) ≡ 1 }
     requires genesis { floor_in start.floor ≡ [] }
-    ensures { IfOk result (IsLoneNetwork D.eq L.elect S.certificate_bytes S.IsSignature S.participants S.me L.terms start) }
+    ensures { IfOk result (IsLoneNetwork D.eq L.elect S.certificate_bytes S.IsSignature S.participants S.me
+        L.terms start) }
 {
     start_engine(alloc, start, options)
 }

@@ -117,7 +117,8 @@ pub record IsServedAs (n : Network) (held : Option (List ℕ)) (r : Result (Unit
   pub transcribed : IsTranscribed n lines held last.held s
   pub ended : EndsServing last (length lines + 1) r after
 
--- whatever a voter's lines are, and however serving ends: unless memory runs out at the start, there is a lawful execution
+-- whatever a voter's lines are, and however serving ends: unless memory runs out at the start, there is a lawful
+-- execution
 abbrev pub VoterTranscriptsAreLawful : Type 0
 VoterTranscriptsAreLawful =
     (members : ℕ) (me : Option ℕ) (term_length optimistic : ℕ) (left held : Option (List ℕ))

@@ -28,7 +28,8 @@ module _ {K L D : Type 0} (same : D → D → Bool) (elect : Elect L) where
         (λ i x. IsSetUpAs epoch (length later) elector i x × StandsBefore parent view start x)
 
 module _ (K : Type 0) {L D : Type 0} (same : D → D → Bool) (elect : Elect L) where
-  -- from there they continue together; so from the first network a view is finalized that is above all that could be before
+  -- from there they continue together; so from the first network a view is finalized that is above all that could be
+  -- before
   abbrev pub MembersThatMeetContinue : Type 0
   MembersThatMeetContinue =
       (term_length epoch leader parent view start terms : ℕ) (elector : L)

@@ -13,7 +13,8 @@ use Rattle.laws_safety.specs.Executions.{Execution, trace_of}
 use Rattle.laws_progress.specs.MessageExchanges.{Exchanges}
 
 module _ {K L D : Type 0} where
-  -- an honest member accepted the certificate, received the proposal as one of the view, passed its payload as built, or voted for it
+  -- an honest member accepted the certificate, received the proposal as one of the view, passed its payload as built,
+  -- or voted for it
   abbrev pub IsAccepted : Subject D → List (Replica K L D) → Type 0
   IsAccepted c network = SomeHonest network (λ i s. Contains (trace_of s) (Accepts c))
 
@@ -39,8 +40,8 @@ module _ {K L D : Type 0} where
       ⊎ (IsGiven p building → ⊥) → IsReceivedByOne v p later → ⊥
 
 module _ (K : Type 0) {L D : Type 0} (same : D → D → Bool) (elect : Elect L) where
-  -- if a network can finalize, the later one keeps the premises of agreement, its members are the same ones, and the honest ones have done
-  -- what they had done
+  -- if a network can finalize, the later one keeps the premises of agreement, its members are the same ones, and the
+  -- honest ones have done what they had done
   abbrev pub MembersContinue : Type 0
   MembersContinue =
       (term_length : ℕ) (network later : List (Replica K L D)) (final : Proposal D)
@@ -50,8 +51,8 @@ module _ (K : Type 0) {L D : Type 0} (same : D → D → Bool) (elect : Elect L)
       × EachHonest network (λ i s. (t : Execution K L D) × (slice_get later i ≡ Some (Honest t)) × (t.start ≡ s.start)
       × ((d : TraceEvent D) → Contains (trace_of s) d → Contains (trace_of t) d))
 
-  -- no proposal of the finalized view or above could be finalized before; now each honest member has signed the vote to finalize
-  -- this one and accepted its finalization, which the honest members alone make
+  -- no proposal of the finalized view or above could be finalized before; now each honest member has signed the vote to
+  -- finalize this one and accepted its finalization, which the honest members alone make
   abbrev pub FinalizationsAreNew : Type 0
   FinalizationsAreNew =
       (term_length : ℕ) (network later : List (Replica K L D)) (final : Proposal D)

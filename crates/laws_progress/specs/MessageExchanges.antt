@@ -13,8 +13,8 @@ use Rattle.laws_progress.specs.ViewPositions.{proposal_in}
 use Rattle.laws_progress.specs.SharedView.{terms_on}
 
 module _ {K L D : Type 0} where
-  -- one exchange of messages: what an honest member receives was accepted, passed in or built by an honest one before, or is made of votes
-  -- that honest ones had signed before
+  -- one exchange of messages: what an honest member receives was accepted, passed in or built by an honest one before,
+  -- or is made of votes that honest ones had signed before
   pub record IsExchange (network later : List (Replica K L D)) : Type 0 where
     pub continues : ReplicasContinue network later
     pub certificates : EachHonest later
@@ -29,7 +29,8 @@ module _ {K L D : Type 0} where
       (between : List (Replica K L D)) × IsExchange network between × Exchanges count between later
 
 module _ (K : Type 0) {L D : Type 0} (same : D → D → Bool) (elect : Elect L) where
-  -- from a network with an honest member at most this number of terms before the start's, it takes one for each of these terms, and four
+  -- from a network with an honest member at most this number of terms before the start's, it takes one for each of
+  -- these terms, and four
   abbrev pub IsFinalizedSoon : Type 0
   IsFinalizedSoon =
       (term_length epoch leader start terms : ℕ) (elector : L) (network : List (Replica K L D)) (payload : D)
@@ -41,8 +42,8 @@ module _ (K : Type 0) {L D : Type 0} (same : D → D → Bool) (elect : Elect L)
       × Exchanges (terms + 4) network later
       × ContinuesToFinalize same elect term_length network later (proposal_in epoch start parent payload)
 
-  -- with leaders round-robin, if some terms are skipped, and no start of the f + 1 after these is known: one of them is finalized, and it
-  -- takes one for each term that is skipped, and f + 5
+  -- with leaders round-robin, if some terms are skipped, and no start of the f + 1 after these is known: one of them is
+  -- finalized, and it takes one for each term that is skipped, and f + 5
   abbrev pub IsFinalizedInTurn : Type 0
   IsFinalizedInTurn =
       (term_length epoch view turn skipped : ℕ) (elector : L) (network : List (Replica K L D)) (payload : D)

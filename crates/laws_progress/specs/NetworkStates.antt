@@ -9,7 +9,8 @@ use Rattle.laws_safety.specs.Replicas.{Replica}
 use Rattle.laws_safety.specs.Executions.{new_member, Execution}
 
 module _ {K L D : Type 0} where
-  -- the member's lifetime is set up as this one of the network's, and a view that is entered at moment 0 has deadlines in time
+  -- the member's lifetime is set up as this one of the network's, and a view that is entered at moment 0 has deadlines
+  -- in time
   pub record IsSetUpAs (epoch count : ℕ) (elector : L) (i : ℕ) (x : StateFacts K L D) : Type 0 where
     pub signs : x.me ≡ Some i
     pub of_epoch : x.settings.epoch ≡ epoch

@@ -13,7 +13,8 @@ use Rattle.laws_progress.specs.ViewCauses.{HasCertified, judged_of}
 use Rattle.laws_progress.specs.ViewPositions.{proposal_in}
 
 module _ {K L D : Type 0} (same : D → D → Bool) (elect : Elect L) where
-  -- if an honest member's application found a view valid, no other's has found it invalid, above what that one finalized
+  -- if an honest member's application found a view valid, no other's has found it invalid, above what that one
+  -- finalized
   abbrev pub AreConsistent : ℕ → List (Replica K L D) → Type 0
   AreConsistent epoch network =
       EachHonest network (λ i s. EachHonest network (λ j t.
@@ -24,7 +25,8 @@ module _ {K L D : Type 0} (same : D → D → Bool) (elect : Elect L) where
   pub record MayContinue (term_length : ℕ) (network : List (Replica K L D)) (epoch : ℕ) (elector : L)
       (leader start : ℕ) : Type 0 where
     pub few_faulty : faults network ≤ max_faults (length network)
-    -- each honest member has not failed, signs as itself, shares the epoch and the elector, is below the start, and knows nothing of it
+    -- each honest member has not failed, signs as itself, shares the epoch and the elector, is below the start, and
+    -- knows nothing of it
     pub alive : EachRuns same elect network
         (λ i x. IsSetUpAs epoch (length network) elector i x × (is_tracked x start ≡ false) × (x.current < start))
     pub consistent : AreConsistent epoch network

@@ -52,7 +52,8 @@ module _ {D : Type 0} where
   HasNullified epoch trace view =
       (round : Round) × Contains trace (Accepts (subject.Nullify round)) × IsInEpoch epoch view round
 
--- a view is the first one, or lies just above one that was finalized or certified, or begins the term after one that was nullified
+-- a view is the first one, or lies just above one that was finalized or certified, or begins the term after one that
+-- was nullified
 pub data IsLedTo {D : Type 0} (term_length epoch : ℕ) (trace : List (TraceEvent D))
     (verdicts : List (Bool × Proposal D)) (view : ℕ) : Type 0 where
   First : view ≡ 1 → IsLedTo term_length epoch trace verdicts view

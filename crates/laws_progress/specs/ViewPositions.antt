@@ -31,7 +31,8 @@ module _ {K L D : Type 0} where
     pub no_verdict : round.certification ≡ Ready
     pub unbound : round.binding ≡ None
 
-  -- a proposal of the view on this parent can be verified by the member: the parent is certified or finalized, and all between is nullified
+  -- a proposal of the view on this parent can be verified by the member: the parent is certified or finalized, and all
+  -- between is nullified
   pub record CanStandOn (parent view : ℕ) (x : StateFacts K L D) : Type 0 where
     pub below : parent < view
     pub not_passed : x.finalized ≤ parent

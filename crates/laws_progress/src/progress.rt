@@ -1,4 +1,5 @@
-//! The laws of progress: what the honest members of a network can do alone. The functions do nothing: their contracts are the laws.
+//! The laws of progress: what the honest members of a network can do alone. The functions do nothing: their contracts
+//! are the laws.
 
 mod continuations;
 mod exchanges;

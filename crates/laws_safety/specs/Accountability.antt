@@ -1,4 +1,5 @@
--- Who is accountable for two certificates that contradict each other: for any number of faulty members, by what is known of each.
+-- Who is accountable for two certificates that contradict each other: for any number of faulty members, by what is
+-- known of each.
 use Rattle.std.specs.Prelude.{◌≡◌, ◌≢◌, ℕ, ◌+◌, ◌-◌, ◌*◌, ◌<◌, ◌≤◌, ◌⊎◌, ⊤, Bool, true, List, map, length, slice_get, Option, Some, None, Contains, is_some, not}
 use Rattle.std.specs.List.{count_by}
 use Rattle.simplex_types.specs.Terms.{covers}
@@ -17,8 +18,8 @@ module _ {D : Type 0} where
   abbrev pub AreRivals : Proposal D → Proposal D → Type 0
   AreRivals p q = (p.round.view ≡ q.round.view) × (p ≢ q)
 
-  -- two certificates contradict: they are of two proposals of a view; or a proposal above a finalized view names a parent below
-  -- that view; or a finalized view is covered by a nullification
+  -- two certificates contradict: they are of two proposals of a view; or a proposal above a finalized view names a
+  -- parent below that view; or a finalized view is covered by a nullification
   abbrev pub Contradicts : ℕ → Subject D → Subject D → Type 0
   Contradicts term_length (Notarize p) (Notarize q) = AreRivals p q
   Contradicts term_length (Notarize p) (Finalize final) =
@@ -32,8 +33,8 @@ module _ {D : Type 0} where
   Contradicts term_length (Finalize final) (Nullify round) = covers term_length round.view final.round.view ≡ true
   Contradicts term_length (Finalize p) (Finalize q) = AreRivals p q
 
-  -- two votes of one member that alone show that it broke a rule: two votes to notarize a view or two to finalize it, on two
-  -- proposals; or one to nullify a view and one to finalize it
+  -- two votes of one member that alone show that it broke a rule: two votes to notarize a view or two to finalize it,
+  -- on two proposals; or one to nullify a view and one to finalize it
   abbrev pub IsEvidence : Subject D → Subject D → Type 0
   IsEvidence (Notarize p) (Notarize q) = AreRivals p q
   IsEvidence (Finalize p) (Finalize q) = AreRivals p q
@@ -41,9 +42,9 @@ module _ {D : Type 0} where
   IsEvidence (Finalize p) (Nullify round) = round.view ≡ p.round.view
   IsEvidence a b = ⊥
 
-  -- how far two certificates that contradict are from such evidence. A nullification and a finalization: the distance of the
-  -- finalized view above the nullified one; a notarization and a finalization: farther than each nullification that covers the
-  -- finalized view
+  -- how far two certificates that contradict are from such evidence. A nullification and a finalization: the distance
+  -- of the finalized view above the nullified one; a notarization and a finalization: farther than each nullification
+  -- that covers the finalized view
   abbrev pub distance : Subject D → Subject D → ℕ
   distance (Notarize p) (Finalize final) = final.round.view + 1
   distance (Finalize final) (Notarize p) = final.round.view + 1
@@ -76,8 +77,8 @@ module _ {D : Type 0} where
       × HasSigned before (Finalize p)
       × (covers term_length round.view p.round.view ≡ true)
 
-  -- it voted to finalize a view after it had voted to nullify an earlier one of the term, and had accepted no finalization of
-  -- a view between
+  -- it voted to finalize a view after it had voted to nullify an earlier one of the term, and had accepted no
+  -- finalization of a view between
   abbrev pub FinalizesPastNullify : ℕ → List (TraceEvent D) → Round → Proposal D → Type 0
   FinalizesPastNullify term_length trace round p =
       (before : List (TraceEvent D))
@@ -99,8 +100,8 @@ module _ {D : Type 0} where
       ⊎ NullifiesFinalized term_length trace round final
       ⊎ FinalizesPastNullify term_length trace round final
 
-  -- a member that signed the votes of both of two certificates that contradict broke a rule by these: as evidence shows, or by what
-  -- it had done and accepted before one of them
+  -- a member that signed the votes of both of two certificates that contradict broke a rule by these: as evidence
+  -- shows, or by what it had done and accepted before one of them
   abbrev pub BreaksBy : ℕ → List (TraceEvent D) → Subject D → Subject D → Type 0
   BreaksBy term_length trace (Notarize p) (Finalize final) = BreaksByFinal term_length trace p final
   BreaksBy term_length trace (Finalize final) (Notarize p) = BreaksByFinal term_length trace p final
@@ -108,8 +109,8 @@ module _ {D : Type 0} where
   BreaksBy term_length trace (Finalize final) (Nullify round) = BreaksByNullify term_length trace round final
   BreaksBy term_length trace a b = IsEvidence a b
 
--- before it signed one of the two votes it accepted a third certificate, which contradicts one of the two and is nearer to it than
--- they are to each other
+-- before it signed one of the two votes it accepted a third certificate, which contradicts one of the two and is nearer
+-- to it than they are to each other
 pub record HasAcceptedNearer {D : Type 0} (term_length : ℕ) (a b : Subject D)
     (trace : List (TraceEvent D)) : Type 0 where
   pub third : Subject D
@@ -139,8 +140,8 @@ module _ {D : Type 0} where
       → Contains trace (Accepts certificate)
       → MayBeCertified members certificate
 
-  -- member `i` is accountable for both: nothing is known of it; or it signed both votes, and broke a rule by these or was misled by
-  -- a third certificate
+  -- member `i` is accountable for both: nothing is known of it; or it signed both votes, and broke a rule by these or
+  -- was misled by a third certificate
   abbrev pub IsResponsibleFor : ℕ → Subject D → Subject D → ℕ → Option (List (TraceEvent D)) → Type 0
   IsResponsibleFor term_length a b i None = ⊤
   IsResponsibleFor term_length a b i (Some trace) =
@@ -163,8 +164,8 @@ module _ {D : Type 0} where
   abbrev pub unknowns : List (Option (List (TraceEvent D))) → ℕ
   unknowns members = count_by (λ member. not (is_some member)) members
 
--- two certificates that contradict, no farther apart than two others, at which n - 2f members are unknown or broke a rule: among
--- those whose trace is known, n - 2f less the number of unknown ones
+-- two certificates that contradict, no farther apart than two others, at which n - 2f members are unknown or broke a
+-- rule: among those whose trace is known, n - 2f less the number of unknown ones
 pub record IsTraced {D : Type 0} (term_length : ℕ) (members : List (Option (List (TraceEvent D))))
     (a b : Subject D) : Type 0 where
   pub first : Subject D
@@ -223,7 +224,8 @@ module _ {K L D : Type 0} where
   known_of (Honest s) = Some (trace_of s)
 
 module _ {K L D : Type 0} (same : D → D → Bool) (elect : Elect L) where
-  -- for any number of faulty members: each other one runs as it says, and each certificate that one of these accepted is backed
+  -- for any number of faulty members: each other one runs as it says, and each certificate that one of these accepted
+  -- is backed
   pub record IsBackedNetwork (term_length : ℕ) (network : List (Replica K L D)) : Type 0 where
     pub honest : (i : ℕ) (s : Execution K L D) → slice_get network i ≡ Some (Honest s)
         → IsExecution same elect term_length i s
@@ -239,7 +241,8 @@ module _ (K : Type 0) {L D : Type 0} (same : D → D → Bool) (elect : Elect L)
       → Backed network b
       → length network - 2 * max_faults (length network) ≤ faults network
 
-  -- and two are found that contradict, no farther apart, with votes of n - 2f members that are faulty or broke a rule by these
+  -- and two are found that contradict, no farther apart, with votes of n - 2f members that are faulty or broke a rule
+  -- by these
   abbrev pub ContradictionsAreTracedInNetworks : Type 0
   ContradictionsAreTracedInNetworks =
       (term_length : ℕ) (network : List (Replica K L D)) (a b : Subject D)

@@ -1,5 +1,5 @@
--- A network of four in terms of two views, of which one is voted for ahead, and whose next leader takes over early; one member
--- starts late, at a finalized floor.
+-- A network of four in terms of two views, of which one is voted for ahead, and whose next leader takes over early; one
+-- member starts late, at a finalized floor.
 use Rattle.std.specs.Prelude.{ℕ, true, List, [], ◌∷◌, ◌++◌, Some, None}
 use Rattle.simplex_types.specs.Config.{Finalized}
 use Rattle.simplex_types.specs.declared.types.messages.Proposal.{Proposal}

@@ -39,8 +39,8 @@ refuses_certificates =
     ∷ (Calls (AddFinalization (certificate foreign) 0), NotAllowed)
     ∷ []
 
--- a member refuses certificates, and a restart that would retain more views of its pruned record, which changes nothing; a restart
--- at a floor of another epoch ends its lifetime, and it refuses all until it restarts
+-- a member refuses certificates, and a restart that would retain more views of its pruned record, which changes
+-- nothing; a restart at a floor of another epoch ends its lifetime, and it refuses all until it restarts
 abbrev pub refusing : Execution ℕ ℕ ℕ
 refusing = execution_from (start_at 5 (Genesis 0) 1) (
     accepts one
@@ -91,8 +91,9 @@ signs_nothing =
     ∷ (Calls (ConstructNullify 2), Nullify None)
     ∷ []
 
--- a member without a key restarts with one, with other settings and at another floor; it certifies view 2 false, and votes to
--- nullify it. Then its record has votes, so that it does not restart without a key, but with the first setup and the key it does
+-- a member without a key restarts with one, with other settings and at another floor; it certifies view 2 false, and
+-- votes to nullify it. Then its record has votes, so that it does not restart without a key, but with the first setup
+-- and the key it does
 abbrev pub changing : Execution ℕ ℕ ℕ
 changing = execution_from keyless_start (
     signs_nothing
@@ -117,6 +118,7 @@ abbrev pub abandoning : Execution ℕ ℕ ℕ
 abandoning = execution_from (start_at 5 (Genesis 0) 0)
     (votes_through 0 one ++ hears two true ∷ verifies 0 3 two ++ votes_against 0 2 ∷ [])
 
--- four members, of which the first leader is faulty; one votes to nullify view 2, and another one votes through both views
+-- four members, of which the first leader is faulty; one votes to nullify view 2, and another one votes through both
+-- views
 abbrev pub with_changing : List (Replica ℕ ℕ ℕ)
 with_changing = Honest abandoning ∷ Honest changing ∷ Honest (patient 2) ∷ Faulty ∷ []

@@ -61,7 +61,8 @@ module _ {K L D : Type 0} where
   HonestlyBacked network vote = AtLeastFrom 0 (quorum (length network)) (IsHonestlySigned vote) network
 
 module _ {K L D : Type 0} (same : D → D → Bool) (elect : Elect L) where
-  -- the network may continue as this later one, where this proposal is finalized, by actions of its honest members alone
+  -- the network may continue as this later one, where this proposal is finalized, by actions of its honest members
+  -- alone
   pub record ContinuesToFinalize (term_length : ℕ) (network later : List (Replica K L D))
       (final : Proposal D) : Type 0 where
     pub continues : ReplicasContinue network later

@@ -1,5 +1,5 @@
--- A network of four whose first leader proposes twice: no proposal gets enough votes, and each honest member restarts with a pruned
--- record.
+-- A network of four whose first leader proposes twice: no proposal gets enough votes, and each honest member restarts
+-- with a pruned record.
 use Rattle.std.specs.Prelude.{ℕ, true, false, List, [], ◌∷◌, ◌++◌, None}
 use Rattle.simplex_types.specs.declared.reasons.TimeoutReason.{TimeoutReason}
 use Rattle.simplex_types.specs.declared.reasons.TimeoutReason.TheVariants.{LeaderTimeout, CertificationTimeout}

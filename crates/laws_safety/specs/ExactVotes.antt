@@ -22,8 +22,8 @@ module _ {D : Type 0} where
   IsSignedFor me about d = (i : ℕ) × (vote : Subject D) × (me ≡ Some i) × (about ≡ Some vote) × (d ≡ Signs i vote)
 
 module _ {K D : Type 0} where
-  -- a vote is returned only if its rule holds, and signed accordingly; and if the rule holds and there is a key it is returned,
-  -- unless the call is refused
+  -- a vote is returned only if its rule holds, and signed accordingly; and if the rule holds and there is a key it is
+  -- returned, unless the call is refused
   pub record IsExact (Rule : Type 0) (me : Option ℕ) (about : Option (Subject D)) (told : ReplyFacts K D) : Type 0 where
     pub only : (d : TraceEvent D) → Contains (signed_in told) d → Rule × IsSignedFor me about d
     pub due : (d : TraceEvent D) → ends_in_fault told ≡ false → Rule → IsSignedFor me about d → signed_in told ≡ d ∷ []
@@ -33,8 +33,8 @@ abbrev pub proposal_at : {K L D : Type 0} → StateFacts K L D → ℕ → Optio
 proposal_at x v = (round_of x v).slot.held
 
 module _ {K L D : Type 0} (same : D → D → Bool) (elect : Elect L) where
-  -- by what the state knows before a step: the reply to each request for a vote is exactly by its rule, and no other reply has a
-  -- vote
+  -- by what the state knows before a step: the reply to each request for a vote is exactly by its rule, and no other
+  -- reply has a vote
   abbrev pub ExactAt : Option (StateFacts K L D) → StepFacts K L D → ReplyFacts K D → Type 0
   ExactAt None step told = signed_in told ≡ []
   ExactAt (Some x) (Calls (ConstructNullify v)) told =

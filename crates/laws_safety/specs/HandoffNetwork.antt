@@ -16,8 +16,8 @@ use Rattle.laws_safety.specs.Executions.{Execution}
 abbrev pub handed_over : Proposal ℕ
 handed_over = proposal 3 2
 
--- only member 0 receives the proposal of view 2, votes for it and for its own one on it, and has no vote left in view 3 when view 2
--- is nullified
+-- only member 0 receives the proposal of view 2, votes for it and for its own one on it, and has no vote left in view 3
+-- when view 2 is nullified
 abbrev pub takes_over : Execution ℕ ℕ ℕ
 takes_over = begins_with 2 0 (
     first_view 0

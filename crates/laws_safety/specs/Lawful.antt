@@ -55,7 +55,8 @@ pub record IsLawful {D : Type 0} (term_length : ℕ) (trace : List (TraceEvent D
   pub nullifies_ahead : (before : List (TraceEvent D)) (round : Round) (p : Proposal D)
       → SignsAfter trace before (subject.Nullify round)
       → HasSigned before (subject.Finalize p) → covers term_length round.view p.round.view ≡ false
-  -- a proposal that was voted for names an earlier view as its parent, and accepted nullifications cover each view between
+  -- a proposal that was voted for names an earlier view as its parent, and accepted nullifications cover each view
+  -- between
   pub parent_before : (before : List (TraceEvent D)) (p : Proposal D) → SignsAfter trace before (subject.Notarize p)
       → p.parent < p.round.view
   pub gapless : (before : List (TraceEvent D)) (p : Proposal D) (skipped : ℕ)

@@ -50,15 +50,16 @@ pub record CurrentTimesOut {K L D : Type 0} (x : StateFacts K L D) : Type 0 wher
   pub ahead : x.finalized < x.current
   pub timeout : has_timeout x ≡ true
 
--- wherever the rule of votes to notarize holds, the parent of the held proposal lies below the view, and nullifications that the
--- state knows at that moment cover each view between
+-- wherever the rule of votes to notarize holds, the parent of the held proposal lies below the view, and nullifications
+-- that the state knows at that moment cover each view between
 abbrev pub NotarizesGapless : {K L D : Type 0} → (D → D → Bool) → Elect L → StateFacts K L D → Type 0
 NotarizesGapless same elect x =
     (v : ℕ) (p : Proposal _) → NotarizeRule same elect x v → proposal_at x v ≡ Some p → (p.parent < v)
     × IsGapless x p.parent v
 
 module _ {K L D : Type 0} where
-  -- a poll returns a moment to wait for and its reason; or its member has failed, or its next retry passes the numbers of 64 bits
+  -- a poll returns a moment to wait for and its reason; or its member has failed, or its next retry passes the numbers
+  -- of 64 bits
   abbrev pub PollIsAnswered : StepFacts K L D → ReplyFacts K D → Type 0
   PollIsAnswered (Calls (NextTimeout _)) told =
       ((moment : ℕ × TimeoutReason) × (told ≡ TimesOut (Some moment)))

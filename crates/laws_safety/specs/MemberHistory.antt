@@ -38,15 +38,15 @@ module _ {K L D : Type 0} where
   with_step s step told = record s { steps = s.steps ++ step ∷ []; replies = s.replies ++ told ∷ [] }
 
 module _ {K L D : Type 0} (same : D → D → Bool) (elect : Elect L) where
-  -- this is the execution of the member so far, as member `i` of a network: its lifetimes began in turn (`lives`), and each of its
-  -- steps got its reply (`run`)
+  -- this is the execution of the member so far, as member `i` of a network: its lifetimes began in turn (`lives`), and
+  -- each of its steps got its reply (`run`)
   pub record HasExecution (term_length i : ℕ) (s : Execution K L D) (m : MemberFacts K L D) : Type 0 where
     pub lives : RunsAs term_length i s.start s.steps
     pub accepted : recover_error same (new_state s.start.setup) s.start.floor s.start.now [] ≡ None
     pub run : IsRun same elect (new_member same elect s.start) s.steps s.replies m
 
-  -- this is all that the member accepted and signed so far, as member `i` of a network: the trace of an execution that led to this
-  -- member (`told`)
+  -- this is all that the member accepted and signed so far, as member `i` of a network: the trace of an execution that
+  -- led to this member (`told`)
   pub record HasHistory (term_length i : ℕ) (all : List (TraceEvent D)) (m : MemberFacts K L D) : Type 0 where
     pub execution : Execution K L D
     pub told : HasExecution term_length i execution m
@@ -82,8 +82,8 @@ module _ {S L D K G C : Type 0} (same : D → D → Bool) (elect : Elect L) (me 
       → HasHistory same elect term_length i all m
       → HasHistory same elect term_length i (all ++ begun_by start result) next
 
-  -- one that resumes with this start from a journal has done all that the member did whose journal it is, and has also accepted the
-  -- floor's finalization
+  -- one that resumes with this start from a journal has done all that the member did whose journal it is, and has also
+  -- accepted the floor's finalization
   abbrev pub HasContinued : Stored → List (ArtifactFacts D) → Start S L D K G C → MemberFacts K L D → Type 0
   HasContinued stored entries start next =
       (m : MemberFacts K L D)

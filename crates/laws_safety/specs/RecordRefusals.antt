@@ -20,8 +20,8 @@ use Rattle.laws_safety.specs.Traces.{TraceEvent, Accepts, of_floor, trace_of_ste
 use Rattle.laws_safety.specs.Lawful.{HasSigned}
 use Rattle.laws_safety.specs.TermLengths.{HasTerms, KeepTerms}
 
--- the error comes from outside: from the next start's epoch, key, floor or moment, or from a proposal or view that others sent; not
--- from the order of the entries
+-- the error comes from outside: from the next start's epoch, key, floor or moment, or from a proposal or view that
+-- others sent; not from the order of the entries
 abbrev pub IsFromOutside : RecoverError → Type 0
 IsFromOutside error.OtherEpoch = Unit {0}
 IsFromOutside error.ZeroView = Unit {0}
@@ -100,8 +100,8 @@ module _ (K : Type 0) {L D : Type 0} (same : D → D → Bool) (elect : Elect L)
       → recover_error same (new_state next.start.setup) next.start.floor next.start.now copy ≡ Some error.ParentNotBelow
       → AcceptedParentAbove (of_floor start.floor ++ trace_of_steps steps replies)
 
-  -- for a run whose start is accepted, it is refused for a view that is too large only if the next floor names one, or the member
-  -- voted in one
+  -- for a run whose start is accepted, it is refused for a view that is too large only if the next floor names one, or
+  -- the member voted in one
   abbrev pub HighViewsAreVotedFor : Type 0
   HighViewsAreVotedFor =
       (term_length : ℕ) (start : StartFacts K L D) (steps : List (StepFacts K L D)) (replies : List (ReplyFacts K D))

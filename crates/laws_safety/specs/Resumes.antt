@@ -36,7 +36,8 @@ module _ (K : Type 0) {L D : Type 0} (same : D → D → Bool) (elect : Elect L)
       → IsRun same elect (new_member same elect start) steps replies m
       → Holds m
 
--- a restart that drops nothing and prunes makes of a record that was pruned within the lifetime what it makes of the whole one
+-- a restart that drops nothing and prunes makes of a record that was pruned within the lifetime what it makes of the
+-- whole one
 abbrev pub IsPrunedAsAtRestart : {K L D : Type 0} → MemberFacts K L D → Type 0
 IsPrunedAsAtRestart m = cut_member (pruned_member m) 0 true ≡ cut_member m 0 true
 

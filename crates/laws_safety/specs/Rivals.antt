@@ -1,5 +1,5 @@
--- Networks of four in which two are faulty and certificates contradict: of two proposals of one view, and of a finalized view that
--- a later proposal skips.
+-- Networks of four in which two are faulty and certificates contradict: of two proposals of one view, and of a
+-- finalized view that a later proposal skips.
 use Rattle.std.specs.Prelude.{ℕ, true, List, [], ◌∷◌, ◌++◌, Option, Some, None}
 use Rattle.simplex_types.specs.Config.{Genesis}
 use Rattle.simplex_types.specs.declared.types.messages.Proposal.{Proposal}
@@ -32,7 +32,8 @@ known_of_two_proposals =
 abbrev pub past_two : Proposal ℕ
 past_two = proposal 3 1
 
--- terms of one view: a member votes to finalize view 2, receives its nullification, and votes for view 3, which skips it
+-- terms of one view: a member votes to finalize view 2, receives its nullification, and votes for view 3, which skips
+-- it
 abbrev pub misled : Execution ℕ ℕ ℕ
 misled = execution_from (start_at 1 (Genesis 0) 0) (
     hears one true

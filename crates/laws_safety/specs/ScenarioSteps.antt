@@ -1,4 +1,5 @@
--- Pieces of the executions of four members. Each step is paired with its reply; keys, electors and payloads are numbers.
+-- Pieces of the executions of four members. Each step is paired with its reply; keys, electors and payloads are
+-- numbers.
 use Rattle.std.specs.Prelude.{ℕ, ◌+◌, ◌%◌, Bool, true, false, List, [], ◌∷◌, ◌++◌, map, Some, None}
 use Rattle.simplex_types.specs.Certificates.{ProposalFacts, NullificationFacts, NotarizeVote, NullifyVote, FinalizeVote}
 use Rattle.simplex_types.specs.Config.{Genesis}

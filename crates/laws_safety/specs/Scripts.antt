@@ -28,8 +28,8 @@ votes_through me p = hears p true ∷ verifies me 3 p ++ accepts p ++ votes_for 
 abbrev pub restarts : ℕ → Bool → StartFacts ℕ ℕ ℕ → StepFacts ℕ ℕ ℕ × ReplyFacts ℕ ℕ
 restarts drop prune start = (Restarts (record { drop = drop; prune = prune; start = start }), Restarted)
 
--- a term of five views: a member votes to nullify view 1 and may finalize neither it nor the next one, until it accepts the
--- finalization of view 1
+-- a term of five views: a member votes to nullify view 1 and may finalize neither it nor the next one, until it accepts
+-- the finalization of view 1
 abbrev pub impatient : Execution ℕ ℕ ℕ
 impatient = execution_from (start_at 5 (Genesis 0) 0) (
     votes_against 0 1
@@ -45,8 +45,8 @@ impatient = execution_from (start_at 5 (Genesis 0) 0) (
 abbrev pub patient : ℕ → Execution ℕ ℕ ℕ
 patient me = execution_from (start_at 5 (Genesis 0) me) (votes_through me one ++ votes_through me two)
 
--- a third one does the same, and restarts between the two: the finalization that came after its last vote is dropped, so that
--- it is new again, but not the vote; and its record is pruned
+-- a third one does the same, and restarts between the two: the finalization that came after its last vote is dropped,
+-- so that it is new again, but not the vote; and its record is pruned
 abbrev pub forgetful : Execution ℕ ℕ ℕ
 forgetful = execution_from (start_at 5 (Genesis 0) 2) (
     votes_through 2 one
@@ -78,9 +78,9 @@ two_faced me =
 abbrev pub known_of_overrun : List (Option (List (TraceEvent ℕ)))
 known_of_overrun = Some (trace_of impatient) ∷ Some (trace_of (patient 1)) ∷ Some (two_faced 2) ∷ None ∷ []
 
--- a member restarts three times: first the notarization that came after its last vote is dropped, so that it is new again, but not
--- the vote; then its record has been pruned within the lifetime, after the views that the state drops; then it starts at a
--- finalized floor
+-- a member restarts three times: first the notarization that came after its last vote is dropped, so that it is new
+-- again, but not the vote; then its record has been pruned within the lifetime, after the views that the state drops;
+-- then it starts at a finalized floor
 abbrev pub restarting : Execution ℕ ℕ ℕ
 restarting = execution_from (start_at 5 (Genesis 0) 1) (
     accepts one

@@ -55,8 +55,8 @@ module _ (K : Type 0) {L D : Type 0} (same : D → D → Bool) (elect : Elect L)
       → recover_error same (new_state start.setup) start.floor start.now entries ≡ None
       → CurrentTimesOut (recovered_state same elect (new_state start.setup) start.floor start.now entries)
 
-  -- for a state whose floor is set, after any events that it allows: `voted_nullify` is true of a view exactly if this member has a
-  -- key and its vote to nullify is decided there; the view is then tracked
+  -- for a state whose floor is set, after any events that it allows: `voted_nullify` is true of a view exactly if this
+  -- member has a key and its vote to nullify is decided there; the view is then tracked
   abbrev pub NullifyVotesAreDecided : Type 0
   NullifyVotesAreDecided =
       (setup : Setup K L) (floor : FloorFacts D) (now : ℕ) (events : List (Event K D)) (v : ℕ)

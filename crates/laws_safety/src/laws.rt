@@ -1,5 +1,5 @@
-//! The laws of members: agreement and the laws of votes, networks that exercise them, what each lifetime keeps in order, and the
-//! laws of records. The functions here do nothing: their contracts are the laws.
+//! The laws of members: agreement and the laws of votes, networks that exercise them, what each lifetime keeps in
+//! order, and the laws of records. The functions here do nothing: their contracts are the laws.
 
 mod continuations;
 mod contradictions;

@@ -8,25 +8,26 @@ pub fn covering_stays<K, L, D>()
     ensures { CoveringStays K L D }
 {}
 
-/// The search for the first gap finds the lowest uncovered view between two views, and nothing exactly where each is covered.
+/// The search for the first gap finds the lowest uncovered view between two views, and nothing exactly where each is
+/// covered.
 pub fn first_gap_is_found<K, L, D>()
     ensures { FindsFirstGap K L D }
 {}
 
-/// If no gap lies between two views, and none between the second and a third, none lies between the first and the third if
-/// the second is covered.
+/// If no gap lies between two views, and none between the second and a third, none lies between the first and the third
+/// if the second is covered.
 pub fn gapless_joins<K, L, D>()
     ensures { GaplessJoins K L D }
 {}
 
-/// The payload that a view offers before it is certified follows from those that the views below it offer, so it is at most
-/// one.
+/// The payload that a view offers before it is certified follows from those that the views below it offer, so it is at
+/// most one.
 pub fn optimistic_payload_is<K, L, D>()
     ensures { OptimisticPayloadIs K L D }
 {}
 
-/// An allowed parent is at or above the last finalized view and below its view, with no gap between, just below inside a
-/// term, and has the payload that the view may build on; and each such view is allowed.
+/// An allowed parent is at or above the last finalized view and below its view, with no gap between, just below inside
+/// a term, and has the payload that the view may build on; and each such view is allowed.
 pub fn allowed_parent_is<K, L, D>()
     ensures { AllowedParentIs K L D }
 {}
@@ -46,8 +47,8 @@ pub fn may_nullify_is<K, L, D>()
     ensures { MayNullifyIs K L D }
 {}
 
-/// A finalize vote may be signed exactly if each part of its rule holds: the view is certified, notarized, above the last
-/// finalized one, and no vote to nullify conflicts.
+/// A finalize vote may be signed exactly if each part of its rule holds: the view is certified, notarized, above the
+/// last finalized one, and no vote to nullify conflicts.
 pub fn may_finalize_is<K, L, D>()
     ensures { MayFinalizeIs K L D }
 {}

@@ -1,5 +1,5 @@
--- The bytes of an artifact: those of a certificate are its encoding; a vote is its kind, its signer in four bytes, its subject
--- and last the signature; a verdict is its kind, its round and one byte.
+-- The bytes of an artifact: those of a certificate are its encoding; a vote is its kind, its signer in four bytes, its
+-- subject and last the signature; a verdict is its kind, its round and one byte.
 use Rattle.std.specs.Prelude.{◌≡◌, ◌<◌, ◌≤◌, ◌^◌, ℕ, zero, suc, Bool, List, [], ◌∷◌, ◌++◌, length, get_or, Option, Some, None, IfSome, Result, IfOk, IsOkUnless, if◌then◌else◌}
 use Rattle.std.specs.Int.{w32, to_be_bytes}
 use Rattle.simplex_types.specs.declared.types.numbers.Round.{Round}

@@ -1,12 +1,13 @@
--- Entries one after another: each is framed by its length, which checks itself, and its digest, so that a cut or changed end is
--- found, and the two cases are distinguished.
+-- Entries one after another: each is framed by its length, which checks itself, and its digest, so that a cut or
+-- changed end is found, and the two cases are distinguished.
 use Rattle.std.specs.Prelude.{◌≡◌, ◌≢◌, ◌<◌, ◌+◌, ◌-◌, ◌^◌, ℕ, List, ◌++◌, length, take}
 use Rattle.std.specs.Int.{w32, to_be_bytes}
 use Rattle.sha2.specs.Sha256.{sha256}
 use Rattle.simplex_codec.specs.declared.frame.NoFrame.{NoFrame}
 use Rattle.simplex_codec.specs.declared.frame.NoFrame.TheVariants.{Cut, Damaged}
 
--- a length in four bytes, and in four more its difference to the greatest number of four bytes, which inverts each of its bits
+-- a length in four bytes, and in four more its difference to the greatest number of four bytes, which inverts each of
+-- its bits
 abbrev pub header : ℕ → List ℕ
 header n = to_be_bytes w32 n ++ to_be_bytes w32 (2 ^ 32 - 1 - n)
 

@@ -29,8 +29,8 @@ module _ {K L D : Type 0} where
   abbrev pub admits_votes : StateFacts K L D → Round → Bool
   admits_votes x round = is_of_epoch x round && (is_started x && admits_vote x round.view)
 
-  -- the state admits a proposal of the round by this member: it leads the view, votes of the round are admitted, and it is not the engine's
-  -- own
+  -- the state admits a proposal of the round by this member: it leads the view, votes of the round are admitted, and it
+  -- is not the engine's own
   abbrev pub admits_proposal : StateFacts K L D → ℕ → Round → Bool
   admits_proposal x from round =
       admits_votes x round && option_map_or (λ leader. leader == from) (leader_of x round.view) false
@@ -47,8 +47,8 @@ module _ {K L D : Type 0} where
   is_so test m = option_map_or test m.life false
 
 module _ {S L D K G C : Type 0} where
-  -- the engine admits an input: a proposal, a vote or a certificate by the state; a verdict on a proposal that was offered and has none;
-  -- anything else always
+  -- the engine admits an input: a proposal, a vote or a certificate by the state; a verdict on a proposal that was
+  -- offered and has none; anything else always
   abbrev pub is_input_admitted : (C → List ℕ) → MemberFacts K L D → Input S D K G C → Bool
   is_input_admitted bytes_of m (input.Proposal from proposal) = is_so (λ x. admits_proposal x from proposal.round) m
   is_input_admitted bytes_of m (input.Vote vote) = is_so (λ x. admits_votes x (subject_round vote.subject)) m
@@ -61,8 +61,8 @@ module _ {S L D K G C : Type 0} where
   abbrev pub ignoring : Engine S L D K G C → Engine S L D K G C
   ignoring engine = record engine { plan = record (engine.plan) { ignored = one_more engine.plan.ignored } }
 
-  -- a proposal that is not admitted is stored if it is of this epoch, and of one of the eight views after the current one, while fewer than
-  -- eight are stored
+  -- a proposal that is not admitted is stored if it is of this epoch, and of one of the eight views after the current
+  -- one, while fewer than eight are stored
   abbrev pub stores_early : Engine S L D K G C → Proposal D → Bool
   stores_early engine proposal =
       is_so (λ x. is_of_epoch x proposal.round) engine.core.member.facts

@@ -25,8 +25,9 @@ module _ {S D K G C : Type 0} where
   is_certify_of view (Certify proposal) = proposal.round.view == view
   is_certify_of view _ = false
 
-  -- among this work is each proposal that is being verified; each that was offered for certification and has no verdict; and the block of
-  -- each view whose request to build is open, except where a lone member waits until it enters the view
+  -- among this work is each proposal that is being verified; each that was offered for certification and has no
+  -- verdict; and the block of each view whose request to build is open, except where a lone member waits until it
+  -- enters the view
   pub record IsReportedIn (work : List (Work S D K G C)) (beside : Beside K D)
       (waiting : OutstandingWork K D) : Type 0 where
     pub verified : (view : ℕ) → is_verifying waiting view ≡ true → list_any (is_verify_of view) work ≡ true
@@ -38,14 +39,15 @@ module _ {S L D K G C : Type 0} where
   abbrev pub work_ahead : Engine S L D K G C → List (Work S D K G C)
   work_ahead engine = work_in engine.core.outbox.queue.items ++ work_planned engine.plan.steps.items
 
-  -- if this work was returned, each proposal and block that the application must receive was returned, is queued, or is planned
+  -- if this work was returned, each proposal and block that the application must receive was returned, is queued, or is
+  -- planned
   abbrev pub ReportsAfter : List (Work S D K G C) → Engine S L D K G C → Type 0
   ReportsAfter work engine =
       IsReportedIn (work ++ work_ahead engine) (beside_of engine.plan) engine.core.member.facts.outstanding_work
 
-  -- this is preserved after any work; no queued or planned work is lost; no block is added above the first view of the next term; the
-  -- plan's views stay the member's, and no proposal is lost that is early by them; and the options stay, and whether there are other
-  -- members
+  -- this is preserved after any work; no queued or planned work is lost; no block is added above the first view of the
+  -- next term; the plan's views stay the member's, and no proposal is lost that is early by them; and the options stay,
+  -- and whether there are other members
   pub record KeepsReports (old new : Engine S L D K G C) : Type 0 where
     pub stays : (work : List (Work S D K G C)) → ReportsAfter work old → ReportsAfter work new
     pub works : AreAmong (work_ahead old) (work_ahead new)
@@ -54,7 +56,8 @@ module _ {S L D K G C : Type 0} where
     pub early : TracksViews old.core.member.facts old.plan → StaysStoredEarly old.plan new.core.member.facts new.plan
     pub constants : constants_of new.plan ≡ constants_of old.plan
 
-  -- the same where this work was taken from what was planned; the member's views do not fall, and no input is counted as ignored
+  -- the same where this work was taken from what was planned; the member's views do not fall, and no input is counted
+  -- as ignored
   pub record KeepsTaken (taken : List (Work S D K G C)) (old new : Engine S L D K G C) : Type 0 where
     pub stays : (work : List (Work S D K G C)) → ReportsAfter (taken ++ work) old → ReportsAfter work new
     pub works : AreAmong (taken ++ work_ahead old) (work_ahead new)

@@ -14,10 +14,10 @@ use Rattle.simplex_engine.specs.NothingDue.{HasNothingNew}
 use Rattle.simplex_engine.specs.Timeouts.{WaitsForTimeout}
 
 module _ {S L D K G C : Type 0} (same : D → D → Bool) (elect : Elect L) (bytes_of : C → List ℕ) where
-  -- all that was due at this moment was done, except that outputs may be queued: all of the record was returned or is queued to be stored;
-  -- the member has nothing new, and the engine waits for its next timeout; no step is planned, and no fetch is due; each block to build is
-  -- of the current view and was asked for, or is of a later view; no vote of a view below the lowest retained one is stored; and exactly
-  -- the missing certificates are fetched
+  -- all that was due at this moment was done, except that outputs may be queued: all of the record was returned or is
+  -- queued to be stored; the member has nothing new, and the engine waits for its next timeout; no step is planned, and
+  -- no fetch is due; each block to build is of the current view and was asked for, or is of a later view; no vote of a
+  -- view below the lowest retained one is stored; and exactly the missing certificates are fetched
   pub record IsSettled (now : ℕ) (engine : Engine S L D K G C) : Type 0 where
     pub whole : IsWhole bytes_of engine.core
     pub quiet : HasNothingNew same elect now engine.plan.timeout engine.core.member.facts

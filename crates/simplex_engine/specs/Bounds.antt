@@ -18,7 +18,8 @@ module _ {S L D K G C : Type 0} (keys_of : S → List K) where
       (left : Batcher S D K G C) : Type 0 where
     pub stays : HoldsNoneAhead old held → HoldsNoneAhead new left
 
-  -- each stored vote is a member's, and of a view whose votes the state takes: so at most three of each member in a view
+  -- each stored vote is a member's, and of a view whose votes the state takes: so at most three of each member in a
+  -- view
   abbrev pub HoldsAdmitted : Journaled S L D K G C → Batcher S D K G C → Type 0
   HoldsAdmitted core batcher =
       IfSome core.member.facts.life

@@ -35,7 +35,8 @@ with_a_retry options = record options { retry = max options.retry 1 }
 abbrev pub others_of : {K : Type 0} → List K → Option ℕ → Peers
 others_of keys me = peers_of (min (length keys) (2 ^ 32 - 1)) me
 
--- the resolver received the entries of a record, oldest first, and the fetches that it has open are due at once, of these peers
+-- the resolver received the entries of a record, oldest first, and the fetches that it has open are due at once, of
+-- these peers
 pub record IsRepairOf {D : Type 0} (bytes : D → List ℕ) (term_length : ℕ) (entries : List (ArtifactFacts D))
     (peers : Peers) (retry : ℕ) (repair : Repair)
     : Type 0 where
@@ -45,8 +46,8 @@ pub record IsRepairOf {D : Type 0} (bytes : D → List ℕ) (term_length : ℕ) 
   pub retry_now : repair.fetches.retry ≡ retry
   pub behind : repair.is_behind ≡ false
 
--- the plan of a member that has begun: its resolver received the record; no step is planned, no block is to be built, no proposal is
--- stored, no input was ignored, and everything is due
+-- the plan of a member that has begun: its resolver received the record; no step is planned, no block is to be built,
+-- no proposal is stored, no input was ignored, and everything is due
 pub record IsPlanOf {S L D K G C : Type 0} (bytes : D → List ℕ) (term_length : ℕ) (peers : Peers) (is_alone : Bool)
     (options : Options)
     (member : MemberFacts K L D) (plan : Plan S D K G C) : Type 0 where
@@ -68,8 +69,8 @@ pub record IsCompanyOf {S D K G C : Type 0} (keys_of : S → List K) (keys : Lis
   pub term : company.term_length ≡ term_length
   pub alone : company.is_alone ≡ (length keys == 1)
 
--- an engine begins with these options, of a member among others with these keys: its batcher makes certificates by their number; in this
--- lifetime no view was forgotten, and the engine has never settled
+-- an engine begins with these options, of a member among others with these keys: its batcher makes certificates by
+-- their number; in this lifetime no view was forgotten, and the engine has never settled
 pub record HasStartedWith {S L D K G C : Type 0} (bytes : D → List ℕ) (keys_of : S → List K) (keys : List K)
     (me : Option ℕ) (term_length : ℕ)
     (options : Options) (engine : Engine S L D K G C) : Type 0 where
@@ -93,8 +94,8 @@ IsNotReplayed entries (Replay e) = IsDue (record_error (reverse entries)) e
 IsNotReplayed entries (Resume e) = e ≡ Recover OutOfMemory
 
 module _ {K L D : Type 0} where
-  -- a vote to nullify would be sent again after no time, or the engine is out of memory, or the member is refused, or the resolver refuses
-  -- the record of the member that begins
+  -- a vote to nullify would be sent again after no time, or the engine is out of memory, or the member is refused, or
+  -- the resolver refuses the record of the member that begins
   abbrev pub IsStartRefusal : ℕ → (ResumeError → Type 0) → (MemberFacts K L D → Type 0) → StartError → Type 0
   IsStartRefusal timeout_retry IsRefused Begins RetryZero = timeout_retry ≡ 0
   IsStartRefusal timeout_retry IsRefused Begins (Resume e) = (e ≡ Recover OutOfMemory) ⊎ IsRefused e

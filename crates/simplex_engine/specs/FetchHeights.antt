@@ -22,7 +22,8 @@ module _ {S D K G C : Type 0} where
   resolves_above top (Resolve kind view proposal) = nat_lt top view
   resolves_above top _ = false
 
-  -- no certificate of a view above this one is asked for, or is planned to be; nor does the resolver want or know of one
+  -- no certificate of a view above this one is asked for, or is planned to be; nor does the resolver want or know of
+  -- one
   pub record FetchesUpTo (top : ℕ) (plan : Plan S D K G C) : Type 0 where
     pub asked : list_any (λ fetch. nat_lt top fetch.view) plan.repair.fetches.wanted.items ≡ false
     pub planned : list_any (resolves_above top) plan.steps.items ≡ false

@@ -54,8 +54,8 @@ module _ {S L D K G C : Type 0} (same : D → D → Bool) (elect : Elect L) (byt
   IsSubmitted certificate =
       HasAsked same elect is_refused (certificate_call (certificate_facts bytes_of certificate) now)
 
-  -- the result of counting a vote: the certificate that it completes is passed in, if it is admitted; a pair of contradicting votes is
-  -- reported; a vote that is counted already, or that may not count, is ignored
+  -- the result of counting a vote: the certificate that it completes is passed in, if it is admitted; a pair of
+  -- contradicting votes is reported; a vote that is counted already, or that may not count, is ignored
   abbrev pub IsCountFollowed : Counted S D K G C → List (Step S D K G C) → MemberFacts K L D → List (Step S D K G C)
       → MemberFacts K L D
       → Bool → Type 0
@@ -80,8 +80,8 @@ module _ {S L D K G C : Type 0} (same : D → D → Bool) (elect : Elect L) (byt
     pub followed : IsCountFollowed same elect bytes_of now counted old.plan.steps.items old.core.member.facts
         steps left is_of_use
 
-  -- the member, the stored votes and the queued steps after an admitted input, and whether it was ignored: the member receives the
-  -- input's call
+  -- the member, the stored votes and the queued steps after an admitted input, and whether it was ignored: the member
+  -- receives the input's call
   abbrev pub IsActedOn : Input S D K G C → Engine S L D K G C → MemberFacts K L D → Batcher S D K G C
       → List (Step S D K G C) → Bool → Type 0
   IsActedOn (input.Proposal from proposal) old left held steps =

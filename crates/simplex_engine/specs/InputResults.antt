@@ -14,7 +14,8 @@ use Rattle.simplex_engine.specs.ApplicationWork.{KeepsReports}
 use Rattle.engine_outbox.specs.Continuity.{Continues}
 use Rattle.simplex_engine.specs.Inputs.{subject_in}
 
--- what `Engine::handle` says of an engine before and after, by its result; an input that is not admitted leaves it as `passed`
+-- what `Engine::handle` says of an engine before and after, by its result; an input that is not admitted leaves it as
+-- `passed`
 pub record IsInputTaken {S L D K G C E : Type 0} (same : D → D → Bool) (elect : Elect L) (bytes : D → List ℕ)
     (bytes_of : C → List ℕ)
     (is_signature : K → Subject D → G → Type 0) (IsMadeOf : S → Subject D → List (ℕ × G) → C → Type 0)

@@ -4,7 +4,8 @@ use Rattle.simplex_member.specs.MemberFacts.{MemberFacts}
 use Rattle.engine_planner.specs.declared.plan.Plan.{Plan}
 use Rattle.engine_planner.specs.PlannedWork.{AreAmong, is_early}
 
--- its plan has the member's current view and last finalized one: by these it stores early proposals, and drops past ones
+-- its plan has the member's current view and last finalized one: by these it stores early proposals, and drops past
+-- ones
 abbrev pub TracksViews : {S L D K G C : Type 0} → MemberFacts K L D → Plan S D K G C → Type 0
 TracksViews member plan =
     IfSome member.life (λ x. (plan.views.current ≡ x.current) × (plan.views.last_finalized ≡ x.finalized))

@@ -31,15 +31,15 @@ module _ {K L D : Type 0} (same : D → D → Bool) (elect : Elect L) where
   ReturnNothing before (call ∷ rest) after =
       (between : MemberFacts K L D) × ReturnsNothing before call between × ReturnNothing between rest after
 
-  -- a living member has cast each vote that its rule allows in a view from the last finalized one on, and has returned each certificate of
-  -- these views
+  -- a living member has cast each vote that its rule allows in a view from the last finalized one on, and has returned
+  -- each certificate of these views
   pub record HasNothingDue (member : MemberFacts K L D) : Type 0 where
     pub state : StateFacts K L D
     pub alive : member.life ≡ Some state
     pub nothing_due : (view : ℕ) → state.finalized ≤ view → is_due same elect state view ≡ false
 
-  -- asked for work for the application, the member has none; then it drops the views below those that it retains; then, asked at this moment
-  -- for its next timeout, it names one that is awaited
+  -- asked for work for the application, the member has none; then it drops the views below those that it retains; then,
+  -- asked at this moment for its next timeout, it names one that is awaited
   pub record IsQuiet (now timeout : ℕ) (before after : MemberFacts K L D) : Type 0 where
     pub between : MemberFacts K L D
     pub asked : ReturnNothing before for_work between

@@ -10,7 +10,8 @@ use Rattle.simplex_engine.specs.CertificateVotes.{TakesNone}
 use Rattle.engine_outbox.specs.declared.journaled.Journaled.{Journaled}
 use Rattle.engine_outbox.specs.Continuity.{Continues}
 
--- the same votes are stored, or those of the views below the lowest one that the member's state retains are forgotten, and no others
+-- the same votes are stored, or those of the views below the lowest one that the member's state retains are forgotten,
+-- and no others
 abbrev pub ForgetsNoOther : {S L D K G C : Type 0} → Journaled S L D K G C → Batcher S D K G C
     → Batcher S D K G C → Type 0
 ForgetsNoOther core old new = IfSome core.member.facts.life (λ x. (new ≡ old) ⊎ IsForgotten (min_active x) old new)

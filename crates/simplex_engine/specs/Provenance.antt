@@ -88,7 +88,8 @@ module _ {S D K G C : Type 0} where
   input_causes bytes_of batcher (input.GivenUp view reason) = Message (task.TriggerTimeout view reason) ∷ []
 
 module _ {S L D K G C : Type 0} where
-  -- what an engine may report without a cause: that the views below the lowest one which its member retains may be forgotten
+  -- what an engine may report without a cause: that the views below the lowest one which its member retains may be
+  -- forgotten
   abbrev pub forgettable : MemberFacts K L D → List (Cause S D K G C)
   forgettable m = option_map_or (λ x. WorkItem (Forget (min_active x)) ∷ []) m.life []
 
@@ -103,8 +104,8 @@ IsOnOffer m (Certified view _ _) = is_offered m.outstanding_work view ≡ true
 IsOnOffer m _ = Unit {0}
 
 module _ {S L D K G C : Type 0} (now : ℕ) where
-  -- a call is caused by what is at hand: by a task, with a verdict only on an offer; by a proposal of its view's leader that the member
-  -- admits; or by a certificate
+  -- a call is caused by what is at hand: by a task, with a verdict only on an offer; by a proposal of its view's leader
+  -- that the member admits; or by a certificate
   abbrev pub IsCallCaused : List (Cause S D K G C) → MemberFacts K L D → CallFacts D → Type 0
   IsCallCaused causes m call =
       ((asked : Task D) × (call ≡ call_of asked now) × AreAmong (of_task asked) causes × IsOnOffer m call)
@@ -145,7 +146,8 @@ module _ {S D K G C : Type 0} where
   evidence_in (AddFinalization c _) leader = work.ProposedTwice c.proposal.round.view leader ∷ []
   evidence_in _ leader = []
 
-  -- the work that a reply asks the host for: to verify or certify proposals, to send a certificate to all, to store evidence
+  -- the work that a reply asks the host for: to verify or certify proposals, to send a certificate to all, to store
+  -- evidence
   abbrev pub work_by_reply : Reply S D K G C → CallFacts D → List (Work S D K G C)
   work_by_reply (reply.Work (verify.Ready context proposal)) asked = work.Verify context proposal ∷ []
   work_by_reply (reply.Candidates proposals _) asked = map work.Certify proposals.items
@@ -160,9 +162,9 @@ work_by_steps ((Calls call, reply) ∷ rest) = work_by_reply reply call ++ work_
 work_by_steps (_ ∷ rest) = work_by_steps rest
 
 module _ {S L D K G C : Type 0} (same : D → D → Bool) (elect : Elect L) (bytes_of : C → List ℕ) (now : ℕ) where
-  -- from a member with this at hand to another with that, by these steps and their replies, in order. What is at hand, with what the
-  -- replies before it bring, causes each step, and also what is pending at the end. Each certificate that was asked for, or that a reply
-  -- names as missing, is asked for in the end, unless that is over
+  -- from a member with this at hand to another with that, by these steps and their replies, in order. What is at hand,
+  -- with what the replies before it bring, causes each step, and also what is pending at the end. Each certificate that
+  -- was asked for, or that a reply names as missing, is asked for in the end, unless that is over
   abbrev pub IsCausedBy : (asks_now is_over : FetchKind → ℕ → Bool) → List (StepFacts K L D × Reply S D K G C)
       → List (Cause S D K G C)
       → (FetchKind → ℕ → Bool) → MemberFacts K L D → List (Cause S D K G C) → MemberFacts K L D → Type 0
@@ -177,9 +179,9 @@ module _ {S L D K G C : Type 0} (same : D → D → Bool) (elect : Elect L) (byt
 
 module _ {S L D K G C : Type 0} (same : D → D → Bool) (elect : Elect L) (bytes : D → List ℕ)
     (bytes_of : C → List ℕ) (now : ℕ) where
-  -- the same for an engine, where this came in besides, this work was returned, and these certificates need not be asked for: those of
-  -- views up to the last finalized one, and those that the resolver ends by what it receives, which is what the replies say. All work that
-  -- the replies ask for is returned, queued or planned
+  -- the same for an engine, where this came in besides, this work was returned, and these certificates need not be
+  -- asked for: those of views up to the last finalized one, and those that the resolver ends by what it receives, which
+  -- is what the replies say. All work that the replies ask for is returned, queued or planned
   pub record IsCaused (came : List (Cause S D K G C)) (out : List (Work S D K G C)) (held : FetchKind → ℕ → Bool)
       (old new : Engine S L D K G C)
       : Type 0 where
@@ -206,7 +208,8 @@ abbrev pub held_by : {S L D K G C : Type 0} → Engine S L D K G C → FetchKind
 held_by engine kind view =
     option_map_or (λ x. holds engine.plan.repair.resolver.open_fetches x kind view) engine.core.member.facts.life true
 
--- an engine that drops what is not retained: views may be forgotten besides, and what the state has need not be asked for
+-- an engine that drops what is not retained: views may be forgotten besides, and what the state has need not be asked
+-- for
 abbrev pub IsCausedWithPruning : {S L D K G C : Type 0} → (D → D → Bool) → Elect L → (D → List ℕ) → (C → List ℕ) → ℕ
     → Engine S L D K G C → Engine S L D K G C → Type 0
 IsCausedWithPruning same elect bytes bytes_of now old new =

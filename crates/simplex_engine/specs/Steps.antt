@@ -33,7 +33,8 @@ IsFetched now kind view old new =
     (first : ℕ) × (new.repair.fetches.wanted.items
     ≡ opened kind view first (min (now + old.options.on_its_way) (2 ^ 64 - 1)) old.repair.fetches.wanted.items)
 
--- the plan sees the member's views, and then follows the reply to a task just as `Plan::follow` says: so all work of a reply is planned
+-- the plan sees the member's views, and then follows the reply to a task just as `Plan::follow` says: so all work of a
+-- reply is planned
 pub record IsReplyFollowed {S D K G C : Type 0} (bytes : D → List ℕ) (bytes_of : C → List ℕ) (now : ℕ) (asked : Task D)
     (reply : Reply S D K G C)
     (old new : Plan S D K G C) : Type 0 where
@@ -60,8 +61,8 @@ module _ {S L D K G C : Type 0} (same : D → D → Bool) (elect : Elect L) (byt
   IsOffered true from proposal old new = IsTaskDone (SetProposal proposal.round.view proposal) old new
   IsOffered false from proposal old new = IsStoredEarly from proposal old new
 
-  -- a step is taken: a task is done; an early proposal is offered; a certificate is fetched; the newest vote to nullify is queued once
-  -- more, where it is one of the view; work is queued
+  -- a step is taken: a task is done; an early proposal is offered; a certificate is fetched; the newest vote to nullify
+  -- is queued once more, where it is one of the view; work is queued
   abbrev pub IsStepTaken : Step S D K G C → Engine S L D K G C → Engine S L D K G C → Type 0
   IsStepTaken (Ask asked) old new = IsTaskTaken (is_verdict asked) asked old new
   IsStepTaken (Offer from proposal) old new =

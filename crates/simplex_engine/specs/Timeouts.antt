@@ -17,8 +17,9 @@ module _ {K D : Type 0} where
   is_later now (TimesOut (Some (moment, reason))) = nat_lt now moment
   is_later now _ = true
 
-  -- the timeout that the member names lies after this moment, and the engine stores it. A member names none only where its current view
-  -- has none, which never happens (`times_out` of `Engine::keeps_the_laws`), or where its next repeat passes the numbers of 64 bits
+  -- the timeout that the member names lies after this moment, and the engine stores it. A member names none only where
+  -- its current view has none, which never happens (`times_out` of `Engine::keeps_the_laws`), or where its next repeat
+  -- passes the numbers of 64 bits
   abbrev pub IsAwaited : (now timeout : ℕ) → ReplyFacts K D → Type 0
   IsAwaited now timeout (TimesOut (Some (moment, reason))) = (timeout ≡ moment) × (now < moment)
   IsAwaited now timeout _ = Unit {0}

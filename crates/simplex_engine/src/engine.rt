@@ -29,11 +29,12 @@ use simplex_types::types::{Artifact, CertificateScheme, Digest, Elector, Fault, 
 use simplex_voter::voter::State;
 use std::alloc::Global;
 
-/// A member, the batcher of its votes, its resolver and outstanding fetches, and the outputs that the host must still carry out.
+/// A member, the batcher of its votes, its resolver and outstanding fetches, and the outputs that the host must still
+/// carry out.
 ///
-/// `IsJournaled` of `core` says which outputs were returned so far. `start` and `resume` begin that list, and `poll` appends what it returns.
-/// `keeps_the_laws` states what is true of the whole list. After an error the engine has failed and returns no further output: resume a new
-/// engine from what was stored.
+/// `IsJournaled` of `core` says which outputs were returned so far. `start` and `resume` begin that list, and `poll`
+/// appends what it returns. `keeps_the_laws` states what is true of the whole list. After an error the engine has
+/// failed and returns no further output: resume a new engine from what was stored.
 #[derive(Drop)]
 pub struct Engine<S: CertificateScheme, L: Elector<S>, D: Digest> {
     alloc: Global,
@@ -42,7 +43,8 @@ pub struct Engine<S: CertificateScheme, L: Elector<S>, D: Digest> {
     plan: Plan<S, D>,
     /// All views below this one were forgotten by the last `Work::Forget`.
     forgotten: View,
-    /// The moment at which all that was due was done last, if no input came since: at this moment only the queue is left to return.
+    /// The moment at which all that was due was done last, if no input came since: at this moment only the queue is
+    /// left to return.
     settled_at: Option<u64>,
 }
 
@@ -86,7 +88,8 @@ impl<S: Assembly<D>, L: Elector<S>, D: Digest> Engine<S, L, D> {
     /// The engine ignores:
     ///
     /// - a proposal that does not come from its view's leader, or that is this member's own;
-    /// - a proposal whose view takes no votes. A proposal of one of the next eight views is stored until its view is entered;
+    /// - a proposal whose view takes no votes. A proposal of one of the next eight views is stored until its view is
+    ///   entered;
     /// - a vote whose view takes no votes, or whose signer voted before in that kind and view;
     /// - a certificate of a kind and view that has one;
     /// - a verification or a block that the engine did not ask for;
@@ -94,31 +97,35 @@ impl<S: Assembly<D>, L: Elector<S>, D: Digest> Engine<S, L, D> {
     ///
     /// The clauses:
     ///
-    /// - `continues`: the member accepts at most the passed certificate, or one on the subject of the passed vote. Stored votes stay signed
-    ///   under its key. A finalization that it accepts is queued to be reported if its view is above all reported views.
+    /// - `continues`: the member accepts at most the passed certificate, or one on the subject of the passed vote.
+    ///   Stored votes stay signed under its key. A finalization that it accepts is queued to be reported if its view is
+    ///   above all reported views.
     /// - `votes`, `held`: every stored vote was passed in. An input that is not a vote changes no stored vote.
     /// - `backed`: votes of n - f different members, each passed in, back a certificate that a vote completes.
-    /// - `dropped`: an ignored input leaves the member and the votes unchanged, with two exceptions: the reason of a timeout and a verdict
-    ///   record their moment, and a verdict closes its offer.
-    /// - `unadmitted`: an input that is not admitted (`is_input_admitted`) is ignored, and changes only the count of ignored inputs. An
-    ///   early proposal is stored while fewer than eight are stored.
+    /// - `dropped`: an ignored input leaves the member and the votes unchanged, with two exceptions: the reason of a
+    ///   timeout and a verdict record their moment, and a verdict closes its offer.
+    /// - `unadmitted`: an input that is not admitted (`is_input_admitted`) is ignored, and changes only the count of
+    ///   ignored inputs. An early proposal is stored while fewer than eight are stored.
     /// - `acted`: for an admitted input the member receives the matching call, or the vote is counted.
-    /// - `due_work`: work for the application is not lost. A proposal to verify or certify, and the block of an open request, was returned,
-    ///   is queued or is planned. The exception is a block that a lone member builds once it enters the view. No early proposal is lost
-    ///   before its view is entered. The options and the other members stay the same.
-    /// - `provenance`: this input, what was there before, or a reply of the member causes each of these: a call of the member, work, a fetch
-    ///   that the resolver does not want, an early proposal. The engine continues to ask for a certificate that a reply named as missing,
-    ///   until its view is final or the resolver ends the fetch.
-    /// - `fetch_heights`: no fetch appears of a view above both the next term's first view and the views of all entries of the record.
+    /// - `due_work`: work for the application is not lost. A proposal to verify or certify, and the block of an open
+    ///   request, was returned, is queued or is planned. The exception is a block that a lone member builds once it
+    ///   enters the view. No early proposal is lost before its view is entered. The options and the other members stay
+    ///   the same.
+    /// - `provenance`: this input, what was there before, or a reply of the member causes each of these: a call of the
+    ///   member, work, a fetch that the resolver does not want, an early proposal. The engine continues to ask for a
+    ///   certificate that a reply named as missing, until its view is final or the resolver ends the fetch.
+    /// - `fetch_heights`: no fetch appears of a view above both the next term's first view and the views of all entries
+    ///   of the record.
     /// - `ignored`: exactly the ignored inputs are counted.
     /// - `bounded`: stored votes remain votes of members, and of no view above those whose votes are taken.
     /// - `to_settle`: the next `poll` looks for what is due, also at the moment of the last one.
-    /// - `failed`, `error`, `refused`: after an error the engine has failed. An engine that had failed returns `Failed` and is unchanged.
+    /// - `failed`, `error`, `refused`: after an error the engine has failed. An engine that had failed returns `Failed`
+    ///   and is unchanged.
     ///
     /// # Errors
     ///
-    /// - `OutOfMemory`: the engine has failed. It also returns this for a call that would take 2^64 steps, or whose resolver refuses what
-    ///   the member accepted.
+    /// - `OutOfMemory`: the engine has failed. It also returns this for a call that would take 2^64 steps, or whose
+    ///   resolver refuses what the member accepted.
     /// - `Failed`: the engine had failed before.
     pub fn handle(&mut self, input: Input<S, D>, now: u64) -> Result<bool, Fault>
         ensures continues { Continues D.eq L.elect S.certificate_bytes S.IsSignature
@@ -164,45 +171,51 @@ impl<S: Assembly<D>, L: Elector<S>, D: Digest> Engine<S, L, D> {
         }
     }
 
-    /// Returns the next output to carry out, at a moment in milliseconds. `None`: there is no output before another input, or before the
-    /// moment that `wake` returns.
+    /// Returns the next output to carry out, at a moment in milliseconds. `None`: there is no output before another
+    /// input, or before the moment that `wake` returns.
     ///
-    /// At one moment, with no input in between, `poll` comes to `None`: first it returns what is queued; then it does all that is due, once;
-    /// then it returns what that queued (`front`, `settles`, `stays`; `polls_end` of `laws_engine`).
+    /// At one moment, with no input in between, `poll` comes to `None`: first it returns what is queued; then it does
+    /// all that is due, once; then it returns what that queued (`front`, `settles`, `stays`; `polls_end` of
+    /// `laws_engine`).
     ///
-    /// - `front`: until the engine fails, `poll` returns a queued output before it does anything else. It returns the first one and changes
-    ///   nothing else.
+    /// - `front`: until the engine fails, `poll` returns a queued output before it does anything else. It returns the
+    ///   first one and changes nothing else.
     /// - `settles`: where nothing was queued, all that is due at this moment is done now.
-    /// - `stays`: where this was done at this moment before, and nothing is queued, `poll` returns `None` and changes nothing.
+    /// - `stays`: where this was done at this moment before, and nothing is queued, `poll` returns `None` and changes
+    ///   nothing.
     /// - `settled`: the moment that the engine stores as that at which it settled is such a moment.
-    /// - `given`, `traced`: the returned output is appended to the list of outputs. What the member has done still traces that list, and
-    ///   its votes stay signed under the member's key.
+    /// - `given`, `traced`: the returned output is appended to the list of outputs. What the member has done still
+    ///   traces that list, and its votes stay signed under the member's key.
     /// - `does`, `told`: the member accepts no certificate, and nothing more is queued to be reported as final.
     /// - `held`: only votes of views below the lowest retained one are forgotten.
     /// - `votes`, `bounded`, `failed`, `error`, `refused`, `ignored`, `constants`: as of `handle`; no input is counted.
-    /// - `due_work`, `works`: as of `handle`. Work that was queued or planned was returned, or is still queued or planned.
-    /// - `provenance`: as of `handle`, without an input. The member votes to nullify only after its timeout, and receives early proposals of
-    ///   their views' leaders.
+    /// - `due_work`, `works`: as of `handle`. Work that was queued or planned was returned, or is still queued or
+    ///   planned.
+    /// - `provenance`: as of `handle`, without an input. The member votes to nullify only after its timeout, and
+    ///   receives early proposals of their views' leaders.
     /// - `fetch_heights`: as of `handle`.
-    /// - `near`, `seen`, `early`: no block is asked for above the next term's first view. The views in the plan stay the member's views. No
-    ///   early proposal is lost before its view is entered.
+    /// - `near`, `seen`, `early`: no block is asked for above the next term's first view. The views in the plan stay
+    ///   the member's views. No early proposal is lost before its view is entered.
     ///
     /// After `None`:
     ///
     /// - `rest`: the engine is at rest (`IsEngineAtRest`):
     ///   - the whole record was returned to be stored;
-    ///   - from the last finalized view on, the member has cast each vote that its rule allows, and each certificate was returned; asked
-    ///     last, the member had no work for the application;
-    ///   - asked for its next timeout at this moment, after all other calls, the member named one after the moment, and `timeout` returns
-    ///     it: no timeout is due;
+    ///   - from the last finalized view on, the member has cast each vote that its rule allows, and each certificate
+    ///     was returned; asked last, the member had no work for the application;
+    ///   - asked for its next timeout at this moment, after all other calls, the member named one after the moment, and
+    ///     `timeout` returns it: no timeout is due;
     ///   - no step is planned, and no fetch is due;
     ///   - each block to build is of the current view and was asked for, or is of a later view;
     ///   - no stored vote is of a view below the lowest retained one;
-    ///   - each fetch is of a view above the last finalized one, and of a certificate that the state does not have; the nullification of
-    ///     each such view that the resolver has open is being fetched.
-    /// - `waiting`: each proposal to verify or certify and each block to build was returned, except where a lone member waits for the view.
-    /// - `short`: the record has at most `long_record` entries, or a pruning would drop no more of its views than it would retain.
-    /// - `admitted`: each stored vote is a member's and of a view that takes votes: at most three of a member in a view.
+    ///   - each fetch is of a view above the last finalized one, and of a certificate that the state does not have; the
+    ///     nullification of each such view that the resolver has open is being fetched.
+    /// - `waiting`: each proposal to verify or certify and each block to build was returned, except where a lone member
+    ///   waits for the view.
+    /// - `short`: the record has at most `long_record` entries, or a pruning would drop no more of its views than it
+    ///   would retain.
+    /// - `admitted`: each stored vote is a member's and of a view that takes votes: at most three of a member in a
+    ///   view.
     ///
     /// # Errors
     ///
@@ -211,8 +224,8 @@ impl<S: Assembly<D>, L: Elector<S>, D: Digest> Engine<S, L, D> {
         ensures front { has_failed self.old.core ≡ false
             → ReturnsFirst self.old.core.outbox.queue.items result self.old self.new }
         ensures settles { self.old.core.outbox.queue.items ≡ [] → OnOk result (HasSettled now self.new) }
-        ensures stays { has_failed self.old.core ≡ false → self.old.core.outbox.queue.items ≡ [] → HasSettled now self.old
-            → StaysAtRest result self.old self.new }
+        ensures stays { has_failed self.old.core ≡ false → self.old.core.outbox.queue.items ≡ []
+            → HasSettled now self.old → StaysAtRest result self.old self.new }
         ensures given { HasReturned S.certificate_bytes (returned_outputs result) self.old.core self.new.core }
         ensures does { ExtendsHistoryOn D.eq L.elect None self.old.core.member.facts self.new.core.member.facts }
         ensures traced { EmitsOn D.eq L.elect S.certificate_bytes S.IsSignature None (returned_outputs result)
@@ -348,8 +361,8 @@ impl<S: Assembly<D>, L: Elector<S>, D: Digest> Engine<S, L, D> {
         self.plan.timeout()
     }
 
-    /// Returns the moment, in milliseconds, at which to call `poll` if no input comes before: that of `timeout`, or the earliest one of
-    /// `fetches`, whichever is earlier.
+    /// Returns the moment, in milliseconds, at which to call `poll` if no input comes before: that of `timeout`, or the
+    /// earliest one of `fetches`, whichever is earlier.
     pub fn wake(&self) -> u64
         ensures { IsWake (fetches_of self.now).wanted.items (timeout_of self.now) result }
     {
@@ -396,14 +409,15 @@ impl<S: Assembly<D>, L: Elector<S>, D: Digest> Engine<S, L, D> {
     /// Does nothing: its contract is the laws of all outputs so far, and of all that the member has done.
     ///
     /// - `behind`: a vote comes after an output that stores it, with that signature.
-    /// - `stored`: until the engine fails, a journal that carries out all returned and queued outputs holds the record, and what a journal
-    ///   stores beside it.
-    /// - `emitted`: until it fails, each vote in that journal was returned or is queued. The exceptions are votes of the record that the
-    ///   lifetime began with; the first output stores them.
-    /// - `stops`: until it fails, a host may stop after any output. Its journal is then the record of a member that the engine's member
-    ///   was, and that member had signed each vote among these outputs (`stops_are_resumed`).
+    /// - `stored`: until the engine fails, a journal that carries out all returned and queued outputs holds the record,
+    ///   and what a journal stores beside it.
+    /// - `emitted`: until it fails, each vote in that journal was returned or is queued. The exceptions are votes of
+    ///   the record that the lifetime began with; the first output stores them.
+    /// - `stops`: until it fails, a host may stop after any output. Its journal is then the record of a member that the
+    ///   engine's member was, and that member had signed each vote among these outputs (`stops_are_resumed`).
     /// - `finals`: the member accepted the finalization of each proposal that was reported as final.
-    /// - `signed`: each vote that was returned is the member's own, with a signature on the vote's own subject under the member's key.
+    /// - `signed`: each vote that was returned is the member's own, with a signature on the vote's own subject under
+    ///   the member's key.
     /// - `rising`: the views of these proposals rise.
     /// - `last`: the last of them, returned or queued, is of the member's last finalized view.
     /// - `lawful`: the member keeps the voting rules over all its lifetimes.

@@ -17,8 +17,8 @@ pub enum Input<S: CertificateScheme, D> {
     Verified(View, bool),
     /// The payload that the application built in the context of a `Work::Build`.
     Built(Context<D, S::PublicKey>, D),
-    /// Whether the application certified the view's notarized proposal. It is ignored if the member did not offer the proposal in this
-    /// lifetime, or has its verdict.
+    /// Whether the application certified the view's notarized proposal. It is ignored if the member did not offer the
+    /// proposal in this lifetime, or has its verdict.
     Certified(View, bool),
     /// The view times out for a reason that the engine can't see by itself.
     GivenUp(View, TimeoutReason),

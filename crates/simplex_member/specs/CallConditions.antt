@@ -12,8 +12,8 @@ use Rattle.simplex_member.specs.Calls.{CallFacts, AddNotarization, AddNullificat
 use Rattle.simplex_member.specs.OutstandingWork.{OutstandingWork, context_at, is_verifying, is_offered}
 
 module _ {K L D : Type 0} where
-  -- what a call requires of the state alone: a certificate or a proposal of this epoch and of a retained view, a token without a
-  -- verdict, a verdict that may be given, or a timeout
+  -- what a call requires of the state alone: a certificate or a proposal of this epoch and of a retained view, a token
+  -- without a verdict, a verdict that may be given, or a timeout
   abbrev pub is_state_ready : StateFacts K L D → CallFacts D → Bool
   is_state_ready x (AddNotarization c) = takes_proposal_certificate x c
   is_state_ready x (AddNullification c _) = takes_nullification x c
@@ -24,8 +24,8 @@ module _ {K L D : Type 0} where
   is_state_ready x (NextTimeout _) = has_timeout x
   is_state_ready x _ = true
 
-  -- what a call requires of the host: an open request to build, a proposal that is being verified, an offer that has no verdict; and
-  -- of the state
+  -- what a call requires of the host: an open request to build, a proposal that is being verified, an offer that has no
+  -- verdict; and of the state
   abbrev pub is_allowed : StateFacts K L D → OutstandingWork K D → CallFacts D → Bool
   is_allowed x o (Proposed v _ _) = is_some (context_at o v)
   is_allowed x o (SupersedeProposalRequest v) = is_some (context_at o v)
@@ -45,8 +45,8 @@ module _ {K L D : Type 0} where
   fault_of x (NextTimeout now) = next_timeout_refusal x now
   fault_of x _ = plain_refusal x
 
-  -- the call needs memory before the state is called: in the record, for a copy of what is passed in, or for what the reply opens; or
-  -- its reply is only a copy. Without that memory nothing has changed
+  -- the call needs memory before the state is called: in the record, for a copy of what is passed in, or for what the
+  -- reply opens; or its reply is only a copy. Without that memory nothing has changed
   abbrev pub needs_room : StateFacts K L D → CallFacts D → Bool
   needs_room x (AddNotarization _) = true
   needs_room x (AddNullification _ _) = true
@@ -60,8 +60,8 @@ module _ {K L D : Type 0} where
   needs_room x GetBestCertificate = is_some (best_certificate x)
   needs_room x _ = false
 
-  -- the state may run out of memory in the middle of the call, or there may be none for a copy of its vote, of what it offers or of
-  -- what it returns: then it is lost
+  -- the state may run out of memory in the middle of the call, or there may be none for a copy of its vote, of what it
+  -- offers or of what it returns: then it is lost
   abbrev pub may_fall : StateFacts K L D → CallFacts D → Bool
   may_fall x (AddNotarization _) = true
   may_fall x (AddNullification _ _) = true

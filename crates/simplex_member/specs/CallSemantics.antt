@@ -1,4 +1,5 @@
--- The reply to a call that is allowed and not refused, and its effect on the state, on the open requests and on the record.
+-- The reply to a call that is allowed and not refused, and its effect on the state, on the open requests and on the
+-- record.
 use Rattle.std.specs.Prelude.{ℕ, Bool, false, if◌then◌else◌, List, [], ◌∷◌, Option, Some, is_some, None, option_map, option_and_then}
 use Rattle.std.specs.Option.{option_map_or}
 use Rattle.simplex_types.specs.Certificates.{Notarized, Nullified, Finalized, ArtifactFacts, NotarizeVote, NullifyVote, FinalizeVote, Verdict, Accepted}
@@ -116,8 +117,9 @@ module _ {K L D : Type 0} (same : D → D → Bool) (elect : Elect L) where
   after_call x o (NextTimeout now) = after_next_timeout x now
   after_call x o Prune = after_prune x
 
-  -- the open requests after it: a request opens a view's context, which is closed once a payload was built in it, or the request was
-  -- superseded or released; a proposal to verify is open until its answer, and an offer until its verdict
+  -- the open requests after it: a request opens a view's context, which is closed once a payload was built in it, or
+  -- the request was superseded or released; a proposal to verify is open until its answer, and an offer until its
+  -- verdict
   abbrev pub outstanding_work_after : StateFacts K L D → OutstandingWork K D → CallFacts D → OutstandingWork K D
   outstanding_work_after x o TryPropose = with_open_request o (propose_answer same elect x)
   outstanding_work_after x o (Proposed v _ _) = without_context o v

@@ -17,8 +17,8 @@ use Rattle.simplex_member.specs.declared.member.calls.Call.TheVariants as call
 use Rattle.simplex_member.specs.declared.member.calls.Reply.{Reply}
 use Rattle.simplex_member.specs.declared.member.calls.Reply.TheVariants as reply
 
--- a call, with each certificate by its facts; the context of a request to build is the one that is open in the view; moments
--- are in milliseconds
+-- a call, with each certificate by its facts; the context of a request to build is the one that is open in the view;
+-- moments are in milliseconds
 pub data CallFacts (D : Type 0) : Type 0 where
   AddNotarization : ProposalFacts D → CallFacts D
   AddNullification : NullificationFacts → ℕ → CallFacts D
@@ -74,7 +74,8 @@ asked bytes_of (call.TriggerTimeout v reason now) = TriggerTimeout v reason now
 asked bytes_of (call.NextTimeout now) = NextTimeout now
 asked bytes_of call.Prune = Prune
 
--- the content of a reply, with votes as the entries that record them; and why a restart was refused, which no reply contains
+-- the content of a reply, with votes as the entries that record them; and why a restart was refused, which no reply
+-- contains
 pub data ReplyFacts (K D : Type 0) : Type 0 where
   Added : Bool → Option K → ReplyFacts K D
   AddedNullification : Bool → ReplyFacts K D

@@ -22,7 +22,8 @@ pub record MemberFacts (K L D : Type 0) : Type 0 where
   pub closed : ℕ
   -- its record was pruned
   pub is_pruned : Bool
-  -- how many views below the last finalized one its last lifetime retained, and the smallest such number of its lifetimes
+  -- how many views below the last finalized one its last lifetime retained, and the smallest such number of its
+  -- lifetimes
   pub retention : ℕ
   pub least_retention : ℕ
 
@@ -79,8 +80,8 @@ module _ {K L D : Type 0} (same : D → D → Bool) (elect : Elect L) where
   left_of x m call = if is_allowed x m.outstanding_work call
       then unless_retained (fault_of x call) m (with_call x m call) else m
 
-  -- after running out of memory: there was no room before the state was called, and nothing has changed; or there was no fault, and
-  -- the member has failed
+  -- after running out of memory: there was no room before the state was called, and nothing has changed; or there was
+  -- no fault, and the member has failed
   abbrev pub IsLeftOutOfMemory : StateFacts K L D → MemberFacts K L D → CallFacts D → MemberFacts K L D → Type 0
   IsLeftOutOfMemory x m call left =
       ((needs_room x call ≡ true) × (left ≡ m))

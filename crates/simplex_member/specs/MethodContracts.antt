@@ -71,8 +71,8 @@ module _ {K L D : Type 0} where
   UnchangedButLifetime m _ left = left ≡ m
 
 module _ {K L D : Type 0} (same : D → D → Bool) (elect : Elect L) where
-  -- a call that is answered: the member has not failed, what the call requires holds, and there is no fault; it has the reply of its
-  -- definition, and leaves the state, the open requests and the record of its definition
+  -- a call that is answered: the member has not failed, what the call requires holds, and there is no fault; it has the
+  -- reply of its definition, and leaves the state, the open requests and the record of its definition
   pub record IsAnswered (m : MemberFacts K L D) (call : CallFacts D) (told : ReplyFacts K D)
       (left : MemberFacts K L D) : Type 0 where
     pub state : StateFacts K L D

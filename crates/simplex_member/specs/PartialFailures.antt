@@ -1,4 +1,5 @@
--- How a part of a call ends without a reply: running out of memory in the middle loses the state. No public clause names this.
+-- How a part of a call ends without a reply: running out of memory in the middle loses the state. No public clause
+-- names this.
 use Rattle.std.specs.Prelude.{◌≡◌, Bool, true, false, Option, Some, None, Result, Ok, Err}
 use Rattle.simplex_types.specs.declared.types.fault.Fault.{Fault}
 use Rattle.simplex_types.specs.declared.types.fault.Fault.TheVariants.{OutOfMemory}

@@ -13,9 +13,9 @@ module _ {K L D : Type 0} where
   abbrev pub tracks : Option (StateFacts K L D) → ℕ → Bool
   tracks life v = option_map_or (λ x. is_tracked x v) life false
 
-  -- an entry of the view stays: the state tracks the view, or it is not below the highest finalized view of the record by more than
-  -- the retention. Why: the state may still accept a verdict on a view that it tracks, and a recorded verdict needs the notarization
-  -- of its view before it in the record.
+  -- an entry of the view stays: the state tracks the view, or it is not below the highest finalized view of the record
+  -- by more than the retention. Why: the state may still accept a verdict on a view that it tracks, and a recorded
+  -- verdict needs the notarization of its view before it in the record.
   abbrev pub stays_within : MemberFacts K L D → ℕ → Bool
   stays_within m v = tracks m.life v || nat_le (finalized_in m.entries - m.retention) v
 

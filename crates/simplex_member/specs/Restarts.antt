@@ -15,8 +15,8 @@ use Rattle.simplex_record.specs.Votes.{SignedVote, pruned_votes}
 use Rattle.simplex_record.specs.Recovery.{recovered_state, recover_error, with_floor}
 use Rattle.simplex_record.specs.Start.{StartFacts, start_facts, new_state}
 
--- the parameters of a restart: at most how many of the last entries are dropped, whether the record is then pruned, and how the
--- member starts
+-- the parameters of a restart: at most how many of the last entries are dropped, whether the record is then pruned, and
+-- how the member starts
 pub record RestartFacts (K L D : Type 0) : Type 0 where
   pub drop : ℕ
   pub prune : Bool
@@ -91,8 +91,8 @@ module _ {K L D : Type 0} (same : D → D → Bool) (elect : Elect L) where
       ((result ≡ Err error.OutOfMemory) × (left ≡ without_lifetime m))
       ⊎ ((copy : List (ArtifactFacts D)) × IsByView m.entries copy × RecoversFrom m start copy result left)
 
-  -- refused at once, with nothing changed, if more views are to be retained of a pruned record; else it continues from what is left
-  -- of its record
+  -- refused at once, with nothing changed, if more views are to be retained of a pruned record; else it continues from
+  -- what is left of its record
   abbrev pub IsRestartWhere : Bool → MemberFacts K L D → RestartFacts K L D → Result (Unit {0}) RecoverError
       → MemberFacts K L D → Type 0
   IsRestartWhere true m r result left = (result ≡ Err error.RetentionGrown) × (left ≡ m)

@@ -16,8 +16,8 @@ ReadsText line r = MatchOption r
     ((200 < length (without_feed line)) ⊎ ¬ (IsUtf8 (without_feed line)))
     (λ text. (text.now ≡ without_feed line) × (length (without_feed line) ≤ 200))
 
--- the first line of the bytes that a reader has left, if they are known, and what is left after it: the line ends with its feed or with the
--- bytes, and of a line that is longer than 200 bytes only the first 201 are read
+-- the first line of the bytes that a reader has left, if they are known, and what is left after it: the line ends with
+-- its feed or with the bytes, and of a line that is longer than 200 bytes only the first 201 are read
 abbrev pub IsFirstLine : Option (List ℕ) → List ℕ → Option (List ℕ) → Type 0
 IsFirstLine left line rest = IfSome left (λ bytes.
     (line ≡ take_through 10 (take 201 bytes)) × (rest ≡ Some (drop (length line) bytes)))

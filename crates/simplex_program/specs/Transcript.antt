@@ -65,7 +65,8 @@ abbrev pub IsNoCall : Asked → List ℕ → Type 0
 IsNoCall asked line = (200 < length (without_feed line))
     ⊎ (¬ (IsUtf8 (without_feed line)) ⊎ IsOfNoLine asked (without_feed line))
 
--- the state of serving: what the next line calls, the bytes that the reader has left and those that the writer has, if they are known
+-- the state of serving: what the next line calls, the bytes that the reader has left and those that the writer has, if
+-- they are known
 pub record Point : Type 0 where
   pub asked : Asked
   pub left : Option (List ℕ)
@@ -88,8 +89,9 @@ AreAnswered p (line ∷ lines) q = (r : Point) × IsLineAnswered p line r × Are
 abbrev pub AppendsFront : Option (List ℕ) → Option (List ℕ) → List ℕ → Type 0
 AppendsFront old new bytes = (front : List ℕ) × (others : List ℕ) × (bytes ≡ front ++ others) × Appends old new front
 
--- how serving ends before line k, and what the writer has then: because no byte is left, or after 2^64 - 2 lines; at a line that is no
--- call; because a read or a write failed; or because memory ran out. No byte of a reply is written, unless a write failed
+-- how serving ends before line k, and what the writer has then: because no byte is left, or after 2^64 - 2 lines; at a
+-- line that is no call; because a read or a write failed; or because memory ran out. No byte of a reply is written,
+-- unless a write failed
 abbrev pub EndsServing : Point → ℕ → Result (Unit {0}) ServeError → Option (List ℕ) → Type 0
 EndsServing p k (Ok _) held = (IsAtEnd p.left ⊎ (k ≡ 2 ^ 64 - 1)) × Keeps p.held held
 EndsServing p k (Err (NotACall n)) held =

@@ -34,8 +34,8 @@ pub record IsProposal (v p d : ℕ) (q : Proposal PlainDigest) : Type 0 where
   pub parent : q.parent ≡ p
   pub payload : IsPayload d q.payload
 
--- the call that a line names; its certificate is valid, its proposal is of the view that it is passed for, and a rejected proposal is
--- invalid
+-- the call that a line names; its certificate is valid, its proposal is of the view that it is passed for, and a
+-- rejected proposal is invalid
 abbrev pub DenotesCall : VoterLine → PlainCall → Type 0
 DenotesCall (Notarization v p d) (AddNotarization c) = IsProposal v p d c.proposal × (c.bytes ≡ 1 ∷ [])
 DenotesCall (Nullification v now) (AddNullification c moment) =
@@ -115,7 +115,8 @@ abbrev pub IsReplied : PlainMember → PlainCall → VoterAnswer → PlainMember
 IsReplied m call (answer.Reply reply) left = IsCall same_payload plain_leader m call (told plain_bytes reply) left
 IsReplied _ _ _ _ = ⊥
 
--- the result of a restart of the network's member, and the member after it; the record is cut as asked, and pruned or not
+-- the result of a restart of the network's member, and the member after it; the record is cut as asked, and pruned or
+-- not
 abbrev pub IsRestarted : Network → PlainMember → ℕ → Bool → ℕ → VoterAnswer → PlainMember → Type 0
 IsRestarted n m drop prune now (answer.Restarted result) left =
     (start : StartFacts PlainKey PlainElector PlainDigest)

@@ -12,9 +12,9 @@ use std::{io, str};
 /// The most bytes of a line, without its line feed.
 pub(crate) const LONGEST_LINE: usize = 200;
 
-/// Reads the next line, with its line feed, into `line`, and replaces its contents. Of a line longer than `LONGEST_LINE` it reads only the
-/// first bytes, which show that the line is too long. Returns whether there was a line. The last one may have no line feed. An interrupted
-/// read is tried again.
+/// Reads the next line, with its line feed, into `line`, and replaces its contents. Of a line longer than
+/// `LONGEST_LINE` it reads only the first bytes, which show that the line is too long. Returns whether there was a
+/// line. The last one may have no line feed. An interrupted read is tried again.
 pub(crate) fn read_line<R: Read + Drop>(
     reader: &mut BufReader<R>,
     line: &mut Vec<u8>,
@@ -38,8 +38,8 @@ pub(crate) fn read_line<R: Read + Drop>(
     Ok(true)
 }
 
-/// Moves the line's bytes in the buffer to a line. Returns whether the line ends there: with its line feed, or because its bytes show that
-/// it is too long.
+/// Moves the line's bytes in the buffer to a line. Returns whether the line ends there: with its line feed, or because
+/// its bytes show that it is too long.
 fn take_buffered<R: Read + Drop>(reader: &mut BufReader<R>, line: &mut Vec<u8>) -> io::Result<bool>
     ensures { IfOk result (λ ended.
         MovesPart ended line.old.items line.new.items (reader_remaining R.remaining reader.old)

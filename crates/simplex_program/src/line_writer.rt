@@ -7,7 +7,8 @@ ghost use Rattle.simplex_program.specs.Transcript.{AppendsFront};
 use std::io;
 use std::io::Write;
 
-/// Writes all the bytes and has them flushed. An interrupted write is tried again. After an error only a prefix of the bytes is written.
+/// Writes all the bytes and has them flushed. An interrupted write is tried again. After an error only a prefix of the
+/// bytes is written.
 pub(crate) fn write_line<W: Write + Drop>(writer: &mut W, bytes: &[u8]) -> io::Result<()>
     ensures { MatchResult result
         (λ _. Appends (W.contents writer.old) (W.contents writer.new) bytes.now)

@@ -13,8 +13,8 @@ const MOST_MEMBERS: u64 = 1000;
 /// What the program serves.
 #[derive(Clone, Copy)]
 pub enum Mode {
-    /// One of this number of members, which signs by its key or has none. It fixes the views of a term, and how many views ahead of the
-    /// current one may be voted for.
+    /// One of this number of members, which signs by its key or has none. It fixes the views of a term, and how many
+    /// views ahead of the current one may be voted for.
     Voter {
         members: u32,
         me: Option<u32>,
@@ -28,9 +28,9 @@ pub enum Mode {
 impl Mode {
     ghost use Rattle.simplex_program.specs.Mode.{ReadsMode};
 
-    /// Returns the mode that the arguments after the program's name ask for, if they ask for one. That is `voter`, from 1 to 1000 members,
-    /// the index of one of them or `-`, a term length, and views ahead; or `resolver` and a term length. Numbers are decimal, without a
-    /// sign or leading zeros; a term length is from 1 to 2^32 - 1.
+    /// Returns the mode that the arguments after the program's name ask for, if they ask for one. That is `voter`, from
+    /// 1 to 1000 members, the index of one of them or `-`, a term length, and views ahead; or `resolver` and a term
+    /// length. Numbers are decimal, without a sign or leading zeros; a term length is from 1 to 2^32 - 1.
     pub fn read(arguments: &[String]) -> Option<Mode>
         ensures { ReadsMode (map string_bytes arguments.now) result }
     {

@@ -5,7 +5,8 @@ ghost use Rattle.simplex_program.specs.Mode.{IsNetwork};
 
 use simplex_types::types::TermLength;
 
-/// The number of members, one of which signs or none; the length of terms, and how many views ahead of the current one may be voted for.
+/// The number of members, one of which signs or none; the length of terms, and how many views ahead of the current one
+/// may be voted for.
 #[derive(Clone, Copy)]
 pub struct Network {
     pub members: u32,

@@ -13,7 +13,8 @@ use crate::session::Session;
 use std::alloc::Global;
 use std::io::{BufReader, Read, Write};
 
-/// Writes a reply line for each line of the reader, before it reads the next. It asks for a mode that `Mode::read` can return.
+/// Writes a reply line for each line of the reader, before it reads the next. It asks for a mode that `Mode::read` can
+/// return.
 ///
 /// It ends at the first of these:
 ///
@@ -22,7 +23,8 @@ use std::io::{BufReader, Read, Write};
 /// - a read or a write that fails;
 /// - out of memory.
 ///
-/// It wrote the replies of the lines before, whole and in order. Only if a write failed, a prefix of one more reply may follow.
+/// It wrote the replies of the lines before, whole and in order. Only if a write failed, a prefix of one more reply may
+/// follow.
 pub fn serve<R: Read + Drop, W: Write + Drop>(
     alloc: Global,
     mode: Mode,

@@ -24,8 +24,8 @@ pub enum ResolverLine {
 }
 
 impl ResolverLine {
-    /// Returns the call of the text, or `None` if it is no call. One space separates words. A line is recognised by its number of words,
-    /// and then by the first.
+    /// Returns the call of the text, or `None` if it is no call. One space separates words. A line is recognised by its
+    /// number of words, and then by the first.
     pub(crate) fn parse(text: &str) -> Option<ResolverLine>
         ensures { ReadsLine (words_in text.now) result }
     {

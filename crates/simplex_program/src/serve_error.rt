@@ -20,7 +20,8 @@ pub enum ServeError {
 impl ServeError {
     ghost use Rattle.simplex_program.specs.Status.{exit_status};
 
-    /// Returns the program's exit status: 3 for a line that is no call, 4 for out of memory, 5 if reading or writing failed.
+    /// Returns the program's exit status: 3 for a line that is no call, 4 for out of memory, 5 if reading or writing
+    /// failed.
     pub fn status(&self) -> u8
         ensures { result ≡ exit_status self.now }
     {

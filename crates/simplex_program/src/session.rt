@@ -48,7 +48,8 @@ impl Session {
         }
     }
 
-    /// Writes the reply to the text of a line, with a line feed, in place of the contents of `reply`. The line has this number.
+    /// Writes the reply to the text of a line, with a line feed, in place of the contents of `reply`. The line has this
+    /// number.
     pub(crate) fn reply_to(
         &mut self,
         alloc: Global,

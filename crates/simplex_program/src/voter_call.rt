@@ -1,4 +1,5 @@
-//! The member's calls that lines name. Their certificates and proposals are of one epoch, and the certificates are valid.
+//! The member's calls that lines name. Their certificates and proposals are of one epoch, and the certificates are
+//! valid.
 
 ghost use Rattle.std.specs.Prelude.{◌≡◌, MatchOption, true, false};
 ghost use Rattle.simplex_types.specs.Plain.{digest_bytes};

@@ -9,7 +9,8 @@ use crate::decimal::decimal;
 use simplex_types::reasons::TimeoutReason;
 use simplex_types::types::View;
 
-/// Returns the first word of a text, and the text after the space that follows it, if there is one. One space separates words.
+/// Returns the first word of a text, and the text after the space that follows it, if there is one. One space separates
+/// words.
 pub(crate) fn first_word(text: &str) -> (&str, Option<&str>)
     ensures { words_in text.now ≡ result.0.now ∷ option_map_or (λ rest. words_in rest.now) result.1 [] }
 {

@@ -16,8 +16,8 @@ use Rattle.simplex_voter.specs.Verification.{takes_proposal, after_set_proposal,
 use Rattle.simplex_voter.specs.Votes.{after_construct_notarize, after_construct_nullify, after_construct_finalize}
 use Rattle.simplex_record.specs.Recovery.{as_artifact, after_replaying}
 
--- an event of a state, with each certificate by its facts; the last number of an event that carries a moment is that moment, in
--- milliseconds
+-- an event of a state, with each certificate by its facts; the last number of an event that carries a moment is that
+-- moment, in milliseconds
 pub data Event (K D : Type 0) : Type 0 where
   SetFloor : FloorFacts D → ℕ → Event K D
   AddNotarization : ProposalFacts D → Event K D

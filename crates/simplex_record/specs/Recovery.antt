@@ -1,5 +1,5 @@
--- The recovery of a state from a floor and a record: certificates are added, votes, verdicts and certificates replayed, and
--- verdicts given.
+-- The recovery of a state from a floor and a record: certificates are added, votes, verdicts and certificates replayed,
+-- and verdicts given.
 use Rattle.std.specs.Prelude.{◌≡◌, ℕ, Bool, true, false, nat_lt, if◌then◌else◌, List, [], ◌∷◌, ◌++◌, Option, Some, None}
 use Rattle.std.specs.Option.{option_or}
 use Rattle.simplex_types.specs.Certificates.{ProposalFacts, Notarized, Nullified, Finalized, ArtifactFacts, NotarizeVote, NullifyVote, FinalizeVote, Verdict, Accepted, artifact_facts}

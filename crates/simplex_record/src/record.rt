@@ -1,4 +1,5 @@
-//! A member's record, oldest entry first: its rules, the cuts of a restart, and how a state starts or is rebuilt from it.
+//! A member's record, oldest entry first: its rules, the cuts of a restart, and how a state starts or is rebuilt from
+//! it.
 
 mod check;
 mod cuts;

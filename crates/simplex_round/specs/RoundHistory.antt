@@ -13,8 +13,8 @@ use Rattle.simplex_round.specs.Slot.{SlotFacts}
 use Rattle.simplex_round.specs.Round.{RoundFacts, new_round, with_notarization, with_nullification, with_finalization, after_nullify, can_finalize, with_deadlines, with_latch, with_retry, TakesArtifact, after_replay}
 
 -- a certificate was passed in; a vote was decided or replayed (nullify also if it was requested in vain); the view was
--- entered; an own proposal was recorded; deadlines were armed; an explicit timeout came; the next timeout was polled, with
--- the interval of repetitions
+-- entered; an own proposal was recorded; deadlines were armed; an explicit timeout came; the next timeout was polled,
+-- with the interval of repetitions
 pub data RoundCall (D : Type 0) : Type 0 where
   Notarized : ProposalFacts D → RoundCall D
   Nullified : NullificationFacts → RoundCall D
@@ -102,7 +102,8 @@ first_vote (NullifyVote ∷ calls) = Some (unwrap_or (first_vote calls) ToNullif
 first_vote (FinalizeVote ∷ calls) = Some (unwrap_or (first_vote calls) ToFinalize)
 first_vote (_ ∷ calls) = first_vote calls
 
--- before any vote the deadlines and the first explicit timeout count, after nullify the repetition alone, after finalize nothing
+-- before any vote the deadlines and the first explicit timeout count, after nullify the repetition alone, after
+-- finalize nothing
 abbrev pub decision_by : {D : Type 0} → Option Vote → List (RoundCall D) → Decision
 decision_by None calls = Pending (leader_deadline calls) (certification_deadline calls) (first_timeout calls)
 decision_by (Some ToNullify) calls = Nullify (retry_moment calls)

@@ -105,8 +105,8 @@ impl<S: CertificateScheme, D: Digest> Floor<S, D> {
         }
     }
 
-    /// Returns a copy, with the same payload or proposal and the same certificate bytes. The only fault is `OutOfMemory`;
-    /// copying genesis takes no memory.
+    /// Returns a copy, with the same payload or proposal and the same certificate bytes. The only fault is
+    /// `OutOfMemory`; copying genesis takes no memory.
     pub fn clone(&self, alloc: Global) -> Result<Self, Fault>
         ensures same { IfOk result
             (λ floor. floor_facts S.certificate_bytes floor ≡ floor_facts S.certificate_bytes self.now) }

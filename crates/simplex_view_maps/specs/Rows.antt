@@ -41,7 +41,8 @@ module _ {X A : Type 0} where
   EndsShort (row ∷ []) = deque_len row < row_size
   EndsShort (row ∷ next ∷ rows) = EndsShort (next ∷ rows)
 
-  -- the first row and the rest have `count` entries, few enough to be counted, and each row is full except the first and the last
+  -- the first row and the rest have `count` entries, few enough to be counted, and each row is full except the first
+  -- and the last
   pub record IsInRows (count : ℕ) (first : VecDeque X A) (rest : VecDeque (VecDeque X A) A) : Type 0 where
     pub counted : count ≡ length (first.items ++ row_entries rest.items)
     pub fits : count < 2 ^ 64

@@ -15,7 +15,8 @@ use Rattle.simplex_voter.specs.ViewEntry.{with_view_entered, at_moment}
 use Rattle.simplex_voter.specs.Leaders.{with_elected_leader, with_window_leaders}
 use Rattle.simplex_voter.specs.Certification.{named_also, with_finalized_view, with_waiting_candidate}
 
--- whether the certificate is the first of its kind and view; and, if its proposal differs from the held one, the leader's key
+-- whether the certificate is the first of its kind and view; and, if its proposal differs from the held one, the
+-- leader's key
 abbrev pub added_answer : {K D : Type 0} → (D → D → Bool) → Option (ProposalFacts D) → RoundFacts K D → Proposal D
     → Bool × Option K
 added_answer same standing r p =
@@ -35,7 +36,8 @@ module _ {K L D : Type 0} where
   abbrev pub nullification_added : StateFacts K L D → NullificationFacts → Bool
   nullification_added x c = not (is_some (round_of x c.round.view).nullification)
 
-  -- why a nullification is refused: the state has failed, its view is too large, or a deadline of the next term's first view is
+  -- why a nullification is refused: the state has failed, its view is too large, or a deadline of the next term's first
+  -- view is
   abbrev pub nullification_refusal : StateFacts K L D → NullificationFacts → ℕ → Option Fault
   nullification_refusal x c now =
       first_fault x.failed (is_too_large c.round.view)
@@ -107,8 +109,8 @@ module _ {K L D : Type 0} (same : D → D → Bool) (elect : Elect L) where
   with_finalization_at x c =
       with_round x c.proposal.round.view (with_finalization (same_proposal same) (round_of x c.proposal.round.view) c)
 
-  -- a finalization raises the last finalized view, enters the next one and elects for it; the first of its view wakes the
-  -- view that waited for it and opens windows above it
+  -- a finalization raises the last finalized view, enters the next one and elects for it; the first of its view wakes
+  -- the view that waited for it and opens windows above it
   abbrev pub after_add_finalization : StateFacts K L D → ProposalFacts D → ℕ → StateFacts K L D
   after_add_finalization x c now =
       let v = c.proposal.round.view in

@@ -60,8 +60,8 @@ module _ {K L D : Type 0} (elect : Elect L) where
       option_map_or (λ q. has_valid_parent_span x v p.parent && is_some (explicit_ancestry_payload x q))
       (required_certification_parent elect x v p) true
 
-  -- the notarization to fetch: what the proposal requires is neither certified nor notarized, and the proposal is not invalid for
-  -- good
+  -- the notarization to fetch: what the proposal requires is neither certified nor notarized, and the proposal is not
+  -- invalid for good
   abbrev pub certification_fetch : StateFacts K L D → ℕ → Proposal D → Option CertificateFetch
   certification_fetch x v p =
       option_and_then
@@ -83,7 +83,8 @@ module _ {K L D : Type 0} (same : D → D → Bool) (elect : Elect L) where
       (λ p. if nat_lt p.parent v && certification_parent_ready elect x v p then Some p else None)
       (certifiable_proposal (same_proposal same) (round_of x v))
 
-  -- `certify_candidates`: the proposals offered among the waiting views, and what they must fetch, by rising view; none waits then
+  -- `certify_candidates`: the proposals offered among the waiting views, and what they must fetch, by rising view; none
+  -- waits then
   abbrev pub candidates_answer : StateFacts K L D → List (Proposal D) × List CertificateFetch
   candidates_answer x = (filter_map (offered_of x) x.named, filter_map (fetched_of elect x) x.named)
 

@@ -24,7 +24,8 @@ module _ {K L D : Type 0} (elect : Elect L) where
       if is_voted_ancestor elect x v r
       then option_and_then (λ p. if can_chain_on x v p.parent then Some p else None) r.slot.held else None
 
-  -- the ground of a tracked view's payload: its certificate, or the vote for its proposal with the payload that was bound
+  -- the ground of a tracked view's payload: its certificate, or the vote for its proposal with the payload that was
+  -- bound
   abbrev pub basis_of : StateFacts K L D → ℕ → RoundFacts K D → Option (Basis D)
   basis_of x v r =
       if is_notarized r

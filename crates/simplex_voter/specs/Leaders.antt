@@ -22,7 +22,8 @@ module _ {K L D : Type 0} where
   abbrev pub with_leader_of : StateFacts K L D → ℕ → ℕ → StateFacts K L D
   with_leader_of x from to = option_map_or (λ l. with_leader_at x to l.idx) (round_of x from).leader x
 
-  -- the views above v whose window a certificate of v opens: those of its term, at most one more than the optimistic views ahead
+  -- the views above v whose window a certificate of v opens: those of its term, at most one more than the optimistic
+  -- views ahead
   abbrev pub opened_views : StateFacts K L D → ℕ → List ℕ
   opened_views x v =
       if x.terms.optimistic_views == 0
@@ -38,8 +39,8 @@ module _ {K L D : Type 0} (elect : Elect L) where
   abbrev pub with_elected_leader : StateFacts K L D → ℕ → Option (List ℕ) → StateFacts K L D
   with_elected_leader x v seed = with_leader_at x v (elect x.elector (round_number x v) seed)
 
-  -- a proposal or this member's own vote for v prepares the next view: in its window it takes the leader of v; at a term's start,
-  -- after its own vote, a member that is elected early takes it over
+  -- a proposal or this member's own vote for v prepares the next view: in its window it takes the leader of v; at a
+  -- term's start, after its own vote, a member that is elected early takes it over
   abbrev pub with_next_view_ready : StateFacts K L D → ℕ → StateFacts K L D
   with_next_view_ready x v =
       if in_issuance_window x (v + 1)

@@ -15,7 +15,8 @@ abbrev pub at_view : {D : Type 0} → ℕ → Option D → Option (ℕ × D)
 at_view v payload = option_map (λ d. (v, d)) payload
 
 module _ {K L D : Type 0} where
-  -- what can't change for the better: the parent is below, not below the last finalized view, and inside a term the view before
+  -- what can't change for the better: the parent is below, not below the last finalized view, and inside a term the
+  -- view before
   unfoldable pub has_valid_parent_span : StateFacts K L D → ℕ → ℕ → Bool
   has_valid_parent_span x v p = nat_lt p v && nat_le x.finalized p && (p + 1 == v || is_term_start x v)
 

@@ -55,8 +55,8 @@ module _ {K L D : Type 0} (same : D → D → Bool) (elect : Elect L) where
       then option_and_then (λ d. if is_bound_to same r.binding d then Some p.payload else None) (below p.parent)
       else None
 
-  -- the payload that a view's round offers: its certificate's, unless its verdict was false, or that of a vote, given what the parent
-  -- offers
+  -- the payload that a view's round offers: its certificate's, unless its verdict was false, or that of a vote, given
+  -- what the parent offers
   abbrev pub served_payload : StateFacts K L D → (ℕ → Option D) → ℕ → RoundFacts K D → Option D
   served_payload x below v r =
       if is_notarized r
@@ -72,6 +72,7 @@ module _ {K L D : Type 0} (same : D → D → Bool) (elect : Elect L) where
   payload_within x zero = λ v. None
   payload_within x (suc steps) = payload_by x (payload_within x steps)
 
-  -- the payload that the view offers before it is certified; `payload_by` of itself, since each step leads to a lower tracked view
+  -- the payload that the view offers before it is certified; `payload_by` of itself, since each step leads to a lower
+  -- tracked view
   unfoldable pub optimistic_ancestry_payload : StateFacts K L D → ℕ → Option D
   optimistic_ancestry_payload x v = payload_within x (suc (length x.rounds)) v

@@ -77,7 +77,8 @@ module _ {K L D : Type 0} (same : D → D → Bool) where
   abbrev pub parent_certified : StateFacts K L D → ℕ × D → Bool
   parent_certified x parent = is_payload same (explicit_ancestry_payload x parent.0) parent.1
 
-  -- a term's start on a parent that isn't certified is only prepared, and not after this member's vote to nullify the current view
+  -- a term's start on a parent that isn't certified is only prepared, and not after this member's vote to nullify the
+  -- current view
   abbrev pub request_on : StateFacts K L D → ℕ → RoundFacts K D → ℕ × D → Option (ProposalRequest D K)
   request_on x v r parent =
       if is_term_start x v && not (parent_certified x parent)

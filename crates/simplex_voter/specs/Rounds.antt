@@ -11,8 +11,8 @@ use Rattle.simplex_round.specs.Round.{RoundFacts, new_round, leader_at, with_dea
 use Rattle.simplex_voter.specs.declared.voter.rounds.Deadlines.{Deadlines}
 use Rattle.simplex_voter.specs.declared.voter.rounds.Bounds.{Bounds}
 
--- no view above this one is ever tracked: a certificate names views below 2 ^ 63, it enters or elects for views at most a term above
--- that, and a vote is cast at most a term above the current view, and prepares the next one
+-- no view above this one is ever tracked: a certificate names views below 2 ^ 63, it enters or elects for views at most
+-- a term above that, and a vote is cast at most a term above the current view, and prepares the next one
 abbrev pub largest_tracked : ℕ
 largest_tracked = 2 ^ 63 + 2 ^ 33
 
@@ -93,8 +93,9 @@ module _ {K D : Type 0} where
   abbrev pub is_explicit : RoundFacts K D → Bool
   is_explicit r = is_some r.finalization || is_certified r.certification
 
-  -- the round of a tracked view is this member's, among its members and in its epoch; only a view that a certificate may name is
-  -- notarized; its leader is a member; and it is explicit, under certification or certified false only if the bounds allow it
+  -- the round of a tracked view is this member's, among its members and in its epoch; only a view that a certificate
+  -- may name is notarized; its leader is a member; and it is explicit, under certification or certified false only if
+  -- the bounds allow it
   pub record IsRoundKept (bounds : Bounds) (x : RoundsFacts K D) (v : ℕ) (r : RoundFacts K D) : Type 0 where
     pub me : r.me ≡ x.me
     pub members : r.members ≡ x.members

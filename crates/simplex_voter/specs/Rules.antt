@@ -12,13 +12,14 @@ use Rattle.simplex_voter.specs.Payloads.{explicit_ancestry_payload, optimistic_a
 use Rattle.simplex_voter.specs.Parents.{verification_matches}
 
 module _ {K L D : Type 0} where
-  -- the current view, if this member didn't vote to finalize it. Why: a vote to nullify covers the rest of the term, and each view
-  -- that this member voted to finalize lies below the current one, so none of them is covered by it.
+  -- the current view, if this member didn't vote to finalize it. Why: a vote to nullify covers the rest of the term,
+  -- and each view that this member voted to finalize lies below the current one, so none of them is covered by it.
   unfoldable pub may_nullify : StateFacts K L D → ℕ → Bool
   may_nullify x v = v == x.current && not (is_finalize (round_of x v).decision)
 
-  -- this member voted to nullify a view below in the term, and no finalization lies at or above that. Why: else its two votes
-  -- could help to finalize a view and to skip it. A finalization from the nullified view on shows that no quorum skipped it.
+  -- this member voted to nullify a view below in the term, and no finalization lies at or above that. Why: else its two
+  -- votes could help to finalize a view and to skip it. A finalization from the nullified view on shows that no quorum
+  -- skipped it.
   unfoldable pub has_conflicting_nullify : StateFacts K L D → ℕ → Bool
   has_conflicting_nullify x v =
       list_any (λ u. nat_lt u v && covers x.terms.term_length u v && nat_lt x.finalized u) x.nullify_votes
@@ -28,9 +29,9 @@ module _ {K L D : Type 0} (elect : Elect L) where
   abbrev pub was_handed_over : StateFacts K L D → ℕ → Bool
   was_handed_over x v = is_elected_early elect x v && (round_of x v).notarize_decided
 
-  -- the view that must be certified before a proposal of this view: the one before, but at a term's start only after a handoff. Why:
-  -- in its window, or after a handoff, a proposal was voted for on a parent that may still be refused; to finalize it would finalize
-  -- the parent too.
+  -- the view that must be certified before a proposal of this view: the one before, but at a term's start only after a
+  -- handoff. Why: in its window, or after a handoff, a proposal was voted for on a parent that may still be refused; to
+  -- finalize it would finalize the parent too.
   unfoldable pub required_certification_parent : StateFacts K L D → ℕ → Proposal D → Option ℕ
   required_certification_parent x v p =
       if is_term_start x v
@@ -46,22 +47,23 @@ module _ {K L D : Type 0} (elect : Elect L) where
   abbrev pub has_required_parent : StateFacts K L D → ℕ → Bool
   has_required_parent x v = option_map_or (explicit_parent_ready x v) (round_of x v).slot.held false
 
-  -- a vote to finalize the held proposal. Why: at or below the last finalized view it would serve nobody; of two proposals this
-  -- member can't tell which one others certify; and without the notarization another proposal may still win the view.
+  -- a vote to finalize the held proposal. Why: at or below the last finalized view it would serve nobody; of two
+  -- proposals this member can't tell which one others certify; and without the notarization another proposal may still
+  -- win the view.
   unfoldable pub may_finalize : StateFacts K L D → ℕ → Bool
   may_finalize x v =
       nat_lt x.finalized v && is_admitted x v && not (has_conflicting_nullify x v) && has_required_parent x v
       && can_finalize (round_of x v)
 
 module _ {K L D : Type 0} (same : D → D → Bool) (elect : Elect L) where
-  -- inside its window a view needs the view before to offer a payload. Why: a vote there depends on votes that depend on others; once
-  -- one of them is refused, nothing above it may be voted for.
+  -- inside its window a view needs the view before to offer a payload. Why: a vote there depends on votes that depend
+  -- on others; once one of them is refused, nothing above it may be voted for.
   abbrev pub has_ancestry : StateFacts K L D → ℕ → Bool
   has_ancestry x v = not (in_issuance_window x v) || is_some (optimistic_ancestry_payload same elect x (v - 1))
 
-  -- a vote to notarize the held proposal. Why: one vote a view, since two quorums share a correct member, and so the view has
-  -- certificates for only one proposal; and the binding, since what was verified was the proposal on that payload of its parent: on
-  -- another one, which an equivocating leader may bring about, it was never verified.
+  -- a vote to notarize the held proposal. Why: one vote a view, since two quorums share a correct member, and so the
+  -- view has certificates for only one proposal; and the binding, since what was verified was the proposal on that
+  -- payload of its parent: on another one, which an equivocating leader may bring about, it was never verified.
   unfoldable pub may_notarize : StateFacts K L D → ℕ → Bool
   may_notarize x v = is_admitted x v && can_notarize (round_of x v) && has_ancestry x v
       && verification_matches same elect x v

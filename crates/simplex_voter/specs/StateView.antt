@@ -34,8 +34,8 @@ state_view terms elects_early s =
       failed = s.failed;
     }
 
--- a nullification of the greatest view that it may name enters a view at or below this one; other certificates and verdicts enter
--- views below it
+-- a nullification of the greatest view that it may name enters a view at or below this one; other certificates and
+-- verdicts enter views below it
 abbrev pub largest_current : ℕ
 largest_current = 2 ^ 63 + 2 ^ 32
 

@@ -113,7 +113,8 @@ module _ {K L D : Type 0} (same : D → D → Bool) (elect : Elect L) where
       let ready = with_next_view_ready elect x v in
       with_round ready v (with_proposal same (round_of ready v) p)
 
-  -- with no gap above it, the parent's payload is ready, or still forming inside the window, or its notarization is missing
+  -- with no gap above it, the parent's payload is ready, or still forming inside the window, or its notarization is
+  -- missing
   abbrev pub payload_standing : StateFacts K L D → ℕ → RoundFacts K D → ℕ → Standing D
   payload_standing x v r p =
       option_map_or Ready (ancestry_payload_for_child same elect x v p)
@@ -126,8 +127,8 @@ module _ {K L D : Type 0} (same : D → D → Bool) (elect : Elect L) where
       then option_map_or (λ w. fetch_once r w Nullification) (first_unnullified_view x p v) (payload_standing x v r p)
       else Invalid
 
-  -- the standing of a view: something is due if another member leads it, this member may work there, and its proposal was not
-  -- verified yet
+  -- the standing of a view: something is due if another member leads it, this member may work there, and its proposal
+  -- was not verified yet
   unfoldable pub standing : StateFacts K L D → ℕ × RoundFacts K D → Standing D
   standing x e =
       if is_admitted x e.0

@@ -1,4 +1,5 @@
--- Why a vote of this member is withheld: the parts of its rule, in the order of the rule, each with its name if it is false.
+-- Why a vote of this member is withheld: the parts of its rule, in the order of the rule, each with its name if it is
+-- false.
 use Rattle.std.specs.Prelude.{ℕ, Bool, false, ◌==◌, not, nat_lt, List, [], ◌∷◌, ◌++◌, Option, Some, None, is_some, if◌then◌else◌}
 use Rattle.simplex_round.specs.Round.{RoundFacts, is_nullify, is_finalize, is_judged, is_certified, is_verified_slot}
 use Rattle.simplex_round.specs.Slot.{is_unequivocated}

@@ -130,7 +130,8 @@ fn is_read_back(alloc: Global, bytes: &[u8]) -> Result<bool, Fail> {
     Ok(read.encode(alloc)?.as_slice() == bytes)
 }
 
-/// Returns whether each prefix of the bytes is refused with the right error: one that ends within the parts is too short.
+/// Returns whether each prefix of the bytes is refused with the right error: one that ends within the parts is too
+/// short.
 fn refuses_fronts(alloc: Global, bytes: &[u8], parts: usize) -> bool {
     for end in 0..bytes.len() {
         let wanted = if end < parts {

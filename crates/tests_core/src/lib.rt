@@ -1,4 +1,5 @@
-//! Tests of the libraries below the member, run on their code: worked rows, each refusal by name, and settings at their limits.
+//! Tests of the libraries below the member, run on their code: worked rows, each refusal by name, and settings at their
+//! limits.
 #![tactic(auto)]
 
 #[cfg(test)]

@@ -122,7 +122,8 @@ fn failure_fetch(view: u64) -> Effect {
     }
 }
 
-/// A record in which view 1 is finalized, the term of 3 is nullified, 5 has failed, nothing is known of 7, and 9 is notarized.
+/// A record in which view 1 is finalized, the term of 3 is nullified, 5 has failed, nothing is known of 7, and 9 is
+/// notarized.
 fn gaps() -> [PlainArtifact; 8] {
     [
         notarization(1),

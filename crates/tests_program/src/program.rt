@@ -172,7 +172,8 @@ fn each_line_has_its_reply(rt: HostRuntime) -> Result<(), Fail> {
     Ok(())
 }
 
-/// Command lines that ask for a mode, each with lines and replies that show its settings: the length of terms, and whether there is a key.
+/// Command lines that ask for a mode, each with lines and replies that show its settings: the length of terms, and
+/// whether there is a key.
 static MODES: [(&str, &str, &str); 4] = [
     (
         "viewstate resolver 1",

@@ -23,6 +23,10 @@ BARE = re.compile(rf"(?<![\w`/.-]){SNAKE}(?![\w`/-])")
 # Names of the Rattle kit, of Rust and of C that comments cite.
 ELSEWHERE = {"simplex_view_state"}
 SCRIPTS = ("tests/**/*", "bench/*", "bindings/*", "bindings/**/*.py")
+# What a reader of the crates reads first: statements, code and comments. The formatter keeps a `use` on one line; a script of lines is a text.
+READ_FIRST = ("crates/*/src/**/*.rt", "crates/*/specs/**/*.antt")
+WIDTH = 120
+MAY_BE_LONG = re.compile(r'^\s*((pub |ghost )?use |#!\[)|"|\\n\\$')
 COMMENTED = (("crates/**/*.rt", "//"), ("crates/**/*.antt", "--"), ("bindings/**/*.rs", "//"))
 
 
@@ -81,8 +85,18 @@ def texts_in(path):
                 yield token.start[0], re.sub(r"\S*[./]\w\S*", "", token.string)
 
 
+def long_lines():
+    """The lines of code and definitions that are too long to be read side by side."""
+    for pattern in READ_FIRST:
+        for path in files(pattern):
+            lines = enumerate(path.read_text().splitlines(), 1)
+            long = [number for number, line in lines if len(line) > WIDTH and not MAY_BE_LONG.search(line)]
+            yield from (f"{path.relative_to(ROOT)}:{number}: break this line before character {WIDTH}" for number in long)
+
+
 def faults():
     """What is wrong with the words of comments and of scripts."""
+    yield from long_lines()
     for path in scripts():
         place = path.relative_to(ROOT)
         for line, text in texts_in(path):

@@ -10,8 +10,8 @@ use std::alloc::AllocError;
 use std::collections::BTreeSet;
 
 impl Fetches {
-    /// Opens and closes fetches as the effects say, in order. A missing certificate may be on its way, and is asked for from this moment
-    /// on.
+    /// Opens and closes fetches as the effects say, in order. A missing certificate may be on its way, and is asked for
+    /// from this moment on.
     pub fn apply(&mut self, effects: &[Effect], moment: u64) -> Result<(), AllocError>
         ensures after { OnOk result (self.new.wanted.items ≡ after_effects moment effects.now self.old.wanted.items) }
         ensures same { (self.new.peers ≡ self.old.peers) × (self.new.retry ≡ self.old.retry) }

@@ -10,8 +10,9 @@ use simplex_voter::voter::State;
 use std::collections::BTreeSet;
 
 impl Fetches {
-    /// Closes the fetches of certificates that are not missing: of views up to the last finalized one, and of certificates that the state
-    /// has. The nullifications of these views stay outstanding though the state may have them.
+    /// Closes the fetches of certificates that are not missing: of views up to the last finalized one, and of
+    /// certificates that the state has. The nullifications of these views stay outstanding though the state may have
+    /// them.
     pub fn retain_missing<S: CertificateScheme, L: Elector<S>, D: Digest>(
         &mut self,
         wanted: &BTreeSet<View>,

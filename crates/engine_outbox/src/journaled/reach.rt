@@ -15,8 +15,8 @@ use simplex_voter::voter::State;
 impl<S: Scheme<D>, L: Elector<S>, D: Digest> Journaled<S, L, D> {
     ghost use Rattle.engine_outbox.specs.Continuity.{IsWhole};
 
-    /// Returns whether the record has more entries than this, and a pruning would drop more of its views than it retains. So a record is
-    /// not written again while half of its views are retained.
+    /// Returns whether the record has more entries than this, and a pruning would drop more of its views than it
+    /// retains. So a record is not written again while half of its views are retained.
     ///
     /// - `short`: if not, and all of the record is queued, the record is short.
     pub fn is_record_too_long(&self, long: usize) -> bool

@@ -109,8 +109,9 @@ fn watch_all<S: CertificateScheme, D: Digest>(
     Ok(())
 }
 
-/// Returns the call of the member about a block to build. A proposal of a view below the current one serves nobody: the view was nullified
-/// or certified, or other members are ahead. An application that never builds such blocks would leave ever more.
+/// Returns the call of the member about a block to build. A proposal of a view below the current one serves nobody: the
+/// view was nullified or certified, or other members are ahead. An application that never builds such blocks would
+/// leave ever more.
 fn watching_one<D: Digest, P: Copy>(current: View, building: &Building<D, P>) -> Task<D>
     ensures { result ≡ watching_one current building.now }
 {

@@ -132,7 +132,8 @@ impl<S: CertificateScheme, D: Digest> Plan<S, D> {
         }
     }
 
-    /// Follows a reply to verify: a proposal is to be verified, or a certificate is missing for one, which is fetched unless it is already.
+    /// Follows a reply to verify: a proposal is to be verified, or a certificate is missing for one, which is fetched
+    /// unless it is already.
     fn follow_verify(&mut self, verify: Verify<D, S::PublicKey>) -> Result<(), AllocError>
         ensures { OnOk result (IsVerifyFollowed verify self.old self.new) }
     {
@@ -159,8 +160,8 @@ impl<S: CertificateScheme, D: Digest> Plan<S, D> {
         self.plan(Step::Resolve(kind, view, proposal))
     }
 
-    /// Plans a block to build. A lone member builds none ahead of its parent's certification before it has entered the view: its own
-    /// application may refuse the parent for good.
+    /// Plans a block to build. A lone member builds none ahead of its parent's certification before it has entered the
+    /// view: its own application may refuse the parent for good.
     fn follow_request(
         &mut self,
         request: Option<ProposalRequest<D, S::PublicKey>>,
@@ -263,8 +264,8 @@ impl<S: CertificateScheme, D: Digest> Plan<S, D> {
         Ok(())
     }
 
-    /// Follows a vote to nullify: it was cast, or the one before is sent once more with the best certificate, for members that missed
-    /// either. If none is allowed, the view was voted final, and its finalization ends it.
+    /// Follows a vote to nullify: it was cast, or the one before is sent once more with the best certificate, for
+    /// members that missed either. If none is allowed, the view was voted final, and its finalization ends it.
     fn follow_nullify(
         &mut self,
         answer: Option<(bool, Nullify<S>)>,

@@ -16,8 +16,9 @@ use std::collections::VecDeque;
 impl<S: CertificateScheme, D: Digest> Plan<S, D> {
     /// Takes note of the member's views.
     ///
-    /// It closes the fetches of the views up to a later finalized one. If another view is entered, it plans to ask for what may be due in
-    /// that view, then for the blocks that waited for it, then for the proposals that came before it.
+    /// It closes the fetches of the views up to a later finalized one. If another view is entered, it plans to ask for
+    /// what may be due in that view, then for the blocks that waited for it, then for the proposals that came before
+    /// it.
     pub fn update_views(&mut self, views: Views) -> Result<(), AllocError>
         ensures { OnOk result (HasSeen views self.old self.new) }
     {

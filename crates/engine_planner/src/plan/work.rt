@@ -17,8 +17,8 @@ use simplex_types::types::{CertificateScheme, Context, Digest, Participant, Prop
 use std::alloc::AllocError;
 
 impl<S: CertificateScheme, D: Digest> Plan<S, D> {
-    /// Stores a proposal that came before its view, if few are stored: nobody sends it again, and its view would be lost. Without memory
-    /// nothing has changed.
+    /// Stores a proposal that came before its view, if few are stored: nobody sends it again, and its view would be
+    /// lost. Without memory nothing has changed.
     pub fn store_early(
         &mut self,
         from: Participant,
@@ -42,8 +42,8 @@ impl<S: CertificateScheme, D: Digest> Plan<S, D> {
         Ok(())
     }
 
-    /// Opens the fetch of a missing certificate, which this member is asked for first, unless it arrives soon. Without memory nothing has
-    /// changed.
+    /// Opens the fetch of a missing certificate, which this member is asked for first, unless it arrives soon. Without
+    /// memory nothing has changed.
     pub fn resolve(
         &mut self,
         kind: FetchKind,

@@ -167,8 +167,8 @@ fn wrap<S: CertificateScheme, D: Digest>(
     }
 }
 
-/// Counts a further vote of a member, whose first one is the ballot. One pair is evidence enough: a member that signs ever more votes, or
-/// whose two votes are sent again and again, would otherwise fill a log.
+/// Counts a further vote of a member, whose first one is the ballot. One pair is evidence enough: a member that signs
+/// ever more votes, or whose two votes are sent again and again, would otherwise fill a log.
 fn count_again<S: CertificateScheme, D: Digest>(
     alloc: Global,
     ballot: &Ballot<D, S::Signature>,

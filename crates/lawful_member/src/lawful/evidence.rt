@@ -5,9 +5,9 @@ ghost use Rattle.lawful_member.specs.Evidence.{signed_vote_in, AreEvidence, Show
 
 use simplex_types::types::{Artifact, CertificateScheme, Digest, Proposal};
 
-/// Returns whether two artifacts are votes of one member, in one epoch, that alone show that it broke a rule: two to notarize one
-/// view or two to finalize it, on two proposals, or one to nullify a view and one to finalize it. No member that runs this code
-/// ever gives such votes, in any of its lifetimes.
+/// Returns whether two artifacts are votes of one member, in one epoch, that alone show that it broke a rule: two to
+/// notarize one view or two to finalize it, on two proposals, or one to nullify a view and one to finalize it. No
+/// member that runs this code ever gives such votes, in any of its lifetimes.
 ///
 /// The caller must verify that each signature is the member's; this function does not read signatures.
 pub fn is_evidence<S: CertificateScheme, D: Digest>(

@@ -26,8 +26,8 @@ impl<S: Scheme<D>, L: Elector<S>, D: Digest> LawfulMember<S, L, D> {
         self.member.state()
     }
 
-    /// Returns whether the member offered the view's proposal for certification and has received no verdict on it; false once it has
-    /// failed.
+    /// Returns whether the member offered the view's proposal for certification and has received no verdict on it;
+    /// false once it has failed.
     pub fn awaits_verdict(&self, view: View) -> bool
         ensures { result ≡ is_offered self.now.facts.outstanding_work view }
     {
@@ -60,8 +60,8 @@ impl<S: Scheme<D>, L: Elector<S>, D: Digest> LawfulMember<S, L, D> {
     /// Resumes a member from its journal, as `Member::resume` does, or is refused with its errors and the entries.
     ///
     /// The elector's members must be the scheme's participants.
-    /// - `continues`: in terms of the same length and with the key of the same member or none, what the member whose journal this
-    ///   is did remains done, and the floor's finalization is accepted too.
+    /// - `continues`: in terms of the same length and with the key of the same member or none, what the member whose
+    ///   journal this is did remains done, and the floor's finalization is accepted too.
     pub fn resume(
         alloc: Global,
         start: Start<S, L, D>,

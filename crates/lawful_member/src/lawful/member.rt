@@ -1,4 +1,5 @@
-//! Members whose trace so far keeps the laws, by the code's own steps and replies: a whole run, and a member that continues.
+//! Members whose trace so far keeps the laws, by the code's own steps and replies: a whole run, and a member that
+//! continues.
 
 ghost use Rattle.std.specs.Prelude.{◌≡◌, ℕ, IfOk, IfErr, IfSome, length};
 ghost use Rattle.simplex_member.specs.Runs.{AreSetUp, EndsRunFrom, steps_of};
@@ -17,10 +18,11 @@ use std::marker::Model;
 /// Starts a member and takes the steps in order, as `run` does: what it accepted and signed keeps the laws.
 ///
 /// - `exact`: the reply to each request for a vote is exactly by its rule, and no other call returns a vote.
-/// - `ran`: if each lifetime has terms of one length, not 0, and signs as member `i` or not at all, `AllStartAs`, this is what
-///   member `i` of a network does, so `agreement` applies to it.
-/// - `shows`: its trace is what the steps and the replies show. These are each certificate that a call passes in and whose reply
-///   says whether it is new, the floor's finalization of the start and of each restart that succeeds, and each vote in a reply.
+/// - `ran`: if each lifetime has terms of one length, not 0, and signs as member `i` or not at all, `AllStartAs`, this
+///   is what member `i` of a network does, so `agreement` applies to it.
+/// - `shows`: its trace is what the steps and the replies show. These are each certificate that a call passes in and
+///   whose reply says whether it is new, the floor's finalization of the start and of each restart that succeeds, and
+///   each vote in a reply.
 /// - `lawful`: they keep the voting rules, over all its lifetimes.
 /// - `ended`: it ends early as `run` does, with the error of a refused start or restart, or with `OutOfMemory`.
 pub fn run_lawfully<S: Scheme<D>, L: Elector<S>, D: Digest>(
@@ -52,9 +54,9 @@ pub fn run_lawfully<S: Scheme<D>, L: Elector<S>, D: Digest>(
 
 /// A member for a host, with the law of its votes at each moment.
 ///
-/// `HasHistory` says what its trace is so far, and as which member of a network. `start` begins the list, and `resume` continues that
-/// of an ended member. Each method states what it adds, read off its arguments and its reply, and `keeps_the_laws` states what
-/// holds of the whole.
+/// `HasHistory` says what its trace is so far, and as which member of a network. `start` begins the list, and `resume`
+/// continues that of an ended member. Each method states what it adds, read off its arguments and its reply, and
+/// `keeps_the_laws` states what holds of the whole.
 #[derive(Drop)]
 pub struct LawfulMember<S: CertificateScheme, L: Elector<S>, D: Digest> {
     pub(super) member: Member<S, L, D>,
@@ -89,9 +91,9 @@ impl<S: Scheme<D>, L: Elector<S>, D: Digest> LawfulMember<S, L, D> {
 
     /// Starts a member at a floor, as `Member::start` does, with the same errors.
     ///
-    /// The elector's members must be the scheme's participants. Returns `OtherEpoch`, `ZeroView` or `ViewTooLarge` if the floor's
-    /// finalization is of another epoch or of view 0, or names a view above 2^63 - 1; `TimeOverflow` if a deadline passes
-    /// 2^64 - 1 milliseconds; `OutOfMemory`.
+    /// The elector's members must be the scheme's participants. Returns `OtherEpoch`, `ZeroView` or `ViewTooLarge` if
+    /// the floor's finalization is of another epoch or of view 0, or names a view above 2^63 - 1; `TimeOverflow` if a
+    /// deadline passes 2^64 - 1 milliseconds; `OutOfMemory`.
     /// - `begins`: it has accepted the floor's finalization, if there is one, and done nothing else.
     pub fn start(
         alloc: Global,
@@ -114,8 +116,8 @@ impl<S: Scheme<D>, L: Elector<S>, D: Digest> LawfulMember<S, L, D> {
 
     /// Makes a call of the state, as `Member::call` does.
     ///
-    /// - `answered`: it returns the call's reply; or it is refused, or not allowed, and then nothing is changed except that a
-    ///   member out of memory may have failed.
+    /// - `answered`: it returns the call's reply; or it is refused, or not allowed, and then nothing is changed except
+    ///   that a member out of memory may have failed.
     /// - `signed`: a returned vote is signed on exactly its subject, under the member's key.
     /// - `votes`: the record holds each returned vote, with the very signature that is returned.
     /// - `grown`: the record is as it was, with more after it.
@@ -149,11 +151,13 @@ impl<S: Scheme<D>, L: Elector<S>, D: Digest> LawfulMember<S, L, D> {
         self.member.prune_record()
     }
 
-    /// Begins another lifetime from what is left of the record, as `Member::restart` does, or is refused with its errors.
+    /// Begins another lifetime from what is left of the record, as `Member::restart` does, or is refused with its
+    /// errors.
     ///
     /// The elector's members must be the scheme's participants.
-    /// - `continues`: in terms of the same length and with the key of the same member or none, what the member has done stays, also
-    ///   what is dropped from its record or pruned; if the restart succeeds the floor's finalization is accepted too.
+    /// - `continues`: in terms of the same length and with the key of the same member or none, what the member has done
+    ///   stays, also what is dropped from its record or pruned; if the restart succeeds the floor's finalization is
+    ///   accepted too.
     pub fn restart(&mut self, restart: Restart<S, L, D>) -> Result<(), RecoverError>
         requires { L.members restart.start.settings.elector ≡ length (S.participants restart.start.settings.scheme) }
         ensures restarted { IsRestart D.eq L.elect self.old.facts

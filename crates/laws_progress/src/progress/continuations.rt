@@ -12,17 +12,18 @@ ghost use Rattle.laws_progress.specs.Continuation.{
 
 use simplex_types::types::{Digest, Elector, Scheme};
 
-/// Does nothing: its contract is the law. It says what it means that a network can finalize a proposal (`ContinuesToFinalize`), and that
-/// exchanges of messages lead to a later network (`Exchanges`), in words that a host can check.
+/// Does nothing: its contract is the law. It says what it means that a network can finalize a proposal
+/// (`ContinuesToFinalize`), and that exchanges of messages lead to a later network (`Exchanges`), in words that a host
+/// can check.
 ///
-/// - `members`: the later network keeps the premises of `agreement`. The same members are faulty, and each honest one did what it had done,
-///   and more.
-/// - `new`: no proposal of that view or above could be finalized before. Each honest member has signed the vote to finalize the proposal
-///   and accepted its finalization, which the honest members' votes alone make.
-/// - `nothing_forged`: no honest member accepted a certificate that none had accepted and that they don't make alone. None received a
-///   proposal that none had received and that none of them built.
-/// - `too_many`: so if more than f members are faulty, no network can do this, whatever else is true: the first premise of
-///   `no_network_is_stuck` is needed.
+/// - `members`: the later network keeps the premises of `agreement`. The same members are faulty, and each honest one
+///   did what it had done, and more.
+/// - `new`: no proposal of that view or above could be finalized before. Each honest member has signed the vote to
+///   finalize the proposal and accepted its finalization, which the honest members' votes alone make.
+/// - `nothing_forged`: no honest member accepted a certificate that none had accepted and that they don't make alone.
+///   None received a proposal that none had received and that none of them built.
+/// - `too_many`: so if more than f members are faulty, no network can do this, whatever else is true: the first premise
+///   of `no_network_is_stuck` is needed.
 /// - `exchanged`: a network can finalize what exchanges lead to.
 /// - `brought`: within one exchange the same is true of what they had signed and built before it.
 /// - `too_few`: so within one exchange no view is finalized.

@@ -11,8 +11,8 @@ ghost use Rattle.laws_progress.specs.TooManyFaulty.{with_two_faulty, IsStuck, Ma
 ghost use Rattle.laws_progress.specs.StartedNetworks.{with_first_leader, with_second_leader, StandsFirst, StandsBeforeSecond, Finalizes};
 ghost use Rattle.laws_progress.specs.WorkedNetworks.{MayReach, Reaches, ReachesWithin};
 
-/// Does nothing: its contract is the law. Two networks of four in terms of one view, one of which is faulty, whose others have just
-/// started: the premises of `fresh_starts_are_finalized` are true, and a view is finalized.
+/// Does nothing: its contract is the law. Two networks of four in terms of one view, one of which is faulty, whose
+/// others have just started: the premises of `fresh_starts_are_finalized` are true, and a view is finalized.
 ///
 /// - `first`, `first_few`: a network that keeps the premises of `agreement`, whose faulty member doesn't lead view 1.
 /// - `first_stands`: each honest one is at view 1, which nobody touched, on genesis.
@@ -31,12 +31,12 @@ pub fn started_networks_continue()
     ensures second_goes_on { Finalizes with_second_leader 2 }
 {}
 
-/// Does nothing: its contract is the law. The worked networks that look stuck keep the premises of `no_network_is_stuck`, and so they can
-/// finalize a view, also later starts.
+/// Does nothing: its contract is the law. The worked networks that look stuck keep the premises of
+/// `no_network_is_stuck`, and so they can finalize a view, also later starts.
 ///
 /// - `divided`: the network of `conflicts_are_left`, whose leader proposed twice and whose members restarted; view 6.
-/// - `soon`: its members lead round-robin and know the next start, but none of the two after that. So one of these is finalized within
-///   seven exchanges of messages: one for the term that is skipped, and f + 5.
+/// - `soon`: its members lead round-robin and know the next start, but none of the two after that. So one of these is
+///   finalized within seven exchanges of messages: one for the term that is skipped, and f + 5.
 /// - `lacking`: the network of `gaps_are_closed`, whose members miss a nullification and a notarization; view 6.
 /// - `taken_over`: the network of `nullified_handoffs_are_left`, in terms of two views; view 11.
 pub fn worked_networks_may_continue()
@@ -46,8 +46,9 @@ pub fn worked_networks_may_continue()
     ensures taken_over { MayReach 2 taken_over 11 × Reaches 2 taken_over 11 }
 {}
 
-/// Does nothing: its contract is the law. A network of five in terms of one view, two of which are faulty, whose others have just started,
-/// is stuck. It keeps the premises of `agreement`, but not the first one of `no_network_is_stuck`, that at most f are faulty.
+/// Does nothing: its contract is the law. A network of five in terms of one view, two of which are faulty, whose others
+/// have just started, is stuck. It keeps the premises of `agreement`, but not the first one of `no_network_is_stuck`,
+/// that at most f are faulty.
 ///
 /// - `network`, `too_many`: a network that keeps the premises of `agreement`, with one faulty member more than f.
 /// - `otherwise`: all other premises of `no_network_is_stuck` are true of it, if view 4 is to be finalized.

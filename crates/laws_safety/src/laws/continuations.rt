@@ -1,4 +1,5 @@
-//! Networks that look stuck, and continue: in each the honest members alone finalize a view above all that could be finalized.
+//! Networks that look stuck, and continue: in each the honest members alone finalize a view above all that could be
+//! finalized.
 
 ghost use Rattle.std.specs.Prelude.{◌≡◌, ℕ, ◌≤◌, nat_eq, length};
 ghost use Rattle.simplex_types.specs.declared.types.messages.Proposal.{Proposal};
@@ -10,9 +11,9 @@ ghost use Rattle.laws_safety.specs.MissingCertificatesNetwork.{lacks_nullificati
 ghost use Rattle.laws_safety.specs.Replicas.{faults, Backed, IsNetworkOf};
 ghost use Rattle.laws_safety.specs.ScenarioSteps.{round, one, in_turn};
 
-/// A network of four in terms of one view, whose faulty leader proposes two payloads in view 1: one member votes for each, the
-/// third for none, and all three restart. They nullify view 1 and finalize view 2. The function does nothing: its contract is the
-/// law.
+/// A network of four in terms of one view, whose faulty leader proposes two payloads in view 1: one member votes for
+/// each, the third for none, and all three restart. They nullify view 1 and finalize view 2. The function does nothing:
+/// its contract is the law.
 ///
 /// - `network`, `few`: it keeps the premises of `agreement`; one of four is faulty.
 /// - `divided`: no proposal has enough votes for a notarization, whatever the faulty member signs.
@@ -24,9 +25,9 @@ pub fn conflicts_are_left()
     ensures continues { ContinuesToFinalize nat_eq in_turn 1 divided united after_conflict }
 {}
 
-/// A network of four in terms of one view, where view 3 is built on view 1. One member can't verify that yet, since it lacks the
-/// nullification of view 2, and another one since it lacks the notarization of view 1. They receive these from the third one, and
-/// all finalize view 3. The function does nothing: its contract is the law.
+/// A network of four in terms of one view, where view 3 is built on view 1. One member can't verify that yet, since it
+/// lacks the nullification of view 2, and another one since it lacks the notarization of view 1. They receive these
+/// from the third one, and all finalize view 3. The function does nothing: its contract is the law.
 ///
 /// - `network`, `few`: it keeps the premises of `agreement`; one of four is faulty.
 /// - `lacks`: the certificates that the two members have not accepted.
@@ -39,9 +40,9 @@ pub fn gaps_are_closed()
     ensures continues { ContinuesToFinalize nat_eq in_turn 1 missing_certificates supplied over_two }
 {}
 
-/// A network of four in terms of two views. The leader of the second term takes it over early: it builds view 3 on view 2 and
-/// votes for that, before view 2 is certified; and then view 2 is nullified. The members abandon the rest of the term and
-/// finalize view 5, which is built on view 1. The function does nothing: its contract is the law.
+/// A network of four in terms of two views. The leader of the second term takes it over early: it builds view 3 on view
+/// 2 and votes for that, before view 2 is certified; and then view 2 is nullified. The members abandon the rest of the
+/// term and finalize view 5, which is built on view 1. The function does nothing: its contract is the law.
 ///
 /// - `network`, `few`: it keeps the premises of `agreement`; one of four is faulty.
 /// - `voted`: the leader has cast its vote to notarize in view 3.

@@ -14,9 +14,9 @@ ghost use Rattle.laws_safety.specs.ScenarioSteps.{round, proposal, one, two, in_
 ghost use Rattle.laws_safety.specs.Traces.{Accepts, Signs};
 ghost use Rattle.laws_safety.specs.Executions.{trace_of, IsExecution};
 
-/// A network of four in terms of five views, with a faulty leader. One member votes to nullify view 1. Two others finalize it,
-/// one of which then restarts, and the first finalizes view 2 once it accepted the finalization of view 1. The function does
-/// nothing: its contract is the law.
+/// A network of four in terms of five views, with a faulty leader. One member votes to nullify view 1. Two others
+/// finalize it, one of which then restarts, and the first finalizes view 2 once it accepted the finalization of view 1.
+/// The function does nothing: its contract is the law.
 ///
 /// - `network`, `few`: it keeps the premises of `agreement`; one of four is faulty.
 /// - `covered`: a nullification of view 1 covers view 2, so the first member may not finalize it at once.
@@ -32,8 +32,8 @@ pub fn terms_are_agreed_on()
     ensures finalizes { Backed four (Finalize one) × Backed four (Finalize two) }
 {}
 
-/// A member that restarts three times: with the last entry dropped, with the record pruned, and at a finalized floor. Its votes
-/// stay: it votes for no view twice. The function does nothing: its contract is the law.
+/// A member that restarts three times: with the last entry dropped, with the record pruned, and at a finalized floor.
+/// Its votes stay: it votes for no view twice. The function does nothing: its contract is the law.
 ///
 /// - `ran`: it is what member 1 of a network does.
 /// - `does`: what it accepts and signs; the notarization that was dropped is accepted again.
@@ -45,8 +45,8 @@ pub fn restarts_are_runs()
         ∷ Signs 1 (Nullify (round 5)) ∷ [] }
 {}
 
-/// A network of five in terms of one view, of which two are faulty: more than f, but fewer than n - 2f. View 2 is nullified, and
-/// view 3, which is built on view 1, is finalized. The function does nothing: its contract is the law.
+/// A network of five in terms of one view, of which two are faulty: more than f, but fewer than n - 2f. View 2 is
+/// nullified, and view 3, which is built on view 1, is finalized. The function does nothing: its contract is the law.
 ///
 /// - `network`, `few`: it keeps the premises of `agreement`; two of five are faulty.
 /// - `does`: what each honest member accepts and signs.
@@ -63,16 +63,18 @@ pub fn skipped_views_are_agreed_on()
         × Backed five (Finalize (proposal 3 1)) }
 {}
 
-/// A network of four in terms of five views, of which two are faulty: as many as two quorums share, so that certificates may
-/// contradict. View 1 is nullified, and view 2, which this covers, is finalized. The function does nothing: its contract is the
-/// law.
+/// A network of four in terms of five views, of which two are faulty: as many as two quorums share, so that
+/// certificates may contradict. View 1 is nullified, and view 2, which this covers, is finalized. The function does
+/// nothing: its contract is the law.
 ///
-/// - `network`, `many`: the other two do what they do in `terms_are_agreed_on`, and accept what is backed; two are faulty.
+/// - `network`, `many`: the other two do what they do in `terms_are_agreed_on`, and accept what is backed; two are
+///   faulty.
 /// - `contradict`: both certificates are backed, and contradict at distance 1.
-/// - `misled`: the first member signed both votes and kept the rules. It had accepted the finalization of view 1 between them,
-///   which contradicts the nullification at distance 0.
+/// - `misled`: the first member signed both votes and kept the rules. It had accepted the finalization of view 1
+///   between them, which contradicts the nullification at distance 0.
 /// - `evidence`: at that distance the two votes are evidence.
-/// - `known`: what is known of the four, with the trace of one of the faulty members, meets the premises of `accountability`.
+/// - `known`: what is known of the four, with the trace of one of the faulty members, meets the premises of
+///   `accountability`.
 /// - `suspects`, `guilty`: at the nearer pair two are suspects, of which the known one is guilty.
 pub fn contradictions_are_answered_for()
     ensures network { IsBackedNetwork nat_eq leader 5 overrun }
@@ -93,12 +95,13 @@ pub fn contradictions_are_answered_for()
     ensures guilty { IsGuilty 5 (Nullify (round 1)) (Finalize one) 2 (Some (two_faced 2)) }
 {}
 
-/// A member that refuses much. It refuses certificates that name views that are too large, that come too late or are of another
-/// epoch; and a restart that would retain more views of its pruned record, which changes nothing. It refuses a restart at a floor
-/// of another epoch, after which it refuses all until it restarts. The function does nothing: its contract is the law.
+/// A member that refuses much. It refuses certificates that name views that are too large, that come too late or are of
+/// another epoch; and a restart that would retain more views of its pruned record, which changes nothing. It refuses a
+/// restart at a floor of another epoch, after which it refuses all until it restarts. The function does nothing: its
+/// contract is the law.
 ///
-/// - `ran`, `network`: it is what member 1 of a network does, and with two more and a faulty leader it keeps the premises of
-///   `agreement`.
+/// - `ran`, `network`: it is what member 1 of a network does, and with two more and a faulty leader it keeps the
+///   premises of `agreement`.
 /// - `does`: what it refuses is no event of its trace: it accepts neither these certificates nor these floors.
 pub fn refusals_accept_nothing()
     ensures ran { IsExecution nat_eq leader 5 1 refusing }
@@ -108,13 +111,13 @@ pub fn refusals_accept_nothing()
         ∷ Accepts (Notarize two) ∷ Signs 1 (Finalize two) ∷ [] }
 {}
 
-/// A member whose lifetimes differ. The first one has no key: it certifies view 1, and no vote is signed. The second one has a
-/// key, other times, views ahead and a stall timeout, and starts at a finalized floor; there view 2 is certified false, timed out
-/// and nullified. Then a restart without a key is refused, since the record has a vote, and one as at first, with the key,
-/// succeeds. The function does nothing: its contract is the law.
+/// A member whose lifetimes differ. The first one has no key: it certifies view 1, and no vote is signed. The second
+/// one has a key, other times, views ahead and a stall timeout, and starts at a finalized floor; there view 2 is
+/// certified false, timed out and nullified. Then a restart without a key is refused, since the record has a vote, and
+/// one as at first, with the key, succeeds. The function does nothing: its contract is the law.
 ///
-/// - `ran`, `network`: it is what member 1 of a network does, and with two more and a faulty leader it keeps the premises of
-///   `agreement`.
+/// - `ran`, `network`: it is what member 1 of a network does, and with two more and a faulty leader it keeps the
+///   premises of `agreement`.
 /// - `does`: what it accepts and signs.
 pub fn lifetimes_may_differ()
     ensures ran { IsExecution nat_eq leader 5 1 changing }
@@ -124,9 +127,9 @@ pub fn lifetimes_may_differ()
         ∷ Accepts (Nullify (round 2)) ∷ Signs 1 (Nullify (round 6)) ∷ [] }
 {}
 
-/// A network of four in terms of two views, of which one is voted for ahead, with a faulty leader. Two members vote for views 1
-/// and 2 before either has a certificate, and the leader of view 3 builds on view 2 before that is certified. A third member
-/// starts at the finalization of view 2. The function does nothing: its contract is the law.
+/// A network of four in terms of two views, of which one is voted for ahead, with a faulty leader. Two members vote for
+/// views 1 and 2 before either has a certificate, and the leader of view 3 builds on view 2 before that is certified. A
+/// third member starts at the finalization of view 2. The function does nothing: its contract is the law.
 ///
 /// - `network`, `few`: it keeps the premises of `agreement`; one of four is faulty.
 /// - `does`: what the next leader accepts and signs, and what the late joiner does.

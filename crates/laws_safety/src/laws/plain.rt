@@ -13,10 +13,11 @@ ghost use Rattle.laws_safety.specs.Executions.{trace_of};
 use simplex_types::types::Elector;
 use simplex_types::types::plain::{PlainDigest as Payload, PlainElector as InTurn, PlainScheme};
 
-/// A network of four members of plain parts, the digest, the keys and the elector that the program runs, of which one is faulty.
-/// The first view is finalized. The function does nothing: its contract is the law.
+/// A network of four members of plain parts, the digest, the keys and the elector that the program runs, of which one
+/// is faulty. The first view is finalized. The function does nothing: its contract is the law.
 ///
-/// - `network`: with an elector of four members it keeps the premises of `agreement`, and the finalization has enough votes.
+/// - `network`: with an elector of four members it keeps the premises of `agreement`, and the finalization has enough
+///   votes.
 /// - `leads`, `follows`: what each honest member accepts and signs, whatever the payload.
 pub fn plain_members_agree()
     ensures network { (elector : PlainElector) × (payload : PlainDigest) × (members_of elector ≡ 4)

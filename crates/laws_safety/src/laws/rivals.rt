@@ -12,13 +12,14 @@ ghost use Rattle.laws_safety.specs.Scripts.{leader};
 ghost use Rattle.laws_safety.specs.Executions.{trace_of};
 ghost use Rattle.laws_safety.specs.ScenarioSteps.{round, one, two};
 
-/// A network of four in terms of five views, of which two are faulty, with two proposals of view 1. Each of the other two votes
-/// for the one that it receives, and both are notarized. The function does nothing: its contract is the law.
+/// A network of four in terms of five views, of which two are faulty, with two proposals of view 1. Each of the other
+/// two votes for the one that it receives, and both are notarized. The function does nothing: its contract is the law.
 ///
 /// - `network`, `many`: both accept what is backed; two are faulty.
 /// - `contradict`: both notarizations are backed, and contradict at distance 0.
 /// - `evidence`: so two votes for both are evidence.
-/// - `known`: what is known of the four, with the trace of one of the faulty members, meets the premises of `accountability`.
+/// - `known`: what is known of the four, with the trace of one of the faulty members, meets the premises of
+///   `accountability`.
 /// - `suspects`, `guilty`: two are suspects, of which the known one is guilty.
 pub fn rivals_have_faulty_members()
     ensures network { IsBackedNetwork nat_eq leader 5 two_proposals }
@@ -35,15 +36,16 @@ pub fn rivals_have_faulty_members()
     ensures guilty { IsGuilty 5 (Notarize one) (Notarize rival) 2 (Some (double 2)) }
 {}
 
-/// A network of four in terms of one view, of which two are faulty. View 2 is finalized, and view 3 is notarized on view 1, below
-/// it. The function does nothing: its contract is the law.
+/// A network of four in terms of one view, of which two are faulty. View 2 is finalized, and view 3 is notarized on
+/// view 1, below it. The function does nothing: its contract is the law.
 ///
 /// - `network`, `many`: the other two accept what is backed; two are faulty.
 /// - `contradict`: both certificates are backed, and contradict at distance 3.
-/// - `misled`: the first member signed both votes and kept the rules. It had accepted the nullification of view 2 between them,
-///   which contradicts the finalization at distance 0.
+/// - `misled`: the first member signed both votes and kept the rules. It had accepted the nullification of view 2
+///   between them, which contradicts the finalization at distance 0.
 /// - `evidence`: at that distance the two votes are evidence.
-/// - `known`: what is known of the four, with the trace of one of the faulty members, meets the premises of `accountability`.
+/// - `known`: what is known of the four, with the trace of one of the faulty members, meets the premises of
+///   `accountability`.
 /// - `suspects`, `guilty`: at the nearer pair two are suspects, of which the known one is guilty.
 pub fn skipped_finalizations_have_faulty_members()
     ensures network { IsBackedNetwork nat_eq leader 1 skipped_over }

@@ -88,7 +88,8 @@ impl<S: Assembly<D>, L: Elector<S>, D: Digest> Engine<S, L, D> {
     ghost use Rattle.simplex_engine.specs.FetchHeights.{FetchesTheReported};
     ghost use Rattle.simplex_engine.specs.ApplicationWork.{HasReportedAll};
 
-    /// Begins the engine of a member that never voted, at a floor. A member that voted must `resume`, or it could vote twice in a view.
+    /// Begins the engine of a member that never voted, at a floor. A member that voted must `resume`, or it could vote
+    /// twice in a view.
     ///
     /// The elector's members are the scheme's participants.
     ///
@@ -96,17 +97,20 @@ impl<S: Assembly<D>, L: Elector<S>, D: Digest> Engine<S, L, D> {
     /// - `begins`: the member has accepted the floor's finalization, if there is one, and done nothing else.
     /// - `traced`: the empty list of outputs is traced by what the member did before (`IsTraced`).
     /// - `signed`: the stored votes are signed under the member's key, if those of its record are (`IsSignedBy`).
-    /// - `kept`, `whole`, `queued`, `told`, `bounded`, `due_work`: no output was returned. Only the whole record is queued, in place of all
-    ///   that is stored. Nothing is to be reported as final, and the member waits for nothing.
-    /// - `begun`: no vote is stored; certificates are made by the number of the scheme's participants. The resolver has received the
-    ///   record, and its outstanding fetches are due at once, from all participants but this member. No input was ignored.
-    /// - `nothing`: no work is queued or planned, no early proposal is stored, and each fetch is one that the resolver wants.
+    /// - `kept`, `whole`, `queued`, `told`, `bounded`, `due_work`: no output was returned. Only the whole record is
+    ///   queued, in place of all that is stored. Nothing is to be reported as final, and the member waits for nothing.
+    /// - `begun`: no vote is stored; certificates are made by the number of the scheme's participants. The resolver has
+    ///   received the record, and its outstanding fetches are due at once, from all participants but this member. No
+    ///   input was ignored.
+    /// - `nothing`: no work is queued or planned, no early proposal is stored, and each fetch is one that the resolver
+    ///   wants.
     /// - `fetch_heights`: no fetch is of a view above both the next term's first view and the views of all entries.
     /// - `no_retry`, `refused`: `RetryZero` exactly if `timeout_retry` is 0; the other errors as below.
     ///
     /// # Errors
     ///
-    /// - `RetryZero`: `start.settings.timeout_retry` is 0. A vote to nullify would be repeated at once, and `poll` would not return.
+    /// - `RetryZero`: `start.settings.timeout_retry` is 0. A vote to nullify would be repeated at once, and `poll`
+    ///   would not return.
     /// - `OutOfMemory`, and those of `LawfulMember::start` and, on the record, of `LawfulResolver::start`.
     pub fn start(
         alloc: Global,
@@ -156,10 +160,10 @@ impl<S: Assembly<D>, L: Elector<S>, D: Digest> Engine<S, L, D> {
     /// The elector's members are the scheme's participants.
     ///
     /// - `resumed`, `votes`: its member is the one that `LawfulMember::resume` makes, with the votes of the entries.
-    /// - `continues`: with terms of the same length, and with the key of the same member or none, the member has done what it had done
-    ///   before, and has accepted the floor's finalization.
-    /// - `kept`, `traced`, `signed`, `whole`, `queued`, `told`, `bounded`, `due_work`, `begun`, `nothing`, `fetch_heights`, `no_retry`, `refused`:
-    ///   as of `start`.
+    /// - `continues`: with terms of the same length, and with the key of the same member or none, the member has done
+    ///   what it had done before, and has accepted the floor's finalization.
+    /// - `kept`, `traced`, `signed`, `whole`, `queued`, `told`, `bounded`, `due_work`, `begun`, `nothing`,
+    ///   `fetch_heights`, `no_retry`, `refused`: as of `start`.
     ///
     /// # Errors
     ///
@@ -213,7 +217,8 @@ impl<S: Assembly<D>, L: Elector<S>, D: Digest> Engine<S, L, D> {
     }
 }
 
-/// Returns whether a vote to nullify would be repeated after no time: `poll` would then ask the member for it without end.
+/// Returns whether a vote to nullify would be repeated after no time: `poll` would then ask the member for it without
+/// end.
 fn has_no_retry<S: Scheme<D>, L: Elector<S>, D: Digest>(start: &Start<S, L, D>) -> bool
     ensures { result ≡ (start.entry.now.settings.timeout_retry == 0) }
 {
@@ -240,7 +245,8 @@ fn company_of<S: Assembly<D>, L: Elector<S>, D: Digest>(
     })
 }
 
-/// Makes an engine around a member that has begun. Its resolver receives the record, and the resolver's fetches are due at once.
+/// Makes an engine around a member that has begun. Its resolver receives the record, and the resolver's fetches are due
+/// at once.
 fn begin<S: Assembly<D>, L: Elector<S>, D: Digest>(
     alloc: Global,
     member: LawfulMember<S, L, D>,

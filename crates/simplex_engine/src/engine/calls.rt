@@ -31,9 +31,9 @@ impl<S: Assembly<D>, L: Elector<S>, D: Digest> Engine<S, L, D> {
     ghost use Rattle.engine_planner.specs.PlannedWork.{AreAmong, KeepsPlanned, KeepsPlannedThen, PlansAnswerThen};
     ghost use Rattle.simplex_engine.specs.MemberViews.{TracksViews};
 
-    /// Asks the member for work for the application, then to drop the views below those that it retains, and then for its next timeout: a
-    /// proposal that turns out to be invalid times its view out at once. Returns whether there is no work and the timeout lies after the
-    /// moment.
+    /// Asks the member for work for the application, then to drop the views below those that it retains, and then for
+    /// its next timeout: a proposal that turns out to be invalid times its view out at once. Returns whether there is
+    /// no work and the timeout lies after the moment.
     pub(super) fn ask_for_work(&mut self, now: u64) -> Result<bool, Fault>
         ensures alone { ContinuesWithoutInput D.eq L.elect S.certificate_bytes S.IsSignature self.old self.new }
         ensures quiet { IfOk result (λ quiet. IsTrue quiet
@@ -65,7 +65,8 @@ impl<S: Assembly<D>, L: Elector<S>, D: Digest> Engine<S, L, D> {
         Ok(is_later)
     }
 
-    /// Plans to ask for the votes and the certificates of the lowest view where one is due. Returns whether none is due.
+    /// Plans to ask for the votes and the certificates of the lowest view where one is due. Returns whether none is
+    /// due.
     ///
     /// It scans the views from the last finalized one on, so it runs last, once all else is done.
     pub(super) fn plan_due_votes(&mut self) -> Result<bool, Fault>
@@ -86,8 +87,8 @@ impl<S: Assembly<D>, L: Elector<S>, D: Digest> Engine<S, L, D> {
         }
     }
 
-    /// Returns the lowest view, from the last finalized one on, where a vote is allowed or a certificate was not returned. Returns
-    /// `OutOfMemory` if the member has failed.
+    /// Returns the lowest view, from the last finalized one on, where a vote is allowed or a certificate was not
+    /// returned. Returns `OutOfMemory` if the member has failed.
     fn first_due(&self) -> Result<Option<View>, Fault>
         ensures { IfOk result (λ view. IsNone view → HasNothingDue D.eq L.elect self.now.core.member.facts) }
     {
@@ -205,8 +206,8 @@ impl<S: Assembly<D>, L: Elector<S>, D: Digest> Engine<S, L, D> {
     }
 }
 
-/// Returns whether a reply has no work. One that names a missing certificate has some, even if that is fetched already: the member names it
-/// once, and then continues with the next view.
+/// Returns whether a reply has no work. One that names a missing certificate has some, even if that is fetched already:
+/// the member names it once, and then continues with the next view.
 fn is_nothing<S: CertificateScheme, D: Digest>(reply: &Reply<S, D>) -> bool
     ensures { result ≡ is_nothing (told S.certificate_bytes reply.now) }
 {

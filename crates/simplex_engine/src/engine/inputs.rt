@@ -61,8 +61,8 @@ impl<S: Assembly<D>, L: Elector<S>, D: Digest> Engine<S, L, D> {
         }
     }
 
-    /// Passes another member's proposal on if that member leads its view and the view takes votes. Otherwise stores it if its view comes
-    /// soon. A proposal of another epoch is not stored.
+    /// Passes another member's proposal on if that member leads its view and the view takes votes. Otherwise stores it
+    /// if its view comes soon. A proposal of another epoch is not stored.
     pub(super) fn offer(
         &mut self,
         from: Participant,
@@ -104,8 +104,8 @@ impl<S: Assembly<D>, L: Elector<S>, D: Digest> Engine<S, L, D> {
         Ok(())
     }
 
-    /// Returns whether a proposal may be passed to the member. A proposal of this member itself never may: its key would have been used
-    /// elsewhere.
+    /// Returns whether a proposal may be passed to the member. A proposal of this member itself never may: its key
+    /// would have been used elsewhere.
     fn admits_proposal(&self, from: Participant, round: Round) -> bool
         ensures { result ≡ is_so (λ x. admits_proposal x from round) self.now.core.member.facts }
     {
@@ -149,8 +149,9 @@ impl<S: Assembly<D>, L: Elector<S>, D: Digest> Engine<S, L, D> {
         self.ask(Task::Proposed(context.round.view, payload), now)
     }
 
-    /// Takes the application's verdict on a proposal that the member offered and that has no verdict yet. Any other verdict is ignored: the
-    /// member would apply it to whatever proposal of the view is notarized, even one on a parent that is not certified.
+    /// Takes the application's verdict on a proposal that the member offered and that has no verdict yet. Any other
+    /// verdict is ignored: the member would apply it to whatever proposal of the view is notarized, even one on a
+    /// parent that is not certified.
     fn judge(&mut self, view: View, is_success: bool, now: u64) -> Result<bool, Fault>
         ensures continues { Continues D.eq L.elect S.certificate_bytes S.IsSignature None self.old.core self.new.core }
         ensures batcher { self.new.batcher ≡ self.old.batcher }

@@ -35,8 +35,8 @@ impl<S: Assembly<D>, L: Elector<S>, D: Digest> Engine<S, L, D> {
     ///
     /// - `settled`: all that was due at the moment is done (`IsSettled`).
     /// - `short`: a pruning would drop no more views of the record than it retains, or the record has few entries.
-    /// - `provenance`: everything is caused by what was there before and by the member's replies, except that views may be forgotten below
-    ///   the lowest one that the member retains then. Missing certificates are still asked for.
+    /// - `provenance`: everything is caused by what was there before and by the member's replies, except that views may
+    ///   be forgotten below the lowest one that the member retains then. Missing certificates are still asked for.
     pub(super) fn work(&mut self, now: u64) -> Result<(), Fault>
         ensures alone { ContinuesWithPruning D.eq L.elect S.certificate_bytes S.IsSignature self.old self.new }
         ensures settled { OnOk result (IsSettled D.eq L.elect S.certificate_bytes now self.new) }
@@ -65,7 +65,8 @@ impl<S: Assembly<D>, L: Elector<S>, D: Digest> Engine<S, L, D> {
         Ok(())
     }
 
-    /// Takes all steps, and prunes the record if that drops more of its views than it retains, until neither is left to do.
+    /// Takes all steps, and prunes the record if that drops more of its views than it retains, until neither is left to
+    /// do.
     fn run_to_short(&mut self, now: u64) -> Result<(), Fault>
         ensures alone { ContinuesWithoutInput D.eq L.elect S.certificate_bytes S.IsSignature self.old self.new }
         ensures quiet { OnOk result (HasNothingNew D.eq L.elect now self.new.plan.timeout self.new.core.member.facts) }
@@ -140,7 +141,8 @@ impl<S: Assembly<D>, L: Elector<S>, D: Digest> Engine<S, L, D> {
         Err(Fault::Failed)
     }
 
-    /// Takes steps until none is due, then asks once for work, blocks, the timeout and votes. Returns whether that brought nothing new.
+    /// Takes steps until none is due, then asks once for work, blocks, the timeout and votes. Returns whether that
+    /// brought nothing new.
     fn run_and_ask(&mut self, now: u64) -> Result<bool, Fault>
         ensures alone { ContinuesWithoutInput D.eq L.elect S.certificate_bytes S.IsSignature self.old self.new }
         ensures quiet { IfOk result
@@ -225,7 +227,8 @@ impl<S: Assembly<D>, L: Elector<S>, D: Digest> Engine<S, L, D> {
         }
     }
 
-    /// Makes a planned call of the member. No verdict is planned; one would be ignored, since its offer may be closed by now.
+    /// Makes a planned call of the member. No verdict is planned; one would be ignored, since its offer may be closed
+    /// by now.
     fn ask_planned(&mut self, task: Task<D>, now: u64) -> Result<bool, Fault>
         ensures done { OnOk result
             (IsTaskTaken D.eq L.elect D.bytes S.certificate_bytes now (is_verdict task) task self.old self.new) }
@@ -267,7 +270,8 @@ impl<S: Assembly<D>, L: Elector<S>, D: Digest> Engine<S, L, D> {
         Ok(true)
     }
 
-    /// Drops what is stored of views that are not retained: votes here and elsewhere, and fetches of certificates that are not missing.
+    /// Drops what is stored of views that are not retained: votes here and elsewhere, and fetches of certificates that
+    /// are not missing.
     fn drop_unretained(&mut self) -> Result<(), Fault>
         ensures alone { ContinuesWithPruning D.eq L.elect S.certificate_bytes S.IsSignature self.old self.new }
         ensures member { self.new.core.member ≡ self.old.core.member }
@@ -335,8 +339,8 @@ impl<S: Assembly<D>, L: Elector<S>, D: Digest> Engine<S, L, D> {
         Ok(())
     }
 
-    /// Prunes the record. The member drops the past views first: the entries of a view stay as long as it is tracked, and at the start of a
-    /// lifetime all views of the record are.
+    /// Prunes the record. The member drops the past views first: the entries of a view stay as long as it is tracked,
+    /// and at the start of a lifetime all views of the record are.
     fn prune_record(&mut self, now: u64) -> Result<(), Fault>
         ensures alone { ContinuesWithoutInput D.eq L.elect S.certificate_bytes S.IsSignature self.old self.new }
         ensures due_work { OnOk result (KeepsApplicationWork self.old self.new) }

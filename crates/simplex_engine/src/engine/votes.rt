@@ -35,8 +35,8 @@ impl<S: Assembly<D>, L: Elector<S>, D: Digest> Engine<S, L, D> {
     ghost use Rattle.simplex_engine.specs.declared.input.Input.TheVariants as input;
     ghost use Rattle.simplex_engine.specs.Admission.{is_so};
 
-    /// Returns whether votes of the round are taken. A vote of another epoch is not: an old vote, sent again, would take the place of this
-    /// epoch's, and show a contradiction that its signer never signed.
+    /// Returns whether votes of the round are taken. A vote of another epoch is not: an old vote, sent again, would
+    /// take the place of this epoch's, and show a contradiction that its signer never signed.
     fn admits_votes(&self, round: Round) -> bool
         ensures { result ≡ is_so (λ x. admits_votes x round) self.now.core.member.facts }
     {
@@ -131,7 +131,8 @@ impl<S: Assembly<D>, L: Elector<S>, D: Digest> Engine<S, L, D> {
         self.follow_certificate(certificate, &reply, now)
     }
 
-    /// Returns whether the certificate is admitted. A second certificate of a kind and view is not: it would change nothing.
+    /// Returns whether the certificate is admitted. A second certificate of a kind and view is not: it would change
+    /// nothing.
     fn admits(&self, certificate: &Certificate<S, D>) -> bool
         ensures { result ≡ is_so (λ x. admits x (certificate_facts S.certificate_bytes certificate.now))
             self.now.core.member.facts }

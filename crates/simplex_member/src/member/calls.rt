@@ -22,8 +22,8 @@ use simplex_voter::voter::{CertificateFetch, ProposalRequest, Verify};
 
 /// A call of the voter's state, with its arguments. Moments are in milliseconds.
 ///
-/// A method of the state may take a context; its call names the view instead: the open context there is that of the last
-/// request to build in that view.
+/// A method of the state may take a context; its call names the view instead: the open context there is that of the
+/// last request to build in that view.
 #[derive(Drop)]
 pub enum Call<S: CertificateScheme, D> {
     AddNotarization(Notarization<S, D>),

@@ -5,7 +5,8 @@ ghost use Rattle.std.specs.Prelude.{◌≡◌, drop};
 use super::life::Member;
 use simplex_types::types::{Artifact, CertificateScheme, Digest, Elector, ViewDelta};
 
-/// The values that a journal stores beside a member's entries, so that the member can resume after its process has ended.
+/// The values that a journal stores beside a member's entries, so that the member can resume after its process has
+/// ended.
 #[derive(Clone, Copy, PartialEq, Eq, Debug)]
 pub struct Stored {
     /// A drop never removes one of the first `closed` entries.

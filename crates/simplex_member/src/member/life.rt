@@ -22,11 +22,11 @@ macro_rules! told {
     };
 }
 
-/// A voter's state with its record, which holds each vote before it is returned. A lifetime of a member lasts from its start, a
-/// restart or a resume to the next one.
+/// A voter's state with its record, which holds each vote before it is returned. A lifetime of a member lasts from its
+/// start, a restart or a resume to the next one.
 ///
-/// A member tests what a call requires of the host, and returns `NotAllowed` if that does not hold. It fails if a call left
-/// its state without memory, or if a vote that was cast could not be recorded; then only its record remains.
+/// A member tests what a call requires of the host, and returns `NotAllowed` if that does not hold. It fails if a call
+/// left its state without memory, or if a vote that was cast could not be recorded; then only its record remains.
 #[derive(Drop)]
 pub struct Member<S: CertificateScheme, L: Elector<S>, D> {
     pub(super) alloc: Global,
@@ -84,12 +84,13 @@ impl<S: CertificateScheme, L: Elector<S>, D: Digest> Member<S, L, D> {
     ghost use Rattle.simplex_member.specs.Start.{started_member};
     ghost use Rattle.simplex_types.specs.Config.{floor_facts};
 
-    /// Starts a member that never voted: its state starts at a floor, and its record holds only the floor's finalization. A
-    /// member that did vote must continue from its journal by `Member::resume`, or it could vote twice in a view.
+    /// Starts a member that never voted: its state starts at a floor, and its record holds only the floor's
+    /// finalization. A member that did vote must continue from its journal by `Member::resume`, or it could vote twice
+    /// in a view.
     ///
-    /// The elector's members must be the scheme's participants. Returns `OtherEpoch`, `ZeroView` or `ViewTooLarge` if the
-    /// floor's finalization is of another epoch or of view 0, or names a view above 2^63 - 1; `TimeOverflow` if a deadline
-    /// passes 2^64 - 1 milliseconds.
+    /// The elector's members must be the scheme's participants. Returns `OtherEpoch`, `ZeroView` or `ViewTooLarge` if
+    /// the floor's finalization is of another epoch or of view 0, or names a view above 2^63 - 1; `TimeOverflow` if a
+    /// deadline passes 2^64 - 1 milliseconds.
     pub fn start(alloc: Global, start: Start<S, L, D>) -> Result<Member<S, L, D>, RecoverError>
         requires { L.members start.settings.elector ≡ length (S.participants start.settings.scheme) }
         ensures started { IfOk result (λ member. member.facts ≡ started_member D.eq L.elect
@@ -131,8 +132,8 @@ impl<S: CertificateScheme, L: Elector<S>, D: Digest> Member<S, L, D> {
         Some(&self.state)
     }
 
-    /// Returns whether the member offered the view's proposal for certification and has received no verdict on it; false once it has
-    /// failed.
+    /// Returns whether the member offered the view's proposal for certification and has received no verdict on it;
+    /// false once it has failed.
     pub fn awaits_verdict(&self, view: View) -> bool
         ensures { result ≡ is_offered self.now.facts.outstanding_work view }
     {
@@ -147,9 +148,9 @@ impl<S: CertificateScheme, L: Elector<S>, D: Digest> Member<S, L, D> {
         &self.artifacts
     }
 
-    /// Makes a call of the state and records its effect: a certificate that was newly added, a view's first verdict, and a
-    /// vote with its signature, unless it is a repeat, before it is returned. Each call is also a method, with a result of
-    /// its own type.
+    /// Makes a call of the state and records its effect: a certificate that was newly added, a view's first verdict,
+    /// and a vote with its signature, unless it is a repeat, before it is returned. Each call is also a method, with a
+    /// result of its own type.
     ///
     /// Each request of the state to build, verify or certify is open until it is answered:
     /// - a request to build until its payload, a true reply that it must be replaced, or its release,
@@ -163,8 +164,8 @@ impl<S: CertificateScheme, L: Elector<S>, D: Digest> Member<S, L, D> {
     /// - no request, verification or offer is open in the view,
     /// - the current view has no timeout.
     ///
-    /// The faults `ViewTooLarge` and `TimeOverflow` change nothing. After `OutOfMemory` nothing has changed, or the member
-    /// has failed, and returns `Failed` from then on.
+    /// The faults `ViewTooLarge` and `TimeOverflow` change nothing. After `OutOfMemory` nothing has changed, or the
+    /// member has failed, and returns `Failed` from then on.
     pub fn call(&mut self, call: Call<S, D>) -> Reply<S, D>
     where
         S: Scheme<D>,

@@ -16,13 +16,13 @@ impl<S: CertificateScheme, L: Elector<S>, D: Digest> Member<S, L, D> {
     ghost use Rattle.simplex_member.specs.Pruning.{pruned_member, votes_within};
 
     /// Prunes the record within the lifetime: removes each entry that a restart would prune, more than this lifetime's
-    /// retention below the highest finalized view of the record, unless the state still tracks the view of the entry; so
-    /// call `prune` first. The remaining entries are closed to later drops.
+    /// retention below the highest finalized view of the record, unless the state still tracks the view of the entry;
+    /// so call `prune` first. The remaining entries are closed to later drops.
     ///
-    /// It takes no memory. The state and all open requests stay as they are; a member that has failed tracks no view. It
-    /// counts as a pruning: from then on a restart whose settings retain more views than an earlier lifetime is refused
-    /// with `RetentionGrown`. A journal must store the shorter record and what `stored` returns in one step, in place of
-    /// all that it held.
+    /// It takes no memory. The state and all open requests stay as they are; a member that has failed tracks no view.
+    /// It counts as a pruning: from then on a restart whose settings retain more views than an earlier lifetime is
+    /// refused with `RetentionGrown`. A journal must store the shorter record and what `stored` returns in one step, in
+    /// place of all that it held.
     pub fn prune_record(&mut self)
         ensures pruned { self.new.facts ≡ pruned_member self.old.facts }
         ensures votes { self.new.votes ≡ votes_within self.old.facts self.old.votes }
@@ -55,8 +55,8 @@ fn keep_within<S: CertificateScheme, L: Elector<S>, D: Digest>(
     }
 }
 
-/// Drops the entries below a view, except those of views that the state tracks: what it records of such a view depends on
-/// them.
+/// Drops the entries below a view, except those of views that the state tracks: what it records of such a view depends
+/// on them.
 fn keep_tracked<S: CertificateScheme, L: Elector<S>, D: Digest>(
     entries: &mut Vec<Artifact<S, D>>,
     state: &State<S, L, D>,

@@ -51,7 +51,8 @@ pub(super) fn store_new<S: CertificateScheme, D: Digest>(
     }
 }
 
-/// A copy of what is passed in, with room for it in the record. If there is no memory for either, the record is unchanged.
+/// A copy of what is passed in, with room for it in the record. If there is no memory for either, the record is
+/// unchanged.
 pub(super) fn with_room<S: CertificateScheme, D: Digest, C: Drop>(
     artifacts: &mut Vec<Artifact<S, D>>,
     copy: Result<C, Fault>,
@@ -82,8 +83,8 @@ pub(super) fn is_nullification_added(made: &Result<bool, Fault>) -> bool
     matches!(made, Ok(true))
 }
 
-/// Records a verdict, in the record too if it is the first of a tracked view. After `OutOfMemory` the state is lost; any
-/// other fault changes nothing.
+/// Records a verdict, in the record too if it is the first of a tracked view. After `OutOfMemory` the state is lost;
+/// any other fault changes nothing.
 pub(super) fn certified<S: CertificateScheme, L: Elector<S>, D: Digest>(
     state: &mut State<S, L, D>,
     outstanding_work: &mut OutstandingWork<D, S::PublicKey>,

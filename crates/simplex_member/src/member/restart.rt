@@ -40,12 +40,13 @@ impl<S: CertificateScheme, L: Elector<S>, D: Digest> Member<S, L, D> {
     /// Ends the member's lifetime, also if it has failed, and begins another from its record.
     ///
     /// The last entries of the record are dropped and it is pruned, as asked: each entry more than the last lifetime's
-    /// retention below the highest finalized view of the record is removed, and the rest is closed to later drops. A copy,
-    /// sorted by view, makes the new state. The floor's finalization is recorded unless the record has one of its view.
+    /// retention below the highest finalized view of the record is removed, and the rest is closed to later drops. A
+    /// copy, sorted by view, makes the new state. The floor's finalization is recorded unless the record has one of its
+    /// view.
     ///
-    /// Returns `RetentionGrown`, with nothing changed, if the record is or was pruned and the settings retain more views
-    /// than an earlier lifetime. After any other error the record stays cut, and the member has failed until a restart
-    /// succeeds: those of `recover`, and `OutOfMemory`.
+    /// Returns `RetentionGrown`, with nothing changed, if the record is or was pruned and the settings retain more
+    /// views than an earlier lifetime. After any other error the record stays cut, and the member has failed until a
+    /// restart succeeds: those of `recover`, and `OutOfMemory`.
     #[tactic(auto, unfolding(crate::specs::Restarts::IsRestart))]
     pub fn restart(&mut self, restart: Restart<S, L, D>) -> Result<(), RecoverError>
         requires { L.members restart.start.settings.elector ≡ length (S.participants restart.start.settings.scheme) }

@@ -96,12 +96,12 @@ impl<S: CertificateScheme, L: Elector<S>, D: Digest> Member<S, L, D> {
     /// Resumes a member from its journal: `entries` is the record as it was last stored, and `stored` what was stored
     /// beside it. It begins a new lifetime exactly as a `restart` that drops and prunes nothing.
     ///
-    /// The elector's members must be the scheme's participants. The host must ensure that these values were stored last, and
-    /// what `Start` says of later lifetimes.
+    /// The elector's members must be the scheme's participants. The host must ensure that these values were stored
+    /// last, and what `Start` says of later lifetimes.
     ///
-    /// Returns `EntriesLost` if there are fewer entries than `stored.closed`, `RetentionGrown` if the record was pruned and
-    /// the settings retain more views than an earlier lifetime; then the errors of `recover`, and `OutOfMemory`. Each error
-    /// returns the entries as they were passed in.
+    /// Returns `EntriesLost` if there are fewer entries than `stored.closed`, `RetentionGrown` if the record was pruned
+    /// and the settings retain more views than an earlier lifetime; then the errors of `recover`, and `OutOfMemory`.
+    /// Each error returns the entries as they were passed in.
     pub fn resume(
         alloc: Global,
         start: Start<S, L, D>,

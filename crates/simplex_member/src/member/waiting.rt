@@ -11,8 +11,8 @@ use simplex_view_maps::tracked::Tracked;
 use std::alloc::Global;
 use std::marker::Model;
 
-/// Values by view. The newest is stored apart, so that storing it takes no memory; it moves to the others when room is made
-/// for the next.
+/// Values by view. The newest is stored apart, so that storing it takes no memory; it moves to the others when room is
+/// made for the next.
 #[derive(Drop)]
 pub struct Waiting<V> {
     newest: Option<(View, V)>,

@@ -16,12 +16,12 @@ use simplex_types::types::{
     Artifact, CertificateScheme, Digest, Epoch, Participant, Proposal, Round, View, Viewable,
 };
 
-/// Tests whether a state can be made from a floor and a record in an epoch, by the scheme's member. Returns the first rule
-/// that is broken: the floor's finalization comes first, then the record's entries in order, each by the rules of
+/// Tests whether a state can be made from a floor and a record in an epoch, by the scheme's member. Returns the first
+/// rule that is broken: the floor's finalization comes first, then the record's entries in order, each by the rules of
 /// `RecoverError` from `OutOfOrder` to `FinalizeWithoutVerdict` in that order.
 ///
-/// An entry is compared only with those before it; the floor's view plays no part. The test reads the record once and takes
-/// no memory.
+/// An entry is compared only with those before it; the floor's view plays no part. The test reads the record once and
+/// takes no memory.
 #[tactic(auto, unfolding(crate::specs::Check::first_recover_error))]
 pub fn check_record<S: CertificateScheme, D: Digest>(
     scheme: &S,

@@ -200,13 +200,14 @@ pub fn remake<S: CertificateScheme, L: Elector<S>, D: Digest>(
 }
 
 /// Makes a state from a floor and a whole record, oldest entry first: sets the floor, and takes the entries in order. A
-/// certificate is added again, a vote and a verdict are restored, and a verdict has its effects. An entry whose view is no
-/// longer retained when it is reached is skipped. Certificates count as already broadcast as far as the record says so.
+/// certificate is added again, a vote and a verdict are restored, and a verdict has its effects. An entry whose view is
+/// no longer retained when it is reached is skipped. Certificates count as already broadcast as far as the record says
+/// so.
 ///
 /// The elector's members must be the scheme's participants. Returns the first error that applies, in the order of
-/// `RecoverError`: the first rule that the floor breaks, or else the record, as in `check_record`; then `TimeOverflow`, if
-/// a deadline passes 2^64 - 1 milliseconds. Returns `OutOfMemory` only if none of these applies. After an error there is no
-/// state, and the record is unchanged.
+/// `RecoverError`: the first rule that the floor breaks, or else the record, as in `check_record`; then `TimeOverflow`,
+/// if a deadline passes 2^64 - 1 milliseconds. Returns `OutOfMemory` only if none of these applies. After an error
+/// there is no state, and the record is unchanged.
 pub fn recover<S: CertificateScheme, L: Elector<S>, D: Digest>(
     alloc: Global,
     start: Start<S, L, D>,

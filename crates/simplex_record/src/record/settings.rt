@@ -40,9 +40,9 @@ impl<S: Scheme<D>, L: Elector<S>, D: Digest> Start<S, L, D> {
     /// Returns the start of a member from its settings, which are tested, with an elector and at a moment in
     /// milliseconds.
     ///
-    /// If skipping is disabled no latched timeout counts, so a view ends only by its own deadlines. Returns `Config` with
-    /// the first rule that the settings break; `OtherMembers` if the elector's members are not the scheme's participants.
-    /// The returned start meets what `Member::start`, a restart and a resume require of it, `fits`.
+    /// If skipping is disabled no latched timeout counts, so a view ends only by its own deadlines. Returns `Config`
+    /// with the first rule that the settings break; `OtherMembers` if the elector's members are not the scheme's
+    /// participants. The returned start meets what `Member::start`, a restart and a resume require of it, `fits`.
     pub fn of(config: Config<S, D>, elector: L, now: u64) -> Result<Start<S, L, D>, StartError>
         ensures tested { MatchOption
             (start_error (first_broken_rule (length (S.participants config.scheme)) (S.accepts config.scheme) config)

@@ -16,9 +16,9 @@ use std::alloc::Global;
 
 /// The start of a member: its settings, its floor, and the moment, in milliseconds.
 ///
-/// A record doesn't show how long its terms were, nor whose it is before there is a vote in it. So the host must ensure that a
-/// later lifetime, after a restart or a resume, has terms as long as those before it, and the key of the same member or none:
-/// the laws of votes require it.
+/// A record doesn't show how long its terms were, nor whose it is before there is a vote in it. So the host must ensure
+/// that a later lifetime, after a restart or a resume, has terms as long as those before it, and the key of the same
+/// member or none: the laws of votes require it.
 #[derive(Drop)]
 pub struct Start<S: CertificateScheme, L: Elector<S>, D> {
     /// The elector's members are the scheme's participants.

@@ -69,7 +69,8 @@ impl<D: Digest> Subject<D> {
     }
 }
 
-/// Encodings distinguish certificates: equal ones are of one kind, round and proposal, and have the same scheme's bytes.
+/// Encodings distinguish certificates: equal ones are of one kind, round and proposal, and have the same scheme's
+/// bytes.
 ///
 /// The function does nothing: its contract is the law.
 pub fn encoding_tells_apart<D: Digest>()

@@ -98,8 +98,8 @@ pub trait Scheme<D: Digest>: CertificateScheme {
     /// True if a certificate is valid for a subject.
     ghost accepts: { Self → Subject D → Self.Certificate → Bool };
 
-    /// Returns a signature on a subject under the key of this scheme's member; `None` exactly if the scheme signs for no
-    /// one.
+    /// Returns a signature on a subject under the key of this scheme's member; `None` exactly if the scheme signs for
+    /// no one.
     fn sign(
         &self,
         alloc: Global,

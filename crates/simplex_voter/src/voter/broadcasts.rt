@@ -16,12 +16,12 @@ impl<S: CertificateScheme, L: Elector<S>, D: Digest> State<S, L, D> {
     ghost use Rattle.simplex_voter.specs.Refusals.{plain_refusal, is_started, HasFailed};
     ghost use Rattle.simplex_voter.specs.StateAnswers.{best_certificate, entry_certificate, entry_nullification, highest_nullification_in_term, broadcast_notarization_answer, after_broadcast_notarization, broadcast_nullification_answer, after_broadcast_nullification, broadcast_finalization_answer, after_broadcast_finalization};
 
-    /// Returns a copy of the certificate that helps others into the current view. That is the previous view's finalization;
-    /// else, at a term's start, the last term's highest nullification if it is stored there; else the previous view's
-    /// notarization. `None` in view 1.
+    /// Returns a copy of the certificate that helps others into the current view. That is the previous view's
+    /// finalization; else, at a term's start, the last term's highest nullification if it is stored there; else the
+    /// previous view's notarization. `None` in view 1.
     ///
-    /// The state must have a floor. Only the copy takes memory. Nothing changes, so a call that runs out of memory can be
-    /// repeated.
+    /// The state must have a floor. Only the copy takes memory. Nothing changes, so a call that runs out of memory can
+    /// be repeated.
     pub fn get_best_certificate(&self) -> Result<Option<Certificate<S, D>>, Fault>
         requires { (self.now.failed || is_started self.now) ≡ true }
         ensures refused { IfSome (plain_refusal self.now) (λ fault. result ≡ Err fault) }
@@ -51,7 +51,8 @@ impl<S: CertificateScheme, L: Elector<S>, D: Digest> State<S, L, D> {
             let copy = finalization.clone(self.alloc)?;
             return Ok(Some(Certificate::Finalization(copy)));
         }
-        // it proves that the views between were abandoned, which is what peers need to take the same way into the new term
+        // it proves that the views between were abandoned, which is what peers need to take the same way into the new
+        // term
         if let Some(nullification) = self.entry_nullification(view) {
             let copy = nullification.clone(self.alloc)?;
             return Ok(Some(Certificate::Nullification(copy)));
@@ -65,7 +66,8 @@ impl<S: CertificateScheme, L: Elector<S>, D: Digest> State<S, L, D> {
         }
     }
 
-    /// The nullification that covers a view and is stored at the highest nullified view, if the current view starts a term.
+    /// The nullification that covers a view and is stored at the highest nullified view, if the current view starts a
+    /// term.
     fn entry_nullification(&self, view: View) -> Option<&Nullification<S>>
         ensures { option_map (nullification_facts S.certificate_bytes) (option_copied result) ≡
             entry_nullification self.now view }
@@ -86,7 +88,8 @@ impl<S: CertificateScheme, L: Elector<S>, D: Digest> State<S, L, D> {
         }
     }
 
-    /// Returns the notarization of a tracked view for broadcast, unless it is missing or was returned or replayed before.
+    /// Returns the notarization of a tracked view for broadcast, unless it is missing or was returned or replayed
+    /// before.
     ///
     /// The state must have a floor. Only the copy takes memory: a call with nothing to return cannot run out of it.
     pub fn broadcast_notarization(
@@ -115,7 +118,8 @@ impl<S: CertificateScheme, L: Elector<S>, D: Digest> State<S, L, D> {
         }
     }
 
-    /// Returns the nullification of a tracked view for broadcast, unless it is missing or was returned or replayed before.
+    /// Returns the nullification of a tracked view for broadcast, unless it is missing or was returned or replayed
+    /// before.
     ///
     /// The state must have a floor. Only the copy takes memory: a call with nothing to return cannot run out of it.
     pub fn broadcast_nullification(&mut self, view: View) -> Result<Option<Nullification<S>>, Fault>
@@ -142,7 +146,8 @@ impl<S: CertificateScheme, L: Elector<S>, D: Digest> State<S, L, D> {
         }
     }
 
-    /// Returns the finalization of a tracked view for broadcast, unless it is missing or was returned or replayed before.
+    /// Returns the finalization of a tracked view for broadcast, unless it is missing or was returned or replayed
+    /// before.
     ///
     /// The state must have a floor. Only the copy takes memory: a call with nothing to return cannot run out of it.
     pub fn broadcast_finalization(

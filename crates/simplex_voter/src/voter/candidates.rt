@@ -1,5 +1,5 @@
-//! Certification candidates: what each waits for, which are offered, which notarizations they need, and the certifications
-//! under way, each known by the token of its request.
+//! Certification candidates: what each waits for, which are offered, which notarizations they need, and the
+//! certifications under way, each known by the token of its request.
 
 ghost use Rattle.std.specs.Prelude.{◌≡◌, ◌||◌, ◌≤◌, IfErr, OnOk, ◌&&◌, is_none, ◌++◌, [], IfSome, IfOk, Err, None, true, false, not};
 ghost use Rattle.std.specs.FinMap as map;
@@ -152,12 +152,12 @@ impl<S: CertificateScheme, L: Elector<S>, D: Digest> State<S, L, D> {
         self.explicit_ancestry_payload(view).is_none() && self.notarization(view).is_none()
     }
 
-    /// Returns the proposals offered for certification among the waiting views, and the notarizations that these views must
-    /// fetch, each by rising view. No view waits afterwards.
+    /// Returns the proposals offered for certification among the waiting views, and the notarizations that these views
+    /// must fetch, each by rising view. No view waits afterwards.
     ///
     /// A proposal is offered if its view holds it and is notarized, its certification was not requested, answered or
-    /// abandoned, and what it requires is certified. A notarization is fetched if what a held proposal requires is neither
-    /// certified nor notarized, and its parent may still be built on. The state must have a floor.
+    /// abandoned, and what it requires is certified. A notarization is fetched if what a held proposal requires is
+    /// neither certified nor notarized, and its parent may still be built on. The state must have a floor.
     pub fn certify_candidates(&mut self) -> Result<(Vec<Proposal<D>>, Vec<CertificateFetch>), Fault>
         requires { (self.old.failed || is_started self.old) ≡ true }
         ensures refused { IfSome (plain_refusal self.old) (λ fault. (result ≡ Err fault) × (self.new ≡ self.old)) }
@@ -215,8 +215,8 @@ impl<S: CertificateScheme, L: Elector<S>, D: Digest> State<S, L, D> {
         }
     }
 
-    /// Marks the certification of a tracked view as under way under this token, in place of what was known of it. If the
-    /// view isn't tracked, nothing changes.
+    /// Marks the certification of a tracked view as under way under this token, in place of what was known of it. If
+    /// the view isn't tracked, nothing changes.
     ///
     /// The state must have a floor, and the view must have no verdict.
     pub fn set_certify_handle(&mut self, view: View, token: u64) -> Result<(), Fault>

@@ -17,9 +17,9 @@ impl<S: CertificateScheme, L: Elector<S>, D: Digest> State<S, L, D> {
     ghost use Rattle.simplex_voter.specs.ViewEntry.{at_moment};
     ghost use Rattle.simplex_voter.specs.Certification.{waits_for, with_waiting_candidate, takes_verdict, certified_refusal, certified_answer, with_verdict, verdict_taken, after_certified};
 
-    /// Records the verdict of a view's certification. A true verdict enters the next view if that is ahead, and makes the
-    /// view above a candidate again if it waited for this one. A false verdict times the view out. Returns the view's
-    /// notarization; if the view isn't tracked, returns `None` and records only the moment.
+    /// Records the verdict of a view's certification. A true verdict enters the next view if that is ahead, and makes
+    /// the view above a candidate again if it waited for this one. A false verdict times the view out. Returns the
+    /// view's notarization; if the view isn't tracked, returns `None` and records only the moment.
     ///
     /// The state must have a floor, and a tracked view must have its notarization and no other verdict. Returns
     /// `TimeOverflow` if a deadline of the view to be entered passes 2^64 - 1 milliseconds.
@@ -143,8 +143,8 @@ impl<S: CertificateScheme, L: Elector<S>, D: Digest> State<S, L, D> {
         self.rounds.judge(view, success)
     }
 
-    /// Once a view is certified or finalized, makes the view above it a candidate again if that waited for it. Nothing else
-    /// wakes a waiting view: each becomes a candidate once.
+    /// Once a view is certified or finalized, makes the view above it a candidate again if that waited for it. Nothing
+    /// else wakes a waiting view: each becomes a candidate once.
     pub(super) fn wake_certification_child(&mut self, view: View) -> Result<(), Fault>
         requires { view + 1 < 2 ^ 64 }
         ensures woken { OnOk result (self.new ≡ with_waiting_candidate L.elect self.old view) }

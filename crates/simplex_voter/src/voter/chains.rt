@@ -66,9 +66,9 @@ impl<S: CertificateScheme, L: Elector<S>, D: Digest> State<S, L, D> {
     ghost use Rattle.simplex_voter.specs.Rounds.{largest_tracked};
     ghost use Rattle.simplex_voter.specs.Chains.{unrefused_payload, served_proposal, basis_of, basis_at};
 
-    /// The payload that the view offers before it is certified. That is its certificate's payload, unless its term has a
-    /// rejection up to it; else that of a verified proposal that this member voted for, if the parent still offers what the
-    /// vote was bound to.
+    /// The payload that the view offers before it is certified. That is its certificate's payload, unless its term has
+    /// a rejection up to it; else that of a verified proposal that this member voted for, if the parent still offers
+    /// what the vote was bound to.
     ///
     /// So a chain without certificates rests on votes of this member alone, down to a certificate.
     pub(super) fn optimistic_ancestry_payload(&self, view: View) -> Option<D>
@@ -146,8 +146,8 @@ impl<S: CertificateScheme, L: Elector<S>, D: Digest> State<S, L, D> {
         Some(proposal)
     }
 
-    /// Returns whether this member voted for the held proposal, and it may serve before any certificate; `next` is the next
-    /// view.
+    /// Returns whether this member voted for the held proposal, and it may serve before any certificate; `next` is the
+    /// next view.
     #[tactic(auto, unfolding(crate::specs::Payloads::is_voted_ancestor))]
     fn is_voted_ancestor(&self, view: View, next: View, round: &Round<S, D>) -> bool
         requires { next ≡ view + 1 }

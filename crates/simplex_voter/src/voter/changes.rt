@@ -1,5 +1,5 @@
-//! Changes of one view's round: storing certificates and proposals, returning each certificate once, and other marks. Only
-//! what is stored takes memory. If a view isn't tracked, all other changes do nothing.
+//! Changes of one view's round: storing certificates and proposals, returning each certificate once, and other marks.
+//! Only what is stored takes memory. If a view isn't tracked, all other changes do nothing.
 
 ghost use Rattle.std.specs.Prelude.{◌≡◌, ◌≤◌, ◌<◌, ◌^◌, IfOk, IfErr, OnOk, ◌||◌, OnErr, true, is_some, option_map, option_and_then, ◌&&◌, ◌+◌, false, is_err, not};
 ghost use Rattle.simplex_types.specs.Certificates.{notarization_facts, nullification_facts, finalization_facts};

@@ -1,5 +1,5 @@
-//! Tests that a host may make before a call that requires them, and which views a message may name. They change nothing and
-//! take no memory.
+//! Tests that a host may make before a call that requires them, and which views a message may name. They change nothing
+//! and take no memory.
 
 ghost use Rattle.std.specs.Prelude.{◌≡◌, ◌↔◌, IsTrue};
 ghost use Rattle.simplex_voter.specs.Refusals.{names_too_large};
@@ -31,8 +31,8 @@ fn is_judged<S: CertificateScheme, D: Digest>(round: &Round<S, D>, verdict: bool
     }
 }
 
-/// Returns whether a round accepts an entry of the record: a vote is this member's own and doesn't meet its opposite, and
-/// there is no other verdict.
+/// Returns whether a round accepts an entry of the record: a vote is this member's own and doesn't meet its opposite,
+/// and there is no other verdict.
 fn takes_artifact<S: CertificateScheme, D: Digest>(
     round: &Round<S, D>,
     artifact: &Artifact<S, D>,
@@ -81,8 +81,8 @@ impl<S: CertificateScheme, L: Elector<S>, D: Digest> State<S, L, D> {
         self.current > View::zero()
     }
 
-    /// Returns whether a certificate, proposal or artifact of the round is accepted: a floor was set, and the round is of
-    /// this epoch and of a retained view.
+    /// Returns whether a certificate, proposal or artifact of the round is accepted: a floor was set, and the round is
+    /// of this epoch and of a retained view.
     pub fn takes_round(&self, round: &types::Round) -> bool
         ensures { result ≡ takes_round self.now round.now }
     {
@@ -113,8 +113,8 @@ impl<S: CertificateScheme, L: Elector<S>, D: Digest> State<S, L, D> {
         }
     }
 
-    /// Returns whether an entry of the record is accepted: its round is, a vote is this member's own and doesn't meet its
-    /// opposite, and there is no other verdict.
+    /// Returns whether an entry of the record is accepted: its round is, a vote is this member's own and doesn't meet
+    /// its opposite, and there is no other verdict.
     pub fn takes_replay(&self, artifact: &Artifact<S, D>) -> bool
         ensures { IsTrue result ↔ TakesReplay self.now artifact.now }
     {

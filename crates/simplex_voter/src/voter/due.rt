@@ -14,12 +14,12 @@ impl<S: CertificateScheme, L: Elector<S>, D: Digest> State<S, L, D> {
     ghost use Rattle.simplex_voter.specs.Rules.{may_notarize, may_finalize};
     ghost use Rattle.simplex_voter.specs.DueVotes.{is_due, first_due, AreRoundsOf};
 
-    /// Returns the lowest tracked view, from one on, where something is due: a vote of this member that its rule allows, or
-    /// a certificate that was not returned for broadcast.
+    /// Returns the lowest tracked view, from one on, where something is due: a vote of this member that its rule
+    /// allows, or a certificate that was not returned for broadcast.
     ///
-    /// The state must have a floor. Input about one view may allow a vote on another: a finalization ends what a vote to
-    /// nullify forbids in its term, and a verdict allows votes on what was built on it. A host that asks until nothing is
-    /// due loses no vote.
+    /// The state must have a floor. Input about one view may allow a vote on another: a finalization ends what a vote
+    /// to nullify forbids in its term, and a verdict allows votes on what was built on it. A host that asks until
+    /// nothing is due loses no vote.
     pub fn first_due(&self, from: View) -> Option<View>
         requires { is_started self.now ≡ true }
         ensures first { result ≡ first_due D.eq L.elect self.now from }
@@ -53,8 +53,8 @@ impl<S: CertificateScheme, L: Elector<S>, D: Digest> State<S, L, D> {
             || round.has_unsent_certificate()
     }
 
-    /// Returns whether this member may vote to notarize the view. It tests the round first: the rule looks up other views
-    /// too.
+    /// Returns whether this member may vote to notarize the view. It tests the round first: the rule looks up other
+    /// views too.
     #[tactic(auto, unfolding(crate::specs::Rules::may_notarize))]
     fn is_notarize_due(&self, view: View, round: &Round<S, D>) -> bool
         requires started { is_started self.now ≡ true }

@@ -18,8 +18,8 @@ impl<S: CertificateScheme, L: Elector<S>, D: Digest> State<S, L, D> {
     ghost use Rattle.simplex_voter.specs.Refusals.{HasFailed};
     ghost use Rattle.simplex_voter.specs.Acceptance.{takes_proposal_certificate, finalization_refusal, finalization_added, after_add_finalization, with_finalization_at};
 
-    /// Makes this view the last finalized one if it is above the one before: nothing at or below it waits for certification
-    /// any more, and no certification is under way there.
+    /// Makes this view the last finalized one if it is above the one before: nothing at or below it waits for
+    /// certification any more, and no certification is under way there.
     pub(super) fn raise(&mut self, view: View)
         requires { view < 2 ^ 63 }
         ensures { self.new ≡ with_finalized_view self.old view }
@@ -33,11 +33,11 @@ impl<S: CertificateScheme, L: Elector<S>, D: Digest> State<S, L, D> {
         self.rounds.end_certifications(view);
     }
 
-    /// Accepts a finalization. Its view becomes the last finalized one if it is above the one before; then nothing at or
-    /// below it waits for certification. The next view is entered if it is ahead, led by the elector's choice after this
-    /// certificate. The first finalization of a view is stored, the view that waited for it is a certification candidate
-    /// again, and the views whose window it opens take the leader of the view before them. Returns whether it is the first
-    /// of its view, and the key of a leader found to equivocate.
+    /// Accepts a finalization. Its view becomes the last finalized one if it is above the one before; then nothing at
+    /// or below it waits for certification. The next view is entered if it is ahead, led by the elector's choice after
+    /// this certificate. The first finalization of a view is stored, the view that waited for it is a certification
+    /// candidate again, and the views whose window it opens take the leader of the view before them. Returns whether it
+    /// is the first of its view, and the key of a leader found to equivocate.
     ///
     /// It must be of this epoch and of a retained view. Returns `ViewTooLarge` if its view or its parent's is
     /// above 2^63 - 1, `TimeOverflow` if a deadline of the view to be entered passes 2^64 - 1 milliseconds.

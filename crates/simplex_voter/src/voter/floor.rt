@@ -19,8 +19,8 @@ impl<S: CertificateScheme, L: Elector<S>, D: Digest> State<S, L, D> {
     ghost use Rattle.simplex_types.specs.Config.{Genesis, floor_facts};
     ghost use Rattle.simplex_voter.specs.Acceptance.{takes_floor, floor_refusal, floor_answer, after_set_floor, after_set_genesis, finalization_refusal, after_add_finalization, with_finalization_broadcast};
 
-    /// Starts at genesis: stores its payload, and enters view 1 at the moment `now`, in milliseconds, led by the elector's
-    /// choice.
+    /// Starts at genesis: stores its payload, and enters view 1 at the moment `now`, in milliseconds, led by the
+    /// elector's choice.
     ///
     /// The state must have no floor, or have failed. Returns `TimeOverflow` if a deadline of view 1 passes 2^64 - 1.
     pub fn set_genesis(&mut self, payload: D, now: u64) -> Result<(), Fault>
@@ -60,12 +60,12 @@ impl<S: CertificateScheme, L: Elector<S>, D: Digest> State<S, L, D> {
         self.set_leader(first, leader)
     }
 
-    /// Starts at a floor: at genesis as `set_genesis` does; above a finalization as `add_finalization` accepts it, which
-    /// then counts as already broadcast. Returns that finalization; `None` for genesis.
+    /// Starts at a floor: at genesis as `set_genesis` does; above a finalization as `add_finalization` accepts it,
+    /// which then counts as already broadcast. Returns that finalization; `None` for genesis.
     ///
     /// The state must have no floor, or have failed. A finalization must be of this epoch, and not of view 0. Returns
-    /// `ViewTooLarge` if its view or its parent's is above 2^63 - 1, `TimeOverflow` if a deadline of the view to be entered
-    /// passes 2^64 - 1 milliseconds.
+    /// `ViewTooLarge` if its view or its parent's is above 2^63 - 1, `TimeOverflow` if a deadline of the view to be
+    /// entered passes 2^64 - 1 milliseconds.
     pub fn set_floor(
         &mut self,
         floor: Floor<S, D>,

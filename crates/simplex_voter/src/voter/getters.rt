@@ -58,8 +58,8 @@ impl<S: CertificateScheme, L: Elector<S>, D: Digest> State<S, L, D> {
         self.viewport().admits_certificate(view)
     }
 
-    /// Returns whether a vote of the view is accepted: a floor was set, and the view is retained, is not genesis, and is
-    /// not above the next term's start.
+    /// Returns whether a vote of the view is accepted: a floor was set, and the view is retained, is not genesis, and
+    /// is not above the next term's start.
     pub fn admits_vote(&self, view: View) -> bool
         ensures { IsTrue result ↔ IsTrue (is_started self.now && admits_vote self.now view) }
     {
@@ -129,8 +129,8 @@ impl<S: CertificateScheme, L: Elector<S>, D: Digest> State<S, L, D> {
         self.round_at(view)?.finalization()
     }
 
-    /// The proposal of a tracked view that may be forwarded: the held one, if the view is finalized, or notarized and not
-    /// found bad.
+    /// The proposal of a tracked view that may be forwarded: the held one, if the view is finalized, or notarized and
+    /// not found bad.
     pub fn forwardable_proposal(&self, view: View) -> Option<&Proposal<D>>
         ensures { option_copied result ≡ forwardable_of self.now view }
     {

@@ -53,7 +53,8 @@ impl<S: CertificateScheme, L: Elector<S>, D: Digest> State<S, L, D> {
         self.rounds.inherit_leader(from, to)
     }
 
-    /// Gives each view whose window a certificate of this view opens the leader of the view before it, one after the other.
+    /// Gives each view whose window a certificate of this view opens the leader of the view before it, one after the
+    /// other.
     pub(super) fn slide_optimistic_frontier(&mut self, view: View) -> Result<(), Fault>
         requires { IsVotable view }
         ensures slid { OnOk result (self.new ≡ with_window_leaders self.old view) }
@@ -88,11 +89,11 @@ impl<S: CertificateScheme, L: Elector<S>, D: Digest> State<S, L, D> {
         View::new(near.min(view.term_end(terms.term_length).get()))
     }
 
-    /// Gives the next view the leader of this one in its window; at a term's start, after a vote here, this member leads it
-    /// if it is elected early.
+    /// Gives the next view the leader of this one in its window; at a term's start, after a vote here, this member
+    /// leads it if it is elected early.
     ///
-    /// Before the view is notarized a handoff can rest on this member's own vote alone, so it waits for that. Other members
-    /// learn the next leader from the certificate.
+    /// Before the view is notarized a handoff can rest on this member's own vote alone, so it waits for that. Other
+    /// members learn the next leader from the certificate.
     pub(super) fn prepare_optimistic_successor(&mut self, view: View) -> Result<(), Fault>
         requires { view < largest_tracked }
         ensures prepared { OnOk result (self.new ≡ with_next_view_ready L.elect self.old view) }

@@ -14,9 +14,9 @@ impl<S: CertificateScheme, L: Elector<S>, D: Digest> State<S, L, D> {
     ghost use Rattle.simplex_voter.specs.Refusals.{HasFailed};
     ghost use Rattle.simplex_voter.specs.Acceptance.{takes_proposal_certificate, notarization_refusal, notarization_added, after_add_notarization, with_notarization_at};
 
-    /// Accepts a notarization: the next view is led by the elector's choice after this certificate. The first of its view
-    /// is stored, its view waits for certification, and the views whose window it opens take the leader of the view before
-    /// them. Returns whether it is the first of its view, and the key of a leader found to equivocate.
+    /// Accepts a notarization: the next view is led by the elector's choice after this certificate. The first of its
+    /// view is stored, its view waits for certification, and the views whose window it opens take the leader of the
+    /// view before them. Returns whether it is the first of its view, and the key of a leader found to equivocate.
     ///
     /// It must be of this epoch and of a retained view. Returns `ViewTooLarge` if its view or its parent's is
     /// above 2^63 - 1.

@@ -19,9 +19,9 @@ impl<S: CertificateScheme, L: Elector<S>, D: Digest> State<S, L, D> {
     ghost use Rattle.simplex_voter.specs.Rules.{has_ancestry, may_notarize};
     ghost use Rattle.simplex_voter.specs.Votes.{notarize_answer, signed_proposal, notarize_cast, after_construct_notarize, IsSignedNotarize};
 
-    /// Votes to notarize the held proposal of a view if the rule allows it. The vote is decided, also without a key, and
-    /// the next view is prepared as after a proposal. Returns the vote if the scheme has a key. Otherwise nothing changes,
-    /// so the vote is cast once.
+    /// Votes to notarize the held proposal of a view if the rule allows it. The vote is decided, also without a key,
+    /// and the next view is prepared as after a proposal. Returns the vote if the scheme has a key. Otherwise nothing
+    /// changes, so the vote is cast once.
     ///
     /// The state must have a floor.
     pub fn construct_notarize(&mut self, view: View) -> Result<Option<Notarize<S, D>>, Fault>
@@ -79,8 +79,8 @@ impl<S: CertificateScheme, L: Elector<S>, D: Digest> State<S, L, D> {
         }
     }
 
-    /// Returns whether this member may vote to notarize the view: once, so that no other proposal is certified there too,
-    /// and only what was verified, on the payload of the parent that it was verified on.
+    /// Returns whether this member may vote to notarize the view: once, so that no other proposal is certified there
+    /// too, and only what was verified, on the payload of the parent that it was verified on.
     ///
     /// The view's own facts come first, since its ancestry is looked up along the chain, at each event. The binding is
     /// tested again at the vote: the parent may have been replaced since the proposal was returned for verification.
@@ -111,8 +111,8 @@ impl<S: CertificateScheme, L: Elector<S>, D: Digest> State<S, L, D> {
     /// Returns whether the view before offers a payload, if the view may build on one that is not certified yet: once a
     /// vote below is refused, nothing above it may be voted for.
     ///
-    /// It is the rule by which this member builds. A stricter one could lose a vote that is cast once; a looser one could
-    /// vote for what builds on a view that its own application refused.
+    /// It is the rule by which this member builds. A stricter one could lose a vote that is cast once; a looser one
+    /// could vote for what builds on a view that its own application refused.
     pub(super) fn has_ancestry(&self, view: View) -> bool
         ensures { result ≡ has_ancestry D.eq L.elect self.now view }
     {

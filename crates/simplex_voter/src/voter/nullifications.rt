@@ -18,10 +18,10 @@ impl<S: CertificateScheme, L: Elector<S>, D: Digest> State<S, L, D> {
     ghost use Rattle.simplex_voter.specs.Refusals.{HasFailed};
     ghost use Rattle.simplex_voter.specs.Acceptance.{takes_nullification, nullification_refusal, nullification_added, after_add_nullification, nullified_also, with_nullification_at};
 
-    /// Accepts a nullification: the rest of its term is skipped, and the next term's start is entered if it is ahead, led
-    /// by the elector's choice after this certificate. Returns whether it is the first of its view. A certification that is
-    /// under way continues, since the next leader may build on a notarized view that this member has not judged yet:
-    /// members that stopped there could disagree on valid parents for good.
+    /// Accepts a nullification: the rest of its term is skipped, and the next term's start is entered if it is ahead,
+    /// led by the elector's choice after this certificate. Returns whether it is the first of its view. A certification
+    /// that is under way continues, since the next leader may build on a notarized view that this member has not judged
+    /// yet: members that stopped there could disagree on valid parents for good.
     ///
     /// It must be of this epoch and of a retained view. Returns `ViewTooLarge` if its view is above 2^63 - 1,
     /// `TimeOverflow` if a deadline of the view to be entered passes 2^64 - 1 milliseconds.

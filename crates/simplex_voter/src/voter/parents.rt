@@ -87,8 +87,8 @@ impl<S: CertificateScheme, L: Elector<S>, D: Digest> State<S, L, D> {
         }
     }
 
-    /// Returns whether the parent is below the view, not below the last finalized one, and inside a term exactly one below.
-    /// If not, that can't change for the better.
+    /// Returns whether the parent is below the view, not below the last finalized one, and inside a term exactly one
+    /// below. If not, that can't change for the better.
     #[tactic(auto, unfolding(crate::specs::Parents::has_valid_parent_span))]
     pub(super) fn has_valid_parent_span(&self, view: View, parent: View) -> bool
         ensures { result ≡ has_valid_parent_span self.now view parent }
@@ -196,8 +196,8 @@ impl<S: CertificateScheme, L: Elector<S>, D: Digest> State<S, L, D> {
         }
     }
 
-    /// Returns whether the bound proposal is held, and its parent is allowed with the bound payload, or preferred if this
-    /// member leads. Its own handoff builds on a parent that is preferred, but not allowed before it is certified.
+    /// Returns whether the bound proposal is held, and its parent is allowed with the bound payload, or preferred if
+    /// this member leads. Its own handoff builds on a parent that is preferred, but not allowed before it is certified.
     fn holds_binding(&self, view: View, round: &Round<S, D>, bound: &(Proposal<D>, D)) -> bool
         ensures { result ≡ holds_binding D.eq L.elect self.now view round.now bound.now }
     {

@@ -23,8 +23,8 @@ impl<S: CertificateScheme, L: Elector<S>, D: Digest> State<S, L, D> {
     ghost use Rattle.simplex_voter.specs.Verification.{takes_proposal, set_proposal_answer, after_set_proposal, with_proposal};
     ghost use Rattle.simplex_voter.specs.ProposalRequests.{context_stands, proposed_answer, after_proposed, supersede_answer, after_supersede, abandonment_answer};
 
-    /// Returns whether a proposal of the view is accepted: a floor was set, and it is of this epoch and of this view, which
-    /// is retained.
+    /// Returns whether a proposal of the view is accepted: a floor was set, and it is of this epoch and of this view,
+    /// which is retained.
     pub fn takes_proposal(&self, view: View, proposal: &Proposal<D>) -> bool
         ensures { result ≡ takes_proposal self.now view proposal.now }
     {
@@ -85,9 +85,10 @@ impl<S: CertificateScheme, L: Elector<S>, D: Digest> State<S, L, D> {
         self.rounds.take_proposal(view, proposal)
     }
 
-    /// Records the proposal that was built for a context, at a moment in milliseconds, as this member's own and verified,
-    /// bound to its parent's payload. Returns whether it did. It does not if the captured parent may no longer be built on,
-    /// the view isn't tracked, nullify was decided there, or another proposal is held. The moment is recorded always.
+    /// Records the proposal that was built for a context, at a moment in milliseconds, as this member's own and
+    /// verified, bound to its parent's payload. Returns whether it did. It does not if the captured parent may no
+    /// longer be built on, the view isn't tracked, nullify was decided there, or another proposal is held. The moment
+    /// is recorded always.
     ///
     /// The state must have a floor.
     #[tactic(auto, unfolding(crate::specs::ProposalRequests::proposed_answer))]
@@ -116,8 +117,8 @@ impl<S: CertificateScheme, L: Elector<S>, D: Digest> State<S, L, D> {
         Ok(self.record_proposed(context, payload, now))
     }
 
-    /// Records what was built in a tracked view, unless nullify was decided or another proposal is held. It is bound to its
-    /// parent's payload, as a replay binds it, so that a certificate of another payload invalidates it.
+    /// Records what was built in a tracked view, unless nullify was decided or another proposal is held. It is bound to
+    /// its parent's payload, as a replay binds it, so that a certificate of another payload invalidates it.
     fn record_proposed(&mut self, context: &Context<D, S::PublicKey>, payload: D, now: u64) -> bool
         ensures recorded { result ≡ option_map_or
             (λ r. not (is_nullify r.decision)
@@ -138,8 +139,8 @@ impl<S: CertificateScheme, L: Elector<S>, D: Digest> State<S, L, D> {
         self.captured_parent_valid(context.round.view, context.parent.0, context.parent.1)
     }
 
-    /// Returns whether another parent can be built on and the captured one no longer. If so, clears the request to build,
-    /// so that it can be made again.
+    /// Returns whether another parent can be built on and the captured one no longer. If so, clears the request to
+    /// build, so that it can be made again.
     ///
     /// The state must have a floor.
     pub fn supersede_proposal_request(
@@ -162,17 +163,17 @@ impl<S: CertificateScheme, L: Elector<S>, D: Digest> State<S, L, D> {
         Ok(true)
     }
 
-    /// Returns whether another parent can be built on and the captured one no longer. Without another parent the request
-    /// stays: nothing could be asked for in its place.
+    /// Returns whether another parent can be built on and the captured one no longer. Without another parent the
+    /// request stays: nothing could be asked for in its place.
     fn is_superseded(&self, context: &Context<D, S::PublicKey>) -> bool
         ensures { result ≡ supersede_answer D.eq L.elect self.now context.now }
     {
         self.find_parent(context.round.view).is_some() && !self.context_stands(context)
     }
 
-    /// Returns why a handoff that is being built must be abandoned. `None` if it may continue: its parent is certified with
-    /// the captured payload, or this member has not voted to nullify the current view and the captured parent may still be
-    /// built on.
+    /// Returns why a handoff that is being built must be abandoned. `None` if it may continue: its parent is certified
+    /// with the captured payload, or this member has not voted to nullify the current view and the captured parent may
+    /// still be built on.
     ///
     /// The state must have a floor.
     pub fn pending_handoff_abandonment(
@@ -191,8 +192,8 @@ impl<S: CertificateScheme, L: Elector<S>, D: Digest> State<S, L, D> {
         if self.parent_certified(context.parent) {
             return Ok(None);
         }
-        // an application that builds one block at a time would continue with this one, while verdicts are needed to leave
-        // the nullified view
+        // an application that builds one block at a time would continue with this one, while verdicts are needed to
+        // leave the nullified view
         if self.voted_nullify(self.current) {
             return Ok(Some(HandoffAbandonedReason::ParentNullify));
         }

@@ -80,8 +80,8 @@ impl<S: CertificateScheme, L: Elector<S>, D: Digest> State<S, L, D> {
     ghost use Rattle.simplex_types.specs.Terms.{next_term_start};
     ghost use Rattle.simplex_voter.specs.Facts.{round_of};
 
-    /// Clears the request to build a proposal in a view, so that it can be made again while no proposal is held there. If
-    /// the view isn't tracked, nothing changes.
+    /// Clears the request to build a proposal in a view, so that it can be made again while no proposal is held there.
+    /// If the view isn't tracked, nothing changes.
     ///
     /// The state must have a floor.
     pub fn release_proposal_request(&mut self, view: View) -> Result<(), Fault>
@@ -121,15 +121,15 @@ impl<S: CertificateScheme, L: Elector<S>, D: Digest> State<S, L, D> {
         }
     }
 
-    /// Returns what this member must build next. The view is the lowest one, from the current one to the next term's start,
-    /// where this member
+    /// Returns what this member must build next. The view is the lowest one, from the current one to the next term's
+    /// start, where this member
     /// - leads and may work,
     /// - has not voted to nullify,
     /// - neither holds a proposal nor is building one,
     /// - has a parent to build on.
     ///
-    /// A term's first proposal on an uncertified parent is only prepared, and not after this member's vote to nullify the
-    /// current view. The request remains until it is cleared.
+    /// A term's first proposal on an uncertified parent is only prepared, and not after this member's vote to nullify
+    /// the current view. The request remains until it is cleared.
     ///
     /// The state must have a floor.
     pub fn try_propose(&mut self) -> Result<Option<ProposalRequest<D, S::PublicKey>>, Fault>
@@ -218,7 +218,8 @@ impl<S: CertificateScheme, L: Elector<S>, D: Digest> State<S, L, D> {
         if !round.should_propose() {
             return None;
         }
-        // tested before the request is claimed: a request is made once, and without a parent the view stays open for a later try
+        // tested before the request is claimed: a request is made once, and without a parent the view stays open for a
+        // later try
         let parent = self.find_parent(view)?;
         self.request_on(view, round, parent)
     }
@@ -236,9 +237,9 @@ impl<S: CertificateScheme, L: Elector<S>, D: Digest> State<S, L, D> {
         if !self.is_term_start(view) || self.parent_certified(parent) {
             return Some(ProposalRequest::Propose(context));
         }
-        // not even claimed after a vote to nullify the view in which it waits: an application that is ready at once could
-        // take it before the host asks whether to continue. If the parent is certified after all, this is an ordinary
-        // request
+        // not even claimed after a vote to nullify the view in which it waits: an application that is ready at once
+        // could take it before the host asks whether to continue. If the parent is certified after all, this is an
+        // ordinary request
         if self.voted_nullify(self.current) {
             return None;
         }

@@ -11,8 +11,8 @@ impl<S: CertificateScheme, L: Elector<S>, D: Digest> State<S, L, D> {
     ghost use Rattle.simplex_voter.specs.Windows.{min_active};
     ghost use Rattle.simplex_voter.specs.StateAnswers.{prune_answer, after_prune};
 
-    /// Drops the rounds, nullified views and nullify votes below the lowest retained view. Returns the views of the dropped
-    /// rounds, rising.
+    /// Drops the rounds, nullified views and nullify votes below the lowest retained view. Returns the views of the
+    /// dropped rounds, rising.
     ///
     /// The state must have a floor.
     pub fn prune(&mut self) -> Result<Vec<View>, Fault>
@@ -26,7 +26,8 @@ impl<S: CertificateScheme, L: Elector<S>, D: Digest> State<S, L, D> {
         if self.is_failed() {
             return Err(Fault::Failed);
         }
-        // what still binds a vote is above: votes to nullify above the last finalized view, and nullifications of its term
+        // what still binds a vote is above: votes to nullify above the last finalized view, and nullifications of its
+        // term
         let floor = self.min_active();
         match self.views_below(floor) {
             Ok(views) => {

@@ -119,8 +119,8 @@ impl<S: CertificateScheme, D: Digest> Rounds<S, D> {
     ghost use Rattle.std.specs.FinMap.Entries.{is_sorted};
     ghost use Rattle.simplex_voter.specs.Rounds.{is_refused_between, AreDownFrom};
 
-    /// The rounds of the tracked views below a view, by rising view, without those above each one that is finalized or was
-    /// certified true.
+    /// The rounds of the tracked views below a view, by rising view, without those above each one that is finalized or
+    /// was certified true.
     pub(super) fn down_from(&self, view: View) -> Entries<'_, Round<S, D>>
         ensures { AreDownFrom self.now view result }
     {

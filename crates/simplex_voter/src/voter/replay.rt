@@ -33,8 +33,8 @@ fn allow_recalled<S: CertificateScheme, D: Digest>(
     }
 }
 
-/// Restores an entry of the record in a round: a vote is decided again, a certificate counts as already broadcast, and a
-/// verdict is set. It is bound again if there is a binding.
+/// Restores an entry of the record in a round: a vote is decided again, a certificate counts as already broadcast, and
+/// a verdict is set. It is bound again if there is a binding.
 fn recall_round<S: CertificateScheme, D: Digest>(
     round: &mut Round<S, D>,
     artifact: &Artifact<S, D>,
@@ -117,12 +117,12 @@ impl<S: CertificateScheme, L: Elector<S>, D: Digest> State<S, L, D> {
         self.rounds.recall(view, artifact, binding)
     }
 
-    /// Restores an entry of this member's record: a vote is decided again, a certificate counts as already broadcast and is
-    /// not added, a verdict is set. The current view stays.
+    /// Restores an entry of this member's record: a vote is decided again, a certificate counts as already broadcast
+    /// and is not added, a verdict is set. The current view stays.
     ///
-    /// The state must have a floor. The artifact must be of this epoch and of a retained view, a vote must be this member's
-    /// own and not meet its opposite, and no verdict may contradict another. Returns `ViewTooLarge` if its view or its
-    /// proposal's parent is above 2^63 - 1.
+    /// The state must have a floor. The artifact must be of this epoch and of a retained view, a vote must be this
+    /// member's own and not meet its opposite, and no verdict may contradict another. Returns `ViewTooLarge` if its
+    /// view or its proposal's parent is above 2^63 - 1.
     pub fn replay(&mut self, artifact: &Artifact<S, D>) -> Result<(), Fault>
         requires { self.old.failed ≡ false → TakesReplay self.old artifact.now }
         ensures refused { IfSome (replay_refusal self.old artifact.now)

@@ -31,9 +31,9 @@ impl<S: CertificateScheme, L: Elector<S>, D: Digest> State<S, L, D> {
         view.is_term_start(self.elector.terms().term_length)
     }
 
-    /// Returns whether this member voted to nullify a view below in the term, above the last finalized view: its vote to finalize
-    /// could help to finalize a view that the other vote helps to skip.
-    /// A finalization at or above that view ends this: it proves that the nullification can never form.
+    /// Returns whether this member voted to nullify a view below in the term, above the last finalized view: its vote
+    /// to finalize could help to finalize a view that the other vote helps to skip. A finalization at or above that
+    /// view ends this: it proves that the nullification can never form.
     #[tactic(auto, unfolding(crate::specs::Rules::has_conflicting_nullify))]
     pub(super) fn has_conflicting_nullify(&self, view: View) -> bool
         ensures { result ≡ has_conflicting_nullify self.now view }
@@ -82,12 +82,13 @@ impl<S: CertificateScheme, L: Elector<S>, D: Digest> State<S, L, D> {
         }
     }
 
-    /// Returns the view that this member must certify before the proposal: the previous view, if the proposal was voted for
-    /// while that view could still be refused.
+    /// Returns the view that this member must certify before the proposal: the previous view, if the proposal was voted
+    /// for while that view could still be refused.
     ///
-    /// Inside a term each proposal is voted for that early; at a term's start only by a leader that was elected early and
-    /// proposed it. This member's vote there shows which proposal that was, since it signs one as leader. The vote of
-    /// another member may be for a second proposal of a faulty leader, and its parent may never arrive: it must not wait.
+    /// Inside a term each proposal is voted for that early; at a term's start only by a leader that was elected early
+    /// and proposed it. This member's vote there shows which proposal that was, since it signs one as leader. The vote
+    /// of another member may be for a second proposal of a faulty leader, and its parent may never arrive: it must not
+    /// wait.
     #[tactic(auto, unfolding(crate::specs::Rules::required_certification_parent))]
     pub(super) fn required_certification_parent(
         &self,
@@ -146,11 +147,11 @@ impl<S: CertificateScheme, L: Elector<S>, D: Digest> State<S, L, D> {
         }
     }
 
-    /// Returns whether this member may vote to finalize the view. Without the notarization another proposal may still win
-    /// it.
+    /// Returns whether this member may vote to finalize the view. Without the notarization another proposal may still
+    /// win it.
     ///
-    /// A finalized view needs no vote. That the parent is ready was tested before the certification, and is tested again,
-    /// since a replayed record restores a certified view without it.
+    /// A finalized view needs no vote. That the parent is ready was tested before the certification, and is tested
+    /// again, since a replayed record restores a certified view without it.
     #[tactic(auto, unfolding(crate::specs::Rules::may_finalize))]
     pub(super) fn may_finalize(&self, view: View) -> bool
         ensures { result ≡ may_finalize L.elect self.now view }

@@ -38,9 +38,9 @@ pub struct Config<S: CertificateScheme, L: Elector<S>> {
 
 /// A member's state over all views.
 ///
-/// Contracts see it as the record `StateFacts`. A call that changes the state and runs out of memory leaves it failed. A failed
-/// state may be called whatever a call requires of others, and each call with a result then returns `Failed`. So it returns no
-/// vote.
+/// Contracts see it as the record `StateFacts`. A call that changes the state and runs out of memory leaves it failed.
+/// A failed state may be called whatever a call requires of others, and each call with a result then returns `Failed`.
+/// So it returns no vote.
 #[derive(Drop)]
 pub struct State<S: CertificateScheme, L: Elector<S>, D> {
     pub(super) alloc: Global,

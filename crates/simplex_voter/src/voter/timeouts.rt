@@ -1,5 +1,5 @@
-//! Timeouts of views: the first explicit one, how many terms may be skipped before it no longer counts, when a term counts
-//! as stalled, and the next timeout of the current view.
+//! Timeouts of views: the first explicit one, how many terms may be skipped before it no longer counts, when a term
+//! counts as stalled, and the next timeout of the current view.
 
 ghost use Rattle.std.specs.Prelude.{◌≡◌, ◌&&◌, IfOk, IfSome, IsOk, OnOk, Err, None, true, ◌+◌, is_some, option_and_then, filter, slice_get, ◌||◌, IfErr, Some, is_err};
 ghost use Rattle.simplex_types.specs.Terms.{term_index};
@@ -27,7 +27,8 @@ fn index_after(view: View, length: TermLength) -> u64
     view.get() / u64::from(length.get().get())
 }
 
-/// The stall deadline of the first of the rounds that was entered, with a view above `finalized` and not above `current`.
+/// The stall deadline of the first of the rounds that was entered, with a view above `finalized` and not above
+/// `current`.
 fn first_deadline<S: CertificateScheme, D: Digest>(
     mut entries: Entries<'_, Round<S, D>>,
     finalized: View,
@@ -85,7 +86,8 @@ fn can_time_out<S: CertificateScheme, D: Digest>(round: &Round<S, D>, allow_latc
     }
 }
 
-/// A round's timeout, or a stall deadline at or below it while the round's timeout is ahead. A repeat is never replaced.
+/// A round's timeout, or a stall deadline at or below it while the round's timeout is ahead. A repeat is never
+/// replaced.
 fn or_stalled(stall: Option<u64>, now: u64, timeout: (u64, TimeoutReason)) -> (u64, TimeoutReason)
     ensures { result ≡ or_stalled stall now timeout }
 {
@@ -108,10 +110,10 @@ impl<S: CertificateScheme, L: Elector<S>, D: Digest> State<S, L, D> {
     ghost use Rattle.simplex_voter.specs.Refusals.{is_started, plain_refusal, is_past_u64};
     ghost use Rattle.simplex_voter.specs.Timeouts.{after_trigger_timeout, is_contradicted, trigger_answer, with_timeout, has_skip_budget, stall_deadline, after_next_timeout, has_timeout, next_timeout_answer, next_timeout_refusal, round_with_retry};
 
-    /// Times a view out at its next poll, for a reason and at a moment in milliseconds. The first such timeout of a view
-    /// stays, and none is set once either vote was decided. A view that is passed or isn't tracked stays as it is; so does
-    /// one that times out for `Inactivity` while a proposal without conflict is held. The moment is recorded always.
-    /// Returns whether this timeout is the one that counts from now on.
+    /// Times a view out at its next poll, for a reason and at a moment in milliseconds. The first such timeout of a
+    /// view stays, and none is set once either vote was decided. A view that is passed or isn't tracked stays as it is;
+    /// so does one that times out for `Inactivity` while a proposal without conflict is held. The moment is recorded
+    /// always. Returns whether this timeout is the one that counts from now on.
     ///
     /// The state must have a floor.
     pub fn trigger_timeout(
@@ -192,8 +194,8 @@ impl<S: CertificateScheme, L: Elector<S>, D: Digest> State<S, L, D> {
         first_deadline(entries, self.finalized, self.current)
     }
 
-    /// Returns whether the current view has a timeout. Once a floor is set, it has none only if it is finalized, or this
-    /// member voted to finalize it, or its held proposal is certified and no latched timeout counts.
+    /// Returns whether the current view has a timeout. Once a floor is set, it has none only if it is finalized, or
+    /// this member voted to finalize it, or its held proposal is certified and no latched timeout counts.
     pub fn has_timeout(&self) -> bool
         ensures { result ≡ has_timeout self.now }
     {
@@ -205,10 +207,10 @@ impl<S: CertificateScheme, L: Elector<S>, D: Digest> State<S, L, D> {
 
     /// Returns the moment of the current view's next timeout, in milliseconds, and its reason.
     ///
-    /// It is the round's own: a latched timeout while few enough terms were skipped; else that for a missing proposal; else
-    /// that for a missing certification. After a vote to nullify it is only the vote's repeat, whose moment the first poll
-    /// sets. The stall deadline of the lowest entered view of the current term above the last finalized one replaces the
-    /// round's, if it is at or below the round's and the round's is ahead; it never replaces a repeat.
+    /// It is the round's own: a latched timeout while few enough terms were skipped; else that for a missing proposal;
+    /// else that for a missing certification. After a vote to nullify it is only the vote's repeat, whose moment the
+    /// first poll sets. The stall deadline of the lowest entered view of the current term above the last finalized one
+    /// replaces the round's, if it is at or below the round's and the round's is ahead; it never replaces a repeat.
     ///
     /// The state must have a floor and `has_timeout`. Returns `TimeOverflow` if the moment of a repeat passes 2^64 - 1.
     pub fn next_timeout(&mut self, now: u64) -> Result<(u64, TimeoutReason), Fault>

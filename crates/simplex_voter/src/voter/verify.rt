@@ -86,8 +86,8 @@ fn fetch_once<S: CertificateScheme, D: Digest>(
     }
 }
 
-/// The next view to scan: past the near views and before the last one nothing is admitted, so the scan skips to the last
-/// one.
+/// The next view to scan: past the near views and before the last one nothing is admitted, so the scan skips to the
+/// last one.
 fn next_scanned(next: View, near: View, last: View) -> View
     ensures { result ≡ (if nat_lt near next && nat_lt next last then last else next) }
 {
@@ -107,8 +107,8 @@ impl<S: CertificateScheme, L: Elector<S>, D: Digest> State<S, L, D> {
     ghost use Rattle.simplex_voter.specs.Refusals.{plain_refusal, is_started};
     ghost use Rattle.simplex_voter.specs.ProposalRequests.{views_within};
 
-    /// The standing of a view's proposal: there is something to do if another member leads the view, this member may work
-    /// there, and the proposal was not returned for verification before.
+    /// The standing of a view's proposal: there is something to do if another member leads the view, this member may
+    /// work there, and the proposal was not returned for verification before.
     #[tactic(auto, unfolding(crate::specs::Verification::standing))]
     pub(super) fn standing(&self, view: View, round: &Round<S, D>) -> Standing<D>
         ensures { result ≡ standing D.eq L.elect self.now (view, round.now) }
@@ -122,8 +122,8 @@ impl<S: CertificateScheme, L: Elector<S>, D: Digest> State<S, L, D> {
         }
     }
 
-    /// The standing of a proposal by its parent: the first gap must be closed first. Its place below is tested before the
-    /// request is claimed: a wrong place is wrong for good, and a missing certificate will come.
+    /// The standing of a proposal by its parent: the first gap must be closed first. Its place below is tested before
+    /// the request is claimed: a wrong place is wrong for good, and a missing certificate will come.
     fn parent_standing(&self, view: View, round: &Round<S, D>, parent: View) -> Standing<D>
         ensures { result ≡ parent_standing D.eq L.elect self.now view round.now parent }
     {
@@ -153,11 +153,11 @@ impl<S: CertificateScheme, L: Elector<S>, D: Digest> State<S, L, D> {
 
     /// Returns the next step in verifying the proposals of other leaders.
     ///
-    /// It visits the tracked views from the current one to the next term's start, up to the first with a step. A proposal
-    /// whose parent is invalid for good times its view out, at the last moment that a call carried. If nullifications leave
-    /// a gap above the parent, the nullification of the first uncovered view is fetched; outside its window an uncertified
-    /// parent is fetched; each unless it was the last one asked for in that view. Else the proposal is returned, once, and
-    /// bound to its parent's payload.
+    /// It visits the tracked views from the current one to the next term's start, up to the first with a step. A
+    /// proposal whose parent is invalid for good times its view out, at the last moment that a call carried. If
+    /// nullifications leave a gap above the parent, the nullification of the first uncovered view is fetched; outside
+    /// its window an uncertified parent is fetched; each unless it was the last one asked for in that view. Else the
+    /// proposal is returned, once, and bound to its parent's payload.
     ///
     /// The state must have a floor.
     pub fn try_verify(&mut self) -> Result<Verify<D, S::PublicKey>, Fault>
@@ -263,9 +263,9 @@ impl<S: CertificateScheme, L: Elector<S>, D: Digest> State<S, L, D> {
         self.rounds.give_out(view, payload);
     }
 
-    /// Records that the application verified the proposal returned for a view. Marks the held proposal, unless nullify was
-    /// decided there, and returns whether it did; it did not if the proposal was marked before or another proposal was
-    /// seen. If the view's binding no longer holds, it is removed and nothing is marked.
+    /// Records that the application verified the proposal returned for a view. Marks the held proposal, unless nullify
+    /// was decided there, and returns whether it did; it did not if the proposal was marked before or another proposal
+    /// was seen. If the view's binding no longer holds, it is removed and nothing is marked.
     ///
     /// The state must have a floor.
     pub fn verified(&mut self, view: View) -> Result<bool, Fault>
@@ -278,8 +278,8 @@ impl<S: CertificateScheme, L: Elector<S>, D: Digest> State<S, L, D> {
         if self.is_failed() {
             return Err(Fault::Failed);
         }
-        // the answer is about a proposal, or on a parent, that was replaced since, and says nothing about what is held now.
-        // The replaced one can't be verified on another parent: it commits to its own
+        // the answer is about a proposal, or on a parent, that was replaced since, and says nothing about what is held
+        // now. The replaced one can't be verified on another parent: it commits to its own
         if !self.verification_matches(view) {
             self.clear_verifying(view);
             return Ok(false);
@@ -287,9 +287,9 @@ impl<S: CertificateScheme, L: Elector<S>, D: Digest> State<S, L, D> {
         Ok(self.rounds.mark(view))
     }
 
-    /// Records that the application refused the proposal returned for a view, or could not verify it. The view times out at
-    /// its next poll, for this reason and at this moment in milliseconds, as in `trigger_timeout`. If the view's binding no
-    /// longer holds, it is removed instead. The moment is recorded always.
+    /// Records that the application refused the proposal returned for a view, or could not verify it. The view times
+    /// out at its next poll, for this reason and at this moment in milliseconds, as in `trigger_timeout`. If the view's
+    /// binding no longer holds, it is removed instead. The moment is recorded always.
     ///
     /// The state must have a floor.
     pub fn verification_failed(
@@ -306,7 +306,8 @@ impl<S: CertificateScheme, L: Elector<S>, D: Digest> State<S, L, D> {
         if self.is_failed() {
             return Err(Fault::Failed);
         }
-        // a refusal of what was replaced must not abandon the view: the certificate that replaced it is handled by itself
+        // a refusal of what was replaced must not abandon the view: the certificate that replaced it is handled by
+        // itself
         let holds = self.verification_matches(view);
         self.note_moment(now);
         if holds {

@@ -56,8 +56,8 @@ impl<S: CertificateScheme, L: Elector<S>, D: Digest> State<S, L, D> {
         self.elect(view, Some(certificate))
     }
 
-    /// Makes this view the last finalized one if it is above the one before, and enters the next view if that is ahead, led
-    /// by the elector's choice after this certificate.
+    /// Makes this view the last finalized one if it is above the one before, and enters the next view if that is ahead,
+    /// led by the elector's choice after this certificate.
     pub(super) fn pass(
         &mut self,
         view: View,

@@ -25,8 +25,8 @@ impl<S: CertificateScheme, L: Elector<S>, D: Digest> State<S, L, D> {
     ghost use Rattle.std.specs.BTreeSet.{insert_key};
     ghost use Rattle.simplex_round.specs.Round.{is_nullify, after_nullify, can_finalize};
 
-    /// Votes to nullify the current view, unless this member voted to finalize it. The decision is set, also without a key.
-    /// Returns the vote, and whether it is a repeat, if the scheme has a key. Otherwise nothing changes.
+    /// Votes to nullify the current view, unless this member voted to finalize it. The decision is set, also without a
+    /// key. Returns the vote, and whether it is a repeat, if the scheme has a key. Otherwise nothing changes.
     ///
     /// The reason has no effect. The state must have a floor.
     pub fn construct_nullify(

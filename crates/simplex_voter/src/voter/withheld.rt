@@ -128,8 +128,8 @@ impl<S: CertificateScheme, L: Elector<S>, D: Digest> State<S, L, D> {
         None
     }
 
-    /// Returns why `construct_nullify` would return no vote for the view; as `notarize_withheld`. A repeated vote is not
-    /// withheld.
+    /// Returns why `construct_nullify` would return no vote for the view; as `notarize_withheld`. A repeated vote is
+    /// not withheld.
     #[tactic(auto, unfolding(crate::specs::Rules::may_nullify))]
     pub fn nullify_withheld(&self, view: View) -> Option<Withheld>
         ensures first { result ≡ nullify_withheld self.now view }

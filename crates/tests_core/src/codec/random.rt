@@ -101,8 +101,8 @@ fn is_not_read(error: DecodeError) -> Result<bool, Fail> {
     }
 }
 
-/// Returns whether the bytes are read as an artifact. What is read encodes to them again, and what is not is refused by the name of a fault
-/// in them.
+/// Returns whether the bytes are read as an artifact. What is read encodes to them again, and what is not is refused by
+/// the name of a fault in them.
 fn is_artifact(alloc: Global, bytes: &[u8]) -> Result<bool, Fail> {
     match decode_artifact::<PlainScheme, PlainDigest>(alloc, bytes) {
         Ok(artifact) => is_read(is_written(alloc, &artifact, bytes)?),

@@ -18,7 +18,8 @@ use std::test::Fail;
 
 type PlainRound = Round<PlainScheme, PlainDigest>;
 
-/// A call with the expected answer. Proposals are named by their payloads, members by their indices, and moments are in milliseconds.
+/// A call with the expected answer. Proposals are named by their payloads, members by their indices, and moments are in
+/// milliseconds.
 pub enum Step {
     ShouldPropose(bool),
     TryPropose(Option<u32>),

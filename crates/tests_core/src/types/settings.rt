@@ -19,8 +19,8 @@ fn budgets_are_resolved_by_the_participants(rt: HostRuntime) -> Result<(), Fail>
     Ok(())
 }
 
-/// The timeouts of a leader, a certification and a retry in milliseconds, the retained views, and the timeout after which a silent leader
-/// is skipped.
+/// The timeouts of a leader, a certification and a retry in milliseconds, the retained views, and the timeout after
+/// which a silent leader is skipped.
 struct Settings(u64, u64, u64, u64, Option<u64>);
 
 static GOOD: Settings = Settings(1000, 2000, 500, 10, None);

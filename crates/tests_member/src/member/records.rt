@@ -38,7 +38,8 @@ enum Began {
     WithoutKey,
 }
 
-/// An entry of a record, with the numbers by which it may break a rule. Unless stated otherwise, it is of epoch 1, payload 7 and member 0.
+/// An entry of a record, with the numbers by which it may break a rule. Unless stated otherwise, it is of epoch 1,
+/// payload 7 and member 0.
 #[derive(Clone, Copy)]
 enum Entry {
     /// A notarization of an epoch, a view and a parent.

@@ -7,13 +7,13 @@ use simplex_types::types::{Finalization, View};
 use std::alloc::Global;
 use std::test::Fail;
 
-/// A lifetime that is asked for: whether the record is pruned first, and how many views are retained; whether it begins, and the record's
-/// entries and the lowest retained view then.
+/// A lifetime that is asked for: whether the record is pruned first, and how many views are retained; whether it
+/// begins, and the record's entries and the lowest retained view then.
 type Life = (bool, u64, Result<(), RecoverError>, usize, u64);
 
-/// Lifetimes of a member that retains ten views, and accepted a finalization of view 20 and notarizations of views 4 and 12. A pruning
-/// removes what is below the views that the lifetime before retained, whatever the next one retains. Once a record is pruned, no more may
-/// be retained than in any lifetime before.
+/// Lifetimes of a member that retains ten views, and accepted a finalization of view 20 and notarizations of views 4
+/// and 12. A pruning removes what is below the views that the lifetime before retained, whatever the next one retains.
+/// Once a record is pruned, no more may be retained than in any lifetime before.
 static LIVES: [&[Life]; 7] = [
     &[(true, 5, Ok(()), 2, 15), (true, 5, Ok(()), 1, 15)],
     &[(false, 5, Ok(()), 3, 15), (true, 5, Ok(()), 1, 15)],

@@ -11,8 +11,8 @@ type PlainNotarization = Notarization<PlainScheme, PlainDigest>;
 
 type PlainFinalize = Finalize<PlainScheme, PlainDigest>;
 
-/// Returns the vote to finalize a view, once it is stored: a valid notarization of the view came, and the application found its block
-/// valid.
+/// Returns the vote to finalize a view, once it is stored: a valid notarization of the view came, and the application
+/// found its block valid.
 fn finalize(
     alloc: Global,
     member: &mut PlainMember,

@@ -96,8 +96,8 @@ fn terms(are_of_five: bool, stall_timeout: Option<u64>) -> Terms {
     }
 }
 
-/// Skip budgets, whether terms have five views, the inputs, and a poll after them. A view that was abandoned times out at once only if the
-/// budget is above the number of terms since the last finalized view's next one.
+/// Skip budgets, whether terms have five views, the inputs, and a poll after them. A view that was abandoned times out
+/// at once only if the budget is above the number of terms since the last finalized view's next one.
 static BUDGETS: [(u64, bool, &[Event], Poll); 11] = [
     (
         0,
@@ -186,8 +186,8 @@ fn a_view_that_was_given_up_is_skipped_within_the_budget(rt: HostRuntime) -> Res
     Ok(())
 }
 
-/// Stall timeouts in terms of five views, the inputs, and a poll after them. What stalls is the first view entered above the last finalized
-/// one, however many of its term are certified.
+/// Stall timeouts in terms of five views, the inputs, and a poll after them. What stalls is the first view entered
+/// above the last finalized one, however many of its term are certified.
 static STALLS: [(Option<u64>, &[Event], Poll); 11] = [
     (None, &[], (10, Some((9000, TimeoutReason::LeaderTimeout)))),
     (

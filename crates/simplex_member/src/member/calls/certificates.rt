@@ -15,12 +15,12 @@ use simplex_types::types::{
 };
 
 impl<S: Scheme<D>, L: Elector<S>, D: Digest> Member<S, L, D> {
-    /// Accepts a notarization: the next view is led by the elector's choice after it, the first of its view is recorded,
-    /// and its view waits for certification. Returns whether it is the first of its view, and the key of a leader found to
-    /// equivocate.
+    /// Accepts a notarization: the next view is led by the elector's choice after it, the first of its view is
+    /// recorded, and its view waits for certification. Returns whether it is the first of its view, and the key of a
+    /// leader found to equivocate.
     ///
-    /// Returns `NotAllowed` if it is of another epoch or of a view that is not retained, `ViewTooLarge` if its view or its
-    /// parent's is above 2^63 - 1; `OutOfMemory`.
+    /// Returns `NotAllowed` if it is of another epoch or of a view that is not retained, `ViewTooLarge` if its view or
+    /// its parent's is above 2^63 - 1; `OutOfMemory`.
     #[tactic(auto, unfolding(crate::specs::MemberFacts::IsCall))]
     pub fn add_notarization(
         &mut self,
@@ -56,10 +56,12 @@ impl<S: Scheme<D>, L: Elector<S>, D: Digest> Member<S, L, D> {
     }
 
     /// Accepts a nullification: the rest of its term is skipped, the next term's start is entered at this moment, in
-    /// milliseconds, if it is ahead, and the first of its view is recorded. Returns whether it is the first of its view.
+    /// milliseconds, if it is ahead, and the first of its view is recorded. Returns whether it is the first of its
+    /// view.
     ///
     /// Returns `NotAllowed` if it is of another epoch or of a view that is not retained, `ViewTooLarge` if its view is
-    /// above 2^63 - 1, `TimeOverflow` if a deadline of the view to be entered passes 2^64 - 1 milliseconds; `OutOfMemory`.
+    /// above 2^63 - 1, `TimeOverflow` if a deadline of the view to be entered passes 2^64 - 1 milliseconds;
+    /// `OutOfMemory`.
     #[tactic(auto, unfolding(crate::specs::MemberFacts::IsCall))]
     pub fn add_nullification(
         &mut self,
@@ -96,12 +98,12 @@ impl<S: Scheme<D>, L: Elector<S>, D: Digest> Member<S, L, D> {
     }
 
     /// Accepts a finalization: its view becomes the last finalized one if it is above the one before, the next view is
-    /// entered at this moment, in milliseconds, if it is ahead, and the first of its view is recorded. Returns whether it
-    /// is the first of its view, and the key of a leader found to equivocate.
+    /// entered at this moment, in milliseconds, if it is ahead, and the first of its view is recorded. Returns whether
+    /// it is the first of its view, and the key of a leader found to equivocate.
     ///
-    /// Returns `NotAllowed` if it is of another epoch or of a view that is not retained, `ViewTooLarge` if its view or its
-    /// parent's is above 2^63 - 1, `TimeOverflow` if a deadline of the view to be entered passes 2^64 - 1 milliseconds;
-    /// `OutOfMemory`.
+    /// Returns `NotAllowed` if it is of another epoch or of a view that is not retained, `ViewTooLarge` if its view or
+    /// its parent's is above 2^63 - 1, `TimeOverflow` if a deadline of the view to be entered passes 2^64 - 1
+    /// milliseconds; `OutOfMemory`.
     #[tactic(auto, unfolding(crate::specs::MemberFacts::IsCall))]
     pub fn add_finalization(
         &mut self,

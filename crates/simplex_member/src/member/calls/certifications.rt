@@ -13,8 +13,8 @@ use simplex_types::types::{Digest, Elector, Fault, Notarization, Proposal, Schem
 use simplex_voter::voter::CertificateFetch;
 
 impl<S: Scheme<D>, L: Elector<S>, D: Digest> Member<S, L, D> {
-    /// Returns the proposals to certify next, and the notarizations that other waiting proposals need, each by rising view.
-    /// A proposal is open until the verdict of its view.
+    /// Returns the proposals to certify next, and the notarizations that other waiting proposals need, each by rising
+    /// view. A proposal is open until the verdict of its view.
     ///
     /// Returns `OutOfMemory`.
     #[tactic(auto, unfolding(crate::specs::MemberFacts::IsCall))]
@@ -60,12 +60,12 @@ impl<S: Scheme<D>, L: Elector<S>, D: Digest> Member<S, L, D> {
         Ok(self.state.set_certify_handle(view, token)?)
     }
 
-    /// Records the verdict of a view's certification, at a moment in milliseconds. A true verdict enters the next view if
-    /// that is ahead; a false one times the view out; the first verdict of a tracked view is recorded. Returns the view's
-    /// notarization, or `None` if the view isn't tracked.
+    /// Records the verdict of a view's certification, at a moment in milliseconds. A true verdict enters the next view
+    /// if that is ahead; a false one times the view out; the first verdict of a tracked view is recorded. Returns the
+    /// view's notarization, or `None` if the view isn't tracked.
     ///
-    /// Returns `NotAllowed` if a tracked view has no notarization or the other verdict, `TimeOverflow` if a deadline of the
-    /// view to be entered passes 2^64 - 1 milliseconds; `OutOfMemory`.
+    /// Returns `NotAllowed` if a tracked view has no notarization or the other verdict, `TimeOverflow` if a deadline of
+    /// the view to be entered passes 2^64 - 1 milliseconds; `OutOfMemory`.
     #[tactic(auto, unfolding(crate::specs::MemberFacts::IsCall))]
     pub fn certified(
         &mut self,

@@ -34,9 +34,10 @@ impl<S: Scheme<D>, L: Elector<S>, D: Digest> Member<S, L, D> {
         Ok(request)
     }
 
-    /// Passes the payload that was built on request in a view, at a moment in milliseconds. It is recorded as this member's
-    /// proposal, verified, unless the captured parent may no longer be built on, the view isn't tracked, nullify was decided
-    /// there, or another proposal is held. Returns whether it is recorded. The request is closed either way.
+    /// Passes the payload that was built on request in a view, at a moment in milliseconds. It is recorded as this
+    /// member's proposal, verified, unless the captured parent may no longer be built on, the view isn't tracked,
+    /// nullify was decided there, or another proposal is held. Returns whether it is recorded. The request is closed
+    /// either way.
     ///
     /// Returns `NotAllowed` if no request is open in the view.
     #[tactic(auto, unfolding(crate::specs::MemberFacts::IsCall))]
@@ -111,8 +112,8 @@ impl<S: Scheme<D>, L: Elector<S>, D: Digest> Member<S, L, D> {
         Ok(self.state.pending_handoff_abandonment(context)?)
     }
 
-    /// Closes the request to build in a view, so that it can be made again while no proposal is held there. Returns whether
-    /// one was open.
+    /// Closes the request to build in a view, so that it can be made again while no proposal is held there. Returns
+    /// whether one was open.
     #[tactic(auto, unfolding(crate::specs::MemberFacts::IsCall))]
     pub fn release_proposal_request(&mut self, view: View) -> Result<bool, Refusal>
         ensures made { IsCall D.eq L.elect self.old.facts (ReleaseProposalRequest view)

@@ -12,9 +12,9 @@ use simplex_types::types::{Digest, Elector, Fault, Scheme, View};
 
 impl<S: Scheme<D>, L: Elector<S>, D: Digest> Member<S, L, D> {
     /// Times a view out at its next poll, for a reason that the state doesn't see by itself and at a moment in
-    /// milliseconds. Returns whether this timeout is the one that counts from now on. Only the last moment changes if the
-    /// view is passed, isn't tracked, has such a timeout, or was voted on, or if a proposal without conflict contradicts
-    /// `Inactivity`.
+    /// milliseconds. Returns whether this timeout is the one that counts from now on. Only the last moment changes if
+    /// the view is passed, isn't tracked, has such a timeout, or was voted on, or if a proposal without conflict
+    /// contradicts `Inactivity`.
     #[tactic(auto, unfolding(crate::specs::MemberFacts::IsCall))]
     pub fn trigger_timeout(
         &mut self,
@@ -38,7 +38,8 @@ impl<S: Scheme<D>, L: Elector<S>, D: Digest> Member<S, L, D> {
 
     /// Returns the moment of the current view's next timeout, in milliseconds, and its reason.
     ///
-    /// Returns `NotAllowed` if the current view has no timeout, `TimeOverflow` if the moment of a repeat passes 2^64 - 1.
+    /// Returns `NotAllowed` if the current view has no timeout, `TimeOverflow` if the moment of a repeat passes 2^64 -
+    /// 1.
     #[tactic(auto, unfolding(crate::specs::MemberFacts::IsCall))]
     pub fn next_timeout(&mut self, now: u64) -> Result<(u64, TimeoutReason), Refusal>
         ensures made { IsCall D.eq L.elect self.old.facts (NextTimeout now)

@@ -13,7 +13,8 @@ use simplex_voter::voter::Verify;
 
 impl<S: Scheme<D>, L: Elector<S>, D: Digest> Member<S, L, D> {
     /// Accepts a proposal of the view's leader. Returns whether it is to be verified: it is the first of its view, and
-    /// nullify was not decided there. One that differs from the first is not stored, and the view counts as equivocated.
+    /// nullify was not decided there. One that differs from the first is not stored, and the view counts as
+    /// equivocated.
     ///
     /// Returns `NotAllowed` if it is of another epoch or view, or of a view that is not retained, `ViewTooLarge` if its
     /// view or its parent's is above 2^63 - 1; `OutOfMemory`.
@@ -60,8 +61,8 @@ impl<S: Scheme<D>, L: Elector<S>, D: Digest> Member<S, L, D> {
         Ok(verify)
     }
 
-    /// Reports that the application found the view's proposal valid. Returns whether it is now marked valid: not if nullify
-    /// was decided, another proposal was seen, or its binding no longer holds.
+    /// Reports that the application found the view's proposal valid. Returns whether it is now marked valid: not if
+    /// nullify was decided, another proposal was seen, or its binding no longer holds.
     ///
     /// Returns `NotAllowed` if no proposal of the view is being verified.
     #[tactic(auto, unfolding(crate::specs::MemberFacts::IsCall))]

@@ -16,8 +16,8 @@ use simplex_types::reasons::TimeoutReason;
 use simplex_types::types::{Digest, Elector, Fault, Finalize, Notarize, Nullify, Scheme, View};
 
 impl<S: Scheme<D>, L: Elector<S>, D: Digest> Member<S, L, D> {
-    /// Returns the vote to notarize the held proposal of a view, if the rule allows it. The vote is recorded before it is
-    /// returned, and returned once.
+    /// Returns the vote to notarize the held proposal of a view, if the rule allows it. The vote is recorded before it
+    /// is returned, and returned once.
     ///
     /// Returns `OutOfMemory`: no vote is returned that the record doesn't hold.
     #[tactic(auto, unfolding(crate::specs::MemberFacts::IsCall))]
@@ -46,8 +46,8 @@ impl<S: Scheme<D>, L: Elector<S>, D: Digest> Member<S, L, D> {
         kept.map_err(Refusal::Fault)
     }
 
-    /// Returns the vote to nullify the current view, unless this member voted to finalize it, and whether it is a repeat.
-    /// The vote is recorded before it is first returned. The reason has no effect.
+    /// Returns the vote to nullify the current view, unless this member voted to finalize it, and whether it is a
+    /// repeat. The vote is recorded before it is first returned. The reason has no effect.
     ///
     /// Returns `OutOfMemory`: no vote is returned that the record doesn't hold.
     #[tactic(auto, unfolding(crate::specs::MemberFacts::IsCall))]
@@ -80,8 +80,8 @@ impl<S: Scheme<D>, L: Elector<S>, D: Digest> Member<S, L, D> {
         kept.map_err(Refusal::Fault)
     }
 
-    /// Returns the vote to finalize a certified view, if the rule allows it. The vote is recorded before it is returned,
-    /// and returned once.
+    /// Returns the vote to finalize a certified view, if the rule allows it. The vote is recorded before it is
+    /// returned, and returned once.
     ///
     /// Returns `OutOfMemory`: no vote is returned that the record doesn't hold.
     #[tactic(auto, unfolding(crate::specs::MemberFacts::IsCall))]
