@@ -1,5 +1,5 @@
 /*
- * A member of the Simplex consensus protocol, for a host that writes its own engine. simplex.hpp includes it, and docs/CALLERS.md has the
+ * A member of the Simplex consensus protocol, for a host that writes its own engine. simplex.hpp includes it, and docs/EMBEDDING.md has the
  * loop. A call that returns a vote has recorded it: the host stores the new entries before it sends the vote. A member moves and is not
  * copied; its destructor frees it. One thread calls it at a time. Each failing call throws simplex::Error: with SIMPLEX_OUT_OF_MEMORY
  * nothing has changed, or the member has failed and each later call throws SIMPLEX_FAILED until a restart; with each other status nothing

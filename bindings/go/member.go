@@ -8,7 +8,7 @@ import (
 	"runtime"
 )
 
-// Member is a member, for a host that writes its own engine: docs/CALLERS.md has the loop. A call that returns a vote has recorded it: store
+// Member is a member, for a host that writes its own engine: docs/EMBEDDING.md has the loop. A call that returns a vote has recorded it: store
 // the new entries before you send the vote. One goroutine calls it at a time. Close frees it, and the garbage collector does where nobody
 // closed it. After OutOfMemory nothing has changed, or the member has failed and returns Failed until a restart; after each other status
 // nothing has changed. A closed member returns NoHandle.

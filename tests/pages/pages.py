@@ -32,7 +32,7 @@ PACKAGE = "bindings/rust/src/lib.rs"
 WRITTEN_BY_SCRIPTS = ("DEFINITIONS.md", "REFUSED.md", "SPEED.md", "RESULTS.md", "TABLES.md", "LAWS.md")
 # Pages that keep to the field's words.
 IN_PLAIN_WORDS = ("README.md", "CONTRIBUTING.md", "CHANGELOG.md", "SECURITY.md", *(f"docs/{name}.md" for name in (
-    "CALLERS", "DECISIONS", "DESIGN", "DIFFERENCES", "EMBEDDING", "GLOSSARY", "GUARANTEES", "PARTS", "PRODUCTION", "PROGRAM", "TESTED", "TRACE", "TUTORIAL")),
+    "DECISIONS", "DESIGN", "DIFFERENCES", "EMBEDDING", "GLOSSARY", "GUARANTEES", "PARTS", "PRODUCTION", "PROGRAM", "TESTED", "TRACE", "TUTORIAL")),
     "docs/inside/PROOFS.md",
     *(f"crates/{name}/CALLING.md" for name in (
         "simplex_codec", "simplex_engine", "ffi_member", "ffi_scheme", "laws_safety", "lawful_member", "simplex_member", "simplex_record", "simplex_resolver",

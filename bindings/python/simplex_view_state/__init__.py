@@ -1,7 +1,7 @@
 """An engine of the Simplex consensus protocol, over libsimplex.a, which the package holds.
 
 docs/EMBEDDING.md has the loop of a host, and simplex.h says what the host must do. The inputs are in `inputs`, the outputs in `outputs`. For
-hosts that write their own engine there are `Member`, which decides in it, and its peer `Resolver`: docs/CALLERS.md."""
+hosts that write their own engine there are `Member`, which decides in it, and its peer `Resolver`: docs/EMBEDDING.md."""
 
 from . import inputs, outputs
 from ._library import ffi as _ffi, lib as _lib

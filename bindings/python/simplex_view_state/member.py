@@ -1,4 +1,4 @@
-"""A member, for a host that writes its own engine: docs/CALLERS.md has the loop."""
+"""A member, for a host that writes its own engine: docs/EMBEDDING.md, "The member's loop"."""
 
 from __future__ import annotations
 
