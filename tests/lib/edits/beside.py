@@ -31,12 +31,19 @@ class Gate:
     def __init__(self, file, jobs):
         self.file, self.jobs = file, jobs
         self.at_work, self.changed = 0, threading.Condition()
+        self.looked, self.seen = threading.Lock(), (0, False, {})
 
-    def text(self):
-        return self.file.read_text(errors="replace") if self.file and self.file.is_file() else ""
+    def told(self):
+        """Whether the run has ended, and what it said of each crate. The file is read again only once it has grown: thirty threads look."""
+        with self.looked:
+            size = self.file.stat().st_size if self.file and self.file.is_file() else 0
+            if size != self.seen[0]:
+                text = self.file.read_text(errors="replace")
+                self.seen = size, bool(ENDED.search(text)), dict(JUDGED.findall(text))
+            return self.seen[1:]
 
     def is_at_work(self):
-        return self.file is not None and not ENDED.search(self.text())
+        return self.file is not None and not self.told()[0]
 
     def wait(self):
         """Returns when the run has ended."""
@@ -46,7 +53,7 @@ class Gate:
     def unproved(self, libraries):
         """Waits until these libraries are proved; returns the first that the run has not proved, or none."""
         while self.file is not None:
-            has_ended, judged = not self.is_at_work(), dict(JUDGED.findall(self.text()))
+            has_ended, judged = self.told()
             refused = [name for name in libraries if judged.get(name) == "NOT PROVED"]
             lacking = [name for name in libraries if name not in judged]
             if refused or has_ended and lacking:
