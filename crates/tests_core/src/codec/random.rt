@@ -8,10 +8,10 @@ use simplex_types::types::plain::{PlainDigest, PlainScheme};
 use std::alloc::{AllocError, Global};
 use std::test::Fail;
 
-/// How many inputs are read; `tests/decodings.py` sets another number here.
+/// How many inputs are read; `tests/sweeps/decodings.py` sets another number here.
 const INPUTS: u32 = 40_000;
 
-/// The seed of the generator; `tests/decodings.py` sets another number here.
+/// The seed of the generator; `tests/sweeps/decodings.py` sets another number here.
 const SEED: u64 = 7;
 
 /// A small generator of numbers, the same in each run.
