@@ -47,8 +47,9 @@ COMPILES = """import shutil, sys, sysconfig
 from pathlib import Path
 compiler, header = sysconfig.get_config_var("CC").split()[0], Path(sysconfig.get_path("include")) / "Python.h"
 sys.exit(not (shutil.which(compiler) and header.is_file()))"""
-# How long a command may take, in seconds.
+# How long a command may take, in seconds; and one that compiles all tests of the Rust package, beside other work.
 LONGEST = 300
+LONGEST_BUILD = 1200
 # The least of what each part does, where its tools are here.
 LEAST = {
     "C": {"statuses": 43, "C: scripts": 10, "C: networks": 1, "C: scripts of members": 110, "C: scripts of resolvers": RESOLVERS},
@@ -113,12 +114,12 @@ class Trial:
         self.include, self.seen, self.faults = bindings / "c/include", Counter(), []
         self.hosts, self.networks, self.members, self.resolvers = {}, {}, {}, {}
 
-    def run(self, what, *command, **given):
+    def run(self, what, *command, longest=LONGEST, **given):
         """Runs a command; returns what it writes, or None where it fails, which is a fault."""
         try:
-            done = subprocess.run([str(it) for it in command], capture_output=True, text=True, timeout=LONGEST, **given)
+            done = subprocess.run([str(it) for it in command], capture_output=True, text=True, timeout=longest, **given)
         except subprocess.TimeoutExpired:
-            self.faults.append(f"{what}: {command[0]} has not ended in {LONGEST} s")
+            self.faults.append(f"{what}: {command[0]} has not ended in {longest} s")
             return None
         if done.returncode == 0:
             return done.stdout + done.stderr
@@ -235,10 +236,7 @@ def try_oldest_rust(it):
     """The tests of the Rust package, built by the oldest compiler that it takes."""
     surroundings = oldest_rust.environment(oldest_rust.unpacked())
     surroundings |= {"SIMPLEX_ARCHIVE": str(it.archive), "CARGO_TARGET_DIR": str(it.room / "oldest-target"), "CARGO_NET_OFFLINE": "true"}
-    given = {"cwd": it.bindings / "rust", "env": surroundings}
-    if it.run("oldest Rust", "cargo", "test", "--no-run", **given) is None:
-        return
-    written = it.run("oldest Rust", "cargo", "test", **given) or ""
+    written = it.run("oldest Rust", "cargo", "test", longest=LONGEST_BUILD, cwd=it.bindings / "rust", env=surroundings) or ""
     it.seen["oldest Rust: tests"] += sum(map(int, re.findall(r"^test result: ok\. (\d+) passed", written, re.MULTILINE)))
 
 
