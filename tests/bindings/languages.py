@@ -5,7 +5,7 @@ Fixed scripts of inputs, drawn from numbers, are served by a host in each langua
 and each kind of output is among them. So are the lines of a member and of a resolver (`member_lines`; `script`, or `first_script`, and
 `resolver` in C and Rust), with restarts in place, by a resume, and from a journal that is compacted, and the scripts of members in `tests/scripts`. A network of one engine and one of four, in one process, with a member that ends and resumes from its
 disk, prints the same text in C, C++, Go and Python. Each package's own tests and lints run; C++ runs under the sanitizers of addresses and of
-undefined behaviour. Each status of the header has a text. The shared library and the archive are installed in a folder, and a host is
+undefined behaviour. The Rust package's tests are built by the compiler that its `rust-version` names. Each status of the header has a text. The shared library and the archive are installed in a folder, and a host is
 compiled against each by pkg-config, and by CMake.
 
     tests/bindings/languages.py [--archive PATH] [--only WORD]     without an archive one is built, unproved, in some minutes
@@ -28,6 +28,7 @@ from concurrent.futures import ThreadPoolExecutor
 from pathlib import Path
 
 sys.path.insert(0, str(Path(__file__).resolve().parents[1]))
+import oldest_rust
 from bindings import ENGINES, GIVEN, NETWORKS, cargo, compacting_script, engine_script, random_script, resolver_script
 from lib import scripts
 from lib.floors import lacking
@@ -46,19 +47,24 @@ COMPILES = """import shutil, sys, sysconfig
 from pathlib import Path
 compiler, header = sysconfig.get_config_var("CC").split()[0], Path(sysconfig.get_path("include")) / "Python.h"
 sys.exit(not (shutil.which(compiler) and header.is_file()))"""
-# How long a command may take, in seconds.
+# How long a command may take, in seconds; and one that compiles all tests of the Rust package, beside other work.
 LONGEST = 300
+LONGEST_BUILD = 1200
 # The least of what each part does, where its tools are here.
 LEAST = {
     "C": {"statuses": 43, "C: scripts": 10, "C: networks": 1, "C: scripts of members": 110, "C: scripts of resolvers": RESOLVERS},
     **{name: {f"{name}: tests": 14, f"{name}: scripts": 10, f"{name}: networks": 1, f"{name}: scripts of members": 110, f"{name}: scripts of resolvers": RESOLVERS}
        for name in ("C++", "Go", "Python")},
-    "Rust": {"Rust: scripts": 10, "Rust: scripts of members": 110, "Rust: scripts of resolvers": RESOLVERS}, "packaging": {"hosts of an installed library": 3},
+    "Rust": {"Rust: scripts": 10, "Rust: scripts of members": 110, "Rust: scripts of resolvers": RESOLVERS}, "oldest Rust": {"oldest Rust: tests": 55},
+    "packaging": {"hosts of an installed library": 3},
 }
 # What the replies of members and resolvers have among them.
 WORDS = ("added", "notarize", "nullify", "finalize", "propose", "prepare", "ready", "resolve", "candidates", "certified", "notarization", "timeout", "pruned",
          "record", "view", "known", "withheld", "shown", "entries", "scan", "refused", "not-allowed", "fault", "settled", "fetch", "finalized", "raised", "served")
-TOOLS = {"C": ("cc",), "C++": ("g++",), "Go": ("go", "gofmt", "cc"), "Python": ("cc",), "Rust": ("cargo", "cc"), "packaging": ("cc", "make", "pkg-config")}
+TOOLS = {"C": ("cc",), "C++": ("g++",), "Go": ("go", "gofmt", "cc"), "Python": ("cc",), "Rust": ("cargo", "cc"), "oldest Rust": ("apt-get", "dpkg-deb", "cc"),
+         "packaging": ("cc", "make", "pkg-config")}
+# What `bindings/setup` does not install.
+ELSEWHERE = ("C", "Rust", "oldest Rust")
 
 # A part, a file below `bindings`, what stands there, what is put in its place.
 WRONG_BODIES = (
@@ -89,12 +95,15 @@ WRONG_BODIES = (
     ("Python", "python/simplex_view_state/member.py", "Missing(reply.waiting, reply.lacking", "Missing(reply.lacking, reply.waiting"),
     ("Python", "python/simplex_view_state/views.py", "it.admits_vote != 0, it.admits_certificate != 0", "it.admits_certificate != 0, it.admits_vote != 0"),
     ("Python", "python/simplex_view_state/resolver.py", "known.nullification if kind", "known.notarization if kind"),
+    ("oldest Rust", "rust/src/journal.rs", "bytes.chunks_exact_mut(8).zip(numbers)", "bytes.as_chunks_mut::<8>().0.iter_mut().zip(numbers)"),
+    ("oldest Rust", "rust/src/messages.rs", "if signatures.last().is_some_and(|(before, _)| *before >= signer) {",
+     "if let Some((before, _)) = signatures.last() && *before >= signer {"),
     ("packaging", "packaging/exports.map", "global: simplex_*;", "global: simplex_member_*;"),
     ("packaging", "packaging/simplex.pc.in", "-I${includedir}", "-I${libdir}"),
     ("packaging", "packaging/simplex-config.cmake.in", "libsimplex.so.@VERSION@", "libsimplex.so.@RELEASE@"),
 )
 # The parts that a wrong body is compared with, where it is not C.
-BESIDE = {"C": ["Rust"], "packaging": []}
+BESIDE = {"C": ["Rust"], "oldest Rust": [], "packaging": []}
 
 
 class Trial:
@@ -105,12 +114,12 @@ class Trial:
         self.include, self.seen, self.faults = bindings / "c/include", Counter(), []
         self.hosts, self.networks, self.members, self.resolvers = {}, {}, {}, {}
 
-    def run(self, what, *command, **given):
+    def run(self, what, *command, longest=LONGEST, **given):
         """Runs a command; returns what it writes, or None where it fails, which is a fault."""
         try:
-            done = subprocess.run([str(it) for it in command], capture_output=True, text=True, timeout=LONGEST, **given)
+            done = subprocess.run([str(it) for it in command], capture_output=True, text=True, timeout=longest, **given)
         except subprocess.TimeoutExpired:
-            self.faults.append(f"{what}: {command[0]} has not ended in {LONGEST} s")
+            self.faults.append(f"{what}: {command[0]} has not ended in {longest} s")
             return None
         if done.returncode == 0:
             return done.stdout + done.stderr
@@ -221,6 +230,14 @@ def try_rust(it):
         it.faults.append(f"Rust: {error.stderr.decode()[-1500:]}")
         return
     it.hosts["Rust"], it.members["Rust"], it.resolvers["Rust"] = ([target / "debug/examples" / name] for name in names)
+
+
+def try_oldest_rust(it):
+    """The tests of the Rust package, built by the oldest compiler that it takes."""
+    surroundings = oldest_rust.environment(oldest_rust.unpacked())
+    surroundings |= {"SIMPLEX_ARCHIVE": str(it.archive), "CARGO_TARGET_DIR": str(it.room / "oldest-target"), "CARGO_NET_OFFLINE": "true"}
+    written = it.run("oldest Rust", "cargo", "test", longest=LONGEST_BUILD, cwd=it.bindings / "rust", env=surroundings) or ""
+    it.seen["oldest Rust: tests"] += sum(map(int, re.findall(r"^test result: ok\. (\d+) passed", written, re.MULTILINE)))
 
 
 def try_packaging(it):
@@ -348,20 +365,34 @@ def compare_networks(it, pool):
             it.faults.append(f"{name}: its network prints other lines: {text[-300:]}")
 
 
-PARTS = {"C": try_c, "C++": try_cpp, "Go": try_go, "Python": try_python, "Rust": try_rust, "packaging": try_packaging}
+PARTS = {"C": try_c, "C++": try_cpp, "Go": try_go, "Python": try_python, "Rust": try_rust, "oldest Rust": try_oldest_rust,
+         "packaging": try_packaging}
 
 
 def ready_parts(only):
     """The parts whose tools are here; what others lack is printed."""
     for name in PARTS:
-        missing = [tool for tool in TOOLS[name] if not shutil.which(tool)] + (["python3-cffi, or its compiler,"] if name == "Python" and not [*pythons()] else [])
         if only and name not in only:
             continue
+        missing = [*missing_of(name)]
         if missing:
-            installs = "" if name in ("C", "Rust") else " (bindings/setup installs it)"
+            installs = "" if name in ELSEWHERE else " (bindings/setup installs it)"
             print(f"languages: not tried: {name}, since {' and '.join(missing)} is missing{installs}")
         else:
             yield name
+
+
+def missing_of(name):
+    """What a part needs and this machine lacks."""
+    tools = [tool for tool in TOOLS[name] if not shutil.which(tool)]
+    yield from tools
+    if name == "Python" and not [*pythons()]:
+        yield "python3-cffi, or its compiler,"
+    if name == "oldest Rust" and not tools:
+        try:
+            oldest_rust.unpacked()
+        except oldest_rust.Missing as error:
+            yield f"its compiler ({error})"
 
 
 def try_all(bindings, archive, room, parts, jobs):
@@ -372,8 +403,9 @@ def try_all(bindings, archive, room, parts, jobs):
             pass
         compare_hosts(it, pool)
         compare_networks(it, pool)
-    least = {"replies": 10_000, **{f"'{kind}'": 1 for kind in GIVEN}, "replies of members": 20_000}
-    least |= {f"'{word}' of a member": 1 for word in WORDS}
+    least = {}
+    if not {"C", "Rust"}.isdisjoint(parts):
+        least = {"replies": 10_000, **{f"'{kind}'": 1 for kind in GIVEN}, "replies of members": 20_000, **{f"'{word}' of a member": 1 for word in WORDS}}
     for name in parts:
         least |= LEAST[name]
     it.faults += lacking(it.seen, least)

@@ -27,7 +27,7 @@ from lib.program import ROOT
 
 NODE = ROOT / "node"
 SKIPPED = 77
-LEAST_TESTS = 308
+LEAST_TESTS = 309
 # The libraries that the container of `node/Containerfile` has.
 IN_CONTAINER = {"libssl", "libcrypto", "libgcc_s", "libc", "libm", "libdl", "libpthread"}
 # The words of the network that `./demo` runs.
@@ -99,6 +99,9 @@ WRONG_BODIES = (
     ("blocks are pruned that the application has not stored", "archive.rs", "&& second <= durable + 1", "&& second < durable + u64::from(u32::MAX)"),
     ("a missing block is not named", "../../chain/src/final_chain.rs", "self.holes.insert(view, payload);", ""),
     ("a block that was missing changes nothing", "../../chain/src/final_chain.rs", "self.mark(block.view(), block.digest(), store)?;", ""),
+    ("the last delivered block is delivered again", "../../chain/src/final_chain.rs", "            self.drop_taken();\n        }\n        taken",
+     "            self.drop_taken();\n            taken.extend(taken.last().cloned());\n        }\n        taken"),
+    ("children are delivered before their parents", "../../chain/src/final_chain.rs", "taken.push(Entry {", "taken.insert(0, Entry {"),
     ("two final blocks on one parent are taken", "../../chain/src/final_chain.rs", "Some(same) if same == payload => return Ok(()),", "Some(_) => return Ok(()),"),
     ("fetched blocks of no chain are kept", "../../chain/src/final_chain.rs", "self.drop_taken();", ""),
     ("a segment that was begun loses the blocks before it", "archive.rs", "for number in self.numbers().into_iter().rev() {\n            let mut found = None;",

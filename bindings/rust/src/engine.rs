@@ -64,7 +64,7 @@ impl Options {
 /// engine has failed, but for the two errors that [`EngineError`] names. An engine may move between threads; one calls it at a time.
 ///
 /// A turn of a host carries out a bounded number of outputs, and then reads the clock and other inputs: a member alone, whose application
-/// answers at once, always has another output. The [front page](crate) of this crate has the loop.
+/// replies at once, always has another output. The [front page](crate) of this crate has the loop.
 pub struct Engine {
     at: NonNull<ffi::OpaqueEngine>,
 }

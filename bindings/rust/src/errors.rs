@@ -124,9 +124,9 @@ pub enum SettingsError {
     CertificationNotAboveLeader,
     /// The skip timeout is not above the certification timeout.
     SkipNotAboveCertification,
-    /// The skip timeout is not above the retry.
+    /// The skip timeout is not above [`Config::timeout_retry`](crate::Config::timeout_retry).
     SkipNotAboveRetry,
-    /// The retry is 0.
+    /// [`Config::timeout_retry`](crate::Config::timeout_retry) is 0.
     RetryZero,
     /// The view retention is 0.
     RetentionZero,

@@ -1,36 +1,37 @@
-//! What an engine stores of a member.
+//! What a host stores of a member: its journal, and the bytes beside it.
 
 use crate::ffi;
 
-/// What a member recorded, as bytes: they are appended to the journal, with what is stored beside it.
+/// New entries of a member's record, as bytes, and what to store beside the journal with them.
 #[derive(Clone, PartialEq, Eq, Debug)]
 pub struct Entries {
-    /// Frames, one behind the other: a length and its complement, in four bytes each, the entry, and its SHA-256 digest.
+    /// The bytes to append: frames, one after another, each a length and its complement in four bytes each, the entry, and its SHA-256 digest.
     pub bytes: Vec<u8>,
-    /// What is stored beside the journal; `stored.entries` is what the next [`Member::entries_since`](crate::Member::entries_since) takes.
+    /// What to store beside the journal; `stored.entries` is what the next [`Member::entries_since`](crate::Member::entries_since) takes.
     pub stored: Stored,
 }
 
-/// How many entries of a record.
+/// A number of entries of a record.
 #[derive(Clone, Copy, PartialEq, Eq, PartialOrd, Ord, Hash, Debug, Default)]
 pub struct EntryCount(pub(crate) u64);
 
 impl EntryCount {
-    /// None.
+    /// No entry.
     pub const ZERO: EntryCount = EntryCount(0);
 
-    /// So many.
+    /// Makes the count of this number.
     pub const fn new(count: u64) -> EntryCount {
         EntryCount(count)
     }
 
-    /// Their number.
+    /// Returns the number.
     pub const fn get(self) -> u64 {
         self.0
     }
 }
 
-/// What is stored beside a journal, and comes back with it.
+/// What a host stores beside a journal, as 33 bytes, and passes with it to a resume ([`Engine::resume`](crate::Engine::resume),
+/// [`Member::resume`](crate::Member::resume)).
 ///
 /// ```
 /// use simplex_view_state::Stored;
@@ -51,10 +52,10 @@ pub struct Stored {
 }
 
 impl Stored {
-    /// How many bytes it is stored as.
+    /// The length of [`to_bytes`](Stored::to_bytes).
     pub const SIZE: usize = 33;
 
-    /// Its bytes: four numbers, big-endian, and a flag.
+    /// Returns its bytes: four numbers, big-endian, and a flag.
     pub fn to_bytes(&self) -> [u8; Stored::SIZE] {
         let mut bytes = [0; Stored::SIZE];
         let numbers = [self.entries.0, self.closed, self.retention, self.least_retention];
@@ -65,7 +66,7 @@ impl Stored {
         bytes
     }
 
-    /// What was stored as these bytes; none where they are no such bytes.
+    /// Returns what [`to_bytes`](Stored::to_bytes) made these bytes of; `None` where it can't have made them.
     pub fn from_bytes(bytes: &[u8]) -> Option<Stored> {
         let (numbers, flag) = bytes.split_first_chunk::<32>()?;
         let mut numbers = numbers
@@ -106,30 +107,30 @@ impl Stored {
     }
 }
 
-/// What the bytes of a journal are.
+/// What [`scan`] finds in the bytes of a journal.
 #[derive(Clone, Copy, PartialEq, Eq, Hash, Debug)]
 pub struct Scan {
-    /// How many whole entries stand in front.
+    /// The number of whole entries at its start.
     pub entries: EntryCount,
-    /// How many bytes these are: an append that was cut off by a crash is truncated to here.
+    /// The length of those entries in bytes. Truncate a journal that is [`Cut`](Ending::Cut) to it.
     pub bytes: usize,
-    /// How the journal ends behind them.
+    /// How the journal ends after them.
     pub ending: Ending,
 }
 
-/// How a journal ends behind its whole entries.
+/// How a journal ends after its whole entries.
 #[derive(Clone, Copy, PartialEq, Eq, Hash, Debug)]
 pub enum Ending {
-    /// There is nothing behind them.
+    /// Nothing comes after them.
     Whole,
-    /// Within an entry, as an append ends that was cut off. An entry that has all its bytes is never told so, whatever was changed in it,
-    /// unless its length and its complement were changed alike.
+    /// The journal ends within an entry, as after a crash amid an append: truncate it to [`Scan::bytes`], and resume. An entry that has all
+    /// its bytes is never reported so, whatever was changed in it, unless its length and the complement were changed alike.
     Cut,
-    /// The entry behind them is damaged: bytes of it were changed.
+    /// Bytes of the entry after them were changed. Such a member must not resume: it could vote twice.
     Damaged,
 }
 
-/// Reads the entries of a journal, and tells where they end.
+/// Returns how many entries of a journal are whole, and how it ends after them.
 ///
 /// ```
 /// use simplex_view_state::{Ending, scan};

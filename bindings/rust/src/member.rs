@@ -51,7 +51,7 @@ mod kind {
 pub struct Cut {
     /// At most this number of the last entries, but never a vote or an entry before one.
     pub last: EntryCount,
-    /// All entries further below the highest finalized view than the last lifetime's retention.
+    /// Whether it removes all entries further below the highest finalized view than the last lifetime's retention.
     pub prune: bool,
 }
 
@@ -555,7 +555,7 @@ impl Member {
         Ok(self.make(&timed(kind::TRIGGER_TIMEOUT, view, reason, now), &[])?.flag != 0)
     }
 
-    /// Returns the next timeout of the current view. Once it has come, the member votes to nullify the view.
+    /// Returns the next timeout of the current view. Once it has come, call [`Member::construct_nullify`] with the view and the reason.
     ///
     /// # Errors
     ///

@@ -327,7 +327,7 @@ pub struct Notarize {
     pub text: Vec<u8>,
 }
 
-/// An order to vote to nullify a round.
+/// An order to vote to nullify a round: first store the record, then sign the text with the signer's key, then send the vote.
 #[derive(Clone, PartialEq, Eq, Hash, Debug)]
 #[must_use = "a vote that is dropped is not ordered again until it is asked for as a repeat"]
 pub struct Nullify {
@@ -337,7 +337,7 @@ pub struct Nullify {
     pub signer: Participant,
     /// The text to sign: `Subject::Nullify(round).encode()`.
     pub text: Vec<u8>,
-    /// The vote was ordered before: it is in the record already.
+    /// Whether the vote was ordered before, so that it is in the record already.
     pub is_repeat: bool,
 }
 
@@ -446,9 +446,9 @@ pub enum Verify {
 /// The result of a certificate that was passed.
 #[derive(Clone, Copy, PartialEq, Eq, Hash, Debug)]
 pub struct Added {
-    /// It is new.
+    /// Whether the certificate is new.
     pub is_new: bool,
-    /// A leader that proposed twice in the view.
+    /// The view's leader, if the certificates show that it proposed twice.
     pub equivocator: Option<Participant>,
 }
 

@@ -95,7 +95,8 @@ pub enum Floor {
 #[derive(Clone, Copy, PartialEq, Eq, Debug)]
 pub struct Skip {
     /// The time after which a leader counts as inactive. The host finds that out, and reports it by
-    /// [`Member::trigger_timeout`](crate::Member::trigger_timeout); the library tests only that it is above the other timeouts.
+    /// [`Input::GivenUp`](crate::Input::GivenUp) or [`Member::trigger_timeout`](crate::Member::trigger_timeout); the library tests only that
+    /// it is above the other timeouts.
     pub timeout: Duration,
     /// The number of unfinalized terms that may be skipped; `None` for the number of members.
     pub budget: Option<NonZeroU64>,

@@ -3,20 +3,69 @@
 mod common;
 
 use common::{Block, GENESIS, certificate, chain, chain_behind, proposal};
-use simplex_chain::{FinalChain, Tail};
+use proptest::collection::vec;
+use proptest::prelude::*;
+use proptest::sample::Index;
+use proptest::test_runner::{Config, RngAlgorithm, TestCaseResult, TestRng, TestRunner};
+use simplex_chain::{Delivery, FinalChain, Tail};
 use simplex_view_state::Digest;
 use std::collections::HashMap;
 
-/// Numbers that follow from a seed: xorshift.
-struct Random(u64);
+const HOSTS: usize = 3;
 
-impl Random {
-    fn below(&mut self, most: usize) -> usize {
-        self.0 ^= self.0 << 13;
-        self.0 ^= self.0 >> 7;
-        self.0 ^= self.0 << 17;
-        (self.0 % most.max(1) as u64) as usize
+/// Tries a property on as many inputs, the same ones in each run. A failure is shrunk, and no file is written.
+fn check<S: Strategy>(cases: u32, inputs: &S, property: impl Fn(S::Value) -> TestCaseResult) {
+    let config = Config {
+        cases,
+        failure_persistence: None,
+        max_shrink_iters: 20_000,
+        ..Config::default()
+    };
+    let mut runner = TestRunner::new_with_rng(config, TestRng::deterministic_rng(RngAlgorithm::ChaCha));
+    if let Err(error) = runner.run(inputs, property) {
+        panic!("{error}");
     }
+}
+
+/// What happens to a host. An index is a place among the blocks that it may have heard of by then.
+#[derive(Clone, Debug)]
+enum Event {
+    /// A block of the chain comes.
+    Block(Index),
+    /// A block of a branch that dies comes.
+    Branch(Index),
+    /// A block is reported as final.
+    Final(Index),
+    /// A range of final blocks comes, with the finalization of its last one.
+    Range(Index, Index),
+    /// The application takes what is ready.
+    Deliver,
+    /// The process ends after the application took some blocks, the disk loses one block in seven, and another process begins.
+    Restart { taken: usize, lost: u8 },
+}
+
+fn event() -> impl Strategy<Value = Event> {
+    let index = any::<Index>;
+    prop_oneof![
+        4 => index().prop_map(Event::Block),
+        1 => index().prop_map(Event::Branch),
+        3 => index().prop_map(Event::Final),
+        1 => (index(), index()).prop_map(|(one, other)| Event::Range(one, other)),
+        2 => Just(Event::Deliver),
+        1 => (0..3usize, 0..7u8).prop_map(|(taken, lost)| Event::Restart { taken, lost }),
+    ]
+}
+
+/// The views of a chain, each a few above the one before.
+fn views() -> impl Strategy<Value = Vec<u64>> {
+    let sums = |steps: Vec<u64>| {
+        let next = |view: &mut u64, step| {
+            *view += step;
+            Some(*view)
+        };
+        steps.into_iter().scan(0, next).collect()
+    };
+    vec(1..=3u64, 1..=60).prop_map(sums)
 }
 
 /// A host: what it keeps over its lifetimes, and the chain of this one.
@@ -48,114 +97,128 @@ impl Host {
     }
 
     /// Hands what is ready to the application. It may end before it has all of that.
-    fn deliver(&mut self, most: usize) {
+    fn deliver(&mut self, most: usize) -> TestCaseResult {
         for entry in self.chain.take(&self.store).into_iter().take(most) {
-            assert_eq!(entry.height, self.delivered.len() as u64 + 1);
+            prop_assert_eq!(entry.height, self.delivered.len() as u64 + 1);
             self.delivered.push(entry.block);
         }
+        Ok(())
     }
 
     /// The process ends, and another one begins: with the application's last block, and the last finalization in the record.
-    fn begin_again(&mut self) {
+    fn begin_again(&mut self) -> TestCaseResult {
         self.chain = FinalChain::new(self.tail());
         if let Some(last) = self.last.clone() {
-            self.chain
-                .finalize(&proposal(&last), Some(certificate(&last)), &self.store)
-                .expect("no fork");
+            self.chain.finalize(&proposal(&last), Some(certificate(&last)), &self.store)?;
         }
+        Ok(())
     }
 
-    fn finalized(&mut self, block: &Block) {
+    fn finalized(&mut self, block: &Block) -> TestCaseResult {
         if self.last.as_ref().is_none_or(|it| it.view < block.view) {
             self.last = Some(block.clone());
         }
-        self.chain
-            .finalize(&proposal(block), Some(certificate(block)), &self.store)
-            .expect("no fork");
+        Ok(self.chain.finalize(&proposal(block), Some(certificate(block)), &self.store)?)
     }
 
-    fn got(&mut self, block: &Block) {
+    fn got(&mut self, block: &Block) -> TestCaseResult {
         self.store.insert(block.digest, block.clone());
-        self.chain.arrived(block, &self.store).expect("no fork");
+        Ok(self.chain.arrived(block, &self.store)?)
     }
-}
 
-/// Blocks of the final chain, and of branches that die.
-fn made(random: &mut Random) -> (Vec<Block>, Vec<Block>) {
-    let mut view = 0;
-    let views: Vec<u64> = (0..60)
-        .map(|_| {
-            view += 1 + random.below(3) as u64;
-            view
-        })
-        .collect();
-    let chain = chain(&views);
-    let branches = chain.iter().step_by(5).flat_map(|it| {
-        let views = [it.view.get() + 1, it.view.get() + 2];
-        chain_behind((it.view, it.digest), &views, 2)
-    });
-    let branches = branches.collect();
-    (chain, branches)
-}
-
-fn disturb(host: &mut Host, chain: &[Block], branches: &[Block], random: &mut Random) {
-    // A window that moves up: what is final, and what comes, is about there.
-    let reach = (host.delivered.len() + 12).min(chain.len());
-    match random.below(12) {
-        0..=3 => host.got(&chain[random.below(reach)]),
-        4 => host.got(&branches[random.below(branches.len())]),
-        5..=7 => host.finalized(&chain[random.below(reach)]),
-        8 => {
-            let (one, other) = (random.below(reach), random.below(reach));
-            let (from, to) = (one.min(other), one.max(other));
-            let range = chain[from..=to].iter().rev().cloned().collect();
-            host.chain.add(certificate(&chain[to]), range, &host.store).expect("no fork");
+    fn happens(&mut self, event: &Event, chain: &[Block], branches: &[Block]) -> TestCaseResult {
+        // A window that moves up: what is final, and what comes, is about there.
+        let reach = (self.delivered.len() + 12).min(chain.len());
+        match event {
+            Event::Block(at) => self.got(&chain[at.index(reach)]),
+            Event::Branch(at) => self.got(at.get(branches)),
+            Event::Final(at) => self.finalized(&chain[at.index(reach)]),
+            Event::Range(one, other) => {
+                let (one, other) = (one.index(reach), other.index(reach));
+                let range: Vec<Block> = chain[one.min(other)..=one.max(other)].iter().rev().cloned().collect();
+                Ok(self.chain.add(certificate(&range[0]), range, &self.store)?)
+            }
+            Event::Deliver => self.deliver(usize::MAX),
+            Event::Restart { taken, lost } => {
+                self.deliver(*taken)?;
+                self.store.retain(|digest, _| digest.bytes()[7] % 7 != *lost);
+                self.begin_again()
+            }
         }
-        9 => {
-            // It ends while the application takes blocks, and the disk loses some.
-            host.deliver(random.below(3));
-            let lost = random.below(7);
-            host.store.retain(|digest, _| digest.bytes()[7] % 7 != lost as u8);
-            host.begin_again();
+    }
+
+    /// Gives the host what it names, until nothing is missing.
+    fn heal(&mut self, chain: &[Block]) -> TestCaseResult {
+        self.finalized(chain.last().expect("a chain"))?;
+        let mut asked = 0;
+        while let Some((view, digest)) = self.chain.hole() {
+            let block = chain.iter().find(|it| it.digest == digest);
+            let block = block.ok_or_else(|| TestCaseError::fail("it names a block of a branch"))?;
+            prop_assert!(block.view == view && !self.store.contains_key(&digest));
+            asked += 1;
+            prop_assert!(asked <= chain.len(), "it asks for each once");
+            self.got(block)?;
+            self.deliver(usize::MAX)?;
         }
-        _ => host.deliver(usize::MAX),
+        self.deliver(usize::MAX)
     }
 }
 
-/// Gives a host what it names, until nothing is missing.
-fn heal(host: &mut Host, chain: &[Block]) {
-    host.finalized(chain.last().expect("a chain"));
-    let mut asked = 0;
-    while let Some((view, digest)) = host.chain.hole() {
-        let block = chain.iter().find(|it| it.digest == digest).expect("it names blocks of the chain");
-        assert!(block.view == view && !host.store.contains_key(&digest));
-        asked += 1;
-        assert!(asked <= chain.len(), "it asks for each once");
-        host.got(block);
-        host.deliver(usize::MAX);
-    }
-    host.deliver(usize::MAX);
+/// Branches of two blocks, on every fifth block of the chain.
+fn branches_of(chain: &[Block]) -> Vec<Block> {
+    let branch = |it: &Block| chain_behind((it.view, it.digest), &[it.view.get() + 1, it.view.get() + 2], 2);
+    chain.iter().step_by(5).flat_map(branch).collect()
 }
 
 #[test]
 fn all_hosts_deliver_one_sequence() {
-    for seed in 1..400 {
-        let mut random = Random(seed);
-        let (chain, branches) = made(&mut random);
-        let mut hosts = [Host::new(), Host::new(), Host::new()];
-        for _ in 0..400 {
-            let host = &mut hosts[random.below(3)];
-            disturb(host, &chain, &branches, &mut random);
-            assert_eq!(
-                host.delivered,
-                chain[..host.delivered.len()],
-                "seed {seed}: a beginning of the chain"
-            );
+    let runs = (views(), vec((0..HOSTS, event()), 0..=400));
+    check(500, &runs, |(views, events)| {
+        let chain = chain(&views);
+        let branches = branches_of(&chain);
+        let mut hosts: [Host; HOSTS] = std::array::from_fn(|_| Host::new());
+        for (at, event) in &events {
+            let host = &mut hosts[*at];
+            host.happens(event, &chain, &branches)?;
+            let count = host.delivered.len().min(chain.len());
+            prop_assert_eq!(&host.delivered[..], &chain[..count], "not a beginning of the chain");
         }
         for host in &mut hosts {
-            heal(host, &chain);
-            assert_eq!(host.delivered, chain, "seed {seed}");
-            assert_eq!((host.chain.fetched_bytes(), host.chain.tail()), (0, host.tail()));
+            host.heal(&chain)?;
+            prop_assert_eq!(&host.delivered, &chain);
+            prop_assert_eq!((host.chain.fetched_bytes(), host.chain.tail()), (0, host.tail()));
         }
-    }
+        Ok(())
+    });
+}
+
+/// An input of a [`Delivery`], with the place of a block.
+#[derive(Clone, Debug)]
+enum Input {
+    Insert(usize),
+    Finalize(usize),
+}
+
+#[test]
+fn a_delivery_returns_one_sequence_whatever_the_order() {
+    let with_inputs = |views: Vec<u64>| {
+        let count = views.len();
+        let twice = (0..2 * count).map(|it| it % count);
+        let inputs: Vec<Input> = twice.flat_map(|it| [Input::Insert(it), Input::Finalize(it)]).collect();
+        (Just(views), Just(inputs).prop_shuffle())
+    };
+    check(400, &views().prop_flat_map(with_inputs), |(views, inputs)| {
+        let chain = chain(&views);
+        let (mut delivery, mut returned) = (Delivery::new(GENESIS), Vec::new());
+        for input in inputs {
+            returned.extend(match input {
+                Input::Insert(at) => delivery.insert(chain[at].clone())?,
+                Input::Finalize(at) => delivery.finalize(&proposal(&chain[at]))?,
+            });
+            let count = returned.len().min(chain.len());
+            prop_assert_eq!(&returned[..], &chain[..count], "not a beginning of the chain");
+        }
+        prop_assert_eq!((&returned, delivery.hole()), (&chain, None));
+        Ok(())
+    });
 }
