@@ -27,7 +27,7 @@ from lib.program import ROOT
 
 NODE = ROOT / "node"
 SKIPPED = 77
-LEAST_TESTS = 308
+LEAST_TESTS = 314
 # The libraries that the container of `node/Containerfile` has.
 IN_CONTAINER = {"libssl", "libcrypto", "libgcc_s", "libc", "libm", "libdl", "libpthread"}
 # The words of the network that `./demo` runs.
@@ -144,6 +144,21 @@ WRONG_BODIES = (
     ("a node that can't store continues", "replica.rs", "Output::Store(entries) => self.parts.journal.append(&entries)?,",
      "Output::Store(entries) => drop(self.parts.journal.append(&entries)),"),
     ("a record is made short and the journal kept", "replica.rs", "self.parts.journal.replace(&entries)?;", "drop(entries);"),
+    ("a write of the journal that failed is ignored", "../../journal/src/journal.rs", "it.file.as_mut().map_or(Ok(()), |file| file.write_all(&piece))?;",
+     "let _ = it.file.as_mut().map_or(Ok(()), |file| file.write_all(&piece));"),
+    ("a sync of the journal that failed is ignored", "../../journal/src/journal.rs", "it.file.as_ref().map_or(Ok(()), File::sync_data)?;",
+     "let _ = it.file.as_ref().map_or(Ok(()), File::sync_data);"),
+    ("a new journal is not synced", "../../journal/src/journal.rs", "    file.sync_all()?;\n    fs::rename", "    fs::rename"),
+    ("the folder of a new journal is not synced", "../../journal/src/journal.rs", "path(folder))?;\n    sync_folder(folder)\n", "path(folder))\n"),
+    ("the folder above a new one is not synced", "../../journal/src/journal.rs", "    missing\n        .iter()", "    missing[..0]\n        .iter()"),
+    ("the folder of a new segment is not synced", "segments.rs", "            sync_folder(&self.folder)?;\n", ""),
+    ("the folder above new segments is not synced", "segments.rs", "            sync_folder(folder.parent().unwrap_or(Path::new(\".\")))?;\n", ""),
+    ("what an earlier process wrote is not synced", "segments.rs", "        segments.is_dirty = true;\n", ""),
+    ("blocks that can't be written are ignored", "segments.rs", "file.write_all(&framed).map_err(not_stored(&segment))?;",
+     "let _ = file.write_all(&framed).map_err(not_stored(&segment));"),
+    ("an archive that can't be stored is logged alone", "archive/keeper.rs",
+     "self.inbox.tell(Event::Failed(format!(\"the archive: {error}\")));\n                return;", "self.log(&error);"),
+    ("a chain that can't be stored is ignored", "ledger.rs", "self.file.sync_data().map_err(not_stored(&self.path))?;", "let _ = self.file.sync_data();"),
     ("two processes have one key", "../../journal/src/journal.rs", "Err(TryLockError::WouldBlock) => Err(JournalError::new(folder, Cause::InUse)),",
      "Err(TryLockError::WouldBlock) => Ok(file),"),
     ("a leader that proposes early and often takes all room", "replica.rs", "if is_near && (is_first || self.parts.engine.admits_vote(view)) {", "if is_near {"),

@@ -138,6 +138,14 @@ impl Network {
         self.begin_limited(index, &format!("ulimit -n {files}"))
     }
 
+    /// Begins a node with these variables in its environment.
+    pub fn begin_with_variables(&mut self, index: u32, variables: &[(&str, String)]) -> Outcome {
+        let mut command = Command::new(&self.plan.program);
+        command.arg("--config").arg(self.config(index));
+        command.envs(variables.iter().map(|(name, value)| (name, value)));
+        self.begin_by(index, command)
+    }
+
     fn begin_limited(&mut self, index: u32, limit: &str) -> Outcome {
         let script = format!("{limit}; exec \"$0\" --config \"$1\"");
         let mut command = Command::new("sh");
