@@ -27,7 +27,7 @@ from lib.program import ROOT
 
 NODE = ROOT / "node"
 SKIPPED = 77
-LEAST_TESTS = 314
+LEAST_TESTS = 317
 # The libraries that the container of `node/Containerfile` has.
 IN_CONTAINER = {"libssl", "libcrypto", "libgcc_s", "libc", "libm", "libdl", "libpthread"}
 # The words of the network that `./demo` runs.
@@ -164,11 +164,11 @@ WRONG_BODIES = (
     ("a leader that proposes early and often takes all room", "replica.rs", "if is_near && (is_first || self.parts.engine.admits_vote(view)) {", "if is_near {"),
     ("all blocks of a leader are kept", "replica.rs", "if is_near && is_first || self.waiting", "if is_near || self.waiting"),
     ("a peer that floods holds up the others", "../../net/src/inbox.rs", "self.turn = (index + 1) % count;", "self.turn = 0;"),
-    ("a node that lost its journal begins anew", "start.rs", "(None, Some(left)) => Err(format!(", "(None, Some(left)) if false => Err(format!("),
-    ("a node whose disk is not mounted begins anew", "start.rs", "if recovered.is_none() && settings.has_journal {", "if false {"),
+    ("a node without a journal makes one", "start.rs", "test_journal(&settings.data)?;", "let _ = (test_journal(&settings.data), crate::init(settings));"),
+    ("what a lost journal left is not named", "start.rs", "match places.into_iter().find(|it| it.exists()) {", "match places.into_iter().find(|_| false) {"),
+    ("init takes a folder that holds something", "init.rs", "    test_empty(folder)?;\n", "    let _ = test_empty(folder);\n"),
     ("a journal of another key is taken", "../../journal/src/journal.rs", "Some(difference) => Err(refused(Cause::Other(difference))),", "Some(_) => Ok(Some(recovered)),"),
     ("a journal that is older than the chain is taken", "start.rs", "if height == 0 || last <= finalized {", "if true {"),
-    ("a journal that is lost beside a chain is begun anew", "start.rs", "if recovered.is_none() && height > 0 {", "if false {"),
     ("a block is final before its finalization is stored", "replica.rs", "matches!(output, Output::Finalized(_)) || is_behind", "is_behind"),
     ("a run removes what it did not write", "run_folder.rs", "if !is_empty && !is_marked {", "if false {"),
     ("blocks are built without a pause", "pace.rs", "let due = self.last.map_or(now, |last| last + self.least);", "let due = now;"),

@@ -337,3 +337,25 @@ fn what_an_earlier_process_wrote_is_synced_at_the_start() {
     network.stop().expect("it stops");
     fs::remove_dir_all(network.folder()).expect("a folder");
 }
+
+/// `simplex-node init` makes what a node can't make again: the journal, and the folders above it.
+#[test]
+fn a_folder_that_init_made_is_on_the_disk() {
+    let mut network = Network::new(plan("disk-init")).expect("keys and settings");
+    network.set(0, |it| it.data = "deep/er/0".into()).expect("settings");
+    let disk = Disk::of(&network);
+    let done = Command::new(env!("CARGO_BIN_EXE_simplex-node"))
+        .args(["init", "--config"])
+        .arg(network.config(0))
+        .envs(disk.variables(None))
+        .output()
+        .expect("a process");
+    assert!(done.status.success(), "{}", String::from_utf8_lossy(&done.stderr));
+    let calls = disk.calls();
+    assert!(
+        calls.iter().any(|it| it[0] == "rename" && it[2] == "deep/er/0/journal"),
+        "{calls:?}"
+    );
+    assert_eq!(without_name(&calls), Vec::<&str>::new(), "{calls:?}");
+    fs::remove_dir_all(network.folder()).expect("a folder");
+}
