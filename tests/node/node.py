@@ -27,7 +27,7 @@ from lib.program import ROOT
 
 NODE = ROOT / "node"
 SKIPPED = 77
-LEAST_TESTS = 317
+LEAST_TESTS = 320
 # The libraries that the container of `node/Containerfile` has.
 IN_CONTAINER = {"libssl", "libcrypto", "libgcc_s", "libc", "libm", "libdl", "libpthread"}
 # The words of the network that `./demo` runs.
@@ -159,6 +159,11 @@ WRONG_BODIES = (
     ("an archive that can't be stored is logged alone", "archive/keeper.rs",
      "self.inbox.tell(Event::Failed(format!(\"the archive: {error}\")));\n                return;", "self.log(&error);"),
     ("a chain that can't be stored is ignored", "ledger.rs", "self.file.sync_data().map_err(not_stored(&self.path))?;", "let _ = self.file.sync_data();"),
+    ("a vote that a signer did not store is signed when it is asked for again", "signer/guard.rs", "        if self.has_failed {\n", "        if false {\n"),
+    ("a new file that a crash left stays", "signer/guard.rs", "        guard.remove_left_files();\n", ""),
+    ("a new file of others is removed", "signer/guard.rs", "text.starts_with(of_owner) && text[..end].lines().skip(1).all(is_stored)", "end > 0 || is_stored(text) || true"),
+    ("a file that another signer replaced is taken", "signer/guard.rs", "Ok(()) if is_named().map_err(|error| at(path, error))? => Ok(()),",
+     "Ok(()) if is_named().is_ok() => Ok(()),"),
     ("two processes have one key", "../../journal/src/journal.rs", "Err(TryLockError::WouldBlock) => Err(JournalError::new(folder, Cause::InUse)),",
      "Err(TryLockError::WouldBlock) => Ok(file),"),
     ("a leader that proposes early and often takes all room", "replica.rs", "if is_near && (is_first || self.parts.engine.admits_vote(view)) {", "if is_near {"),
