@@ -27,7 +27,7 @@ from lib.program import ROOT
 
 NODE = ROOT / "node"
 SKIPPED = 77
-LEAST_TESTS = 320
+LEAST_TESTS = 324
 # The libraries that the container of `node/Containerfile` has.
 IN_CONTAINER = {"libssl", "libcrypto", "libgcc_s", "libc", "libm", "libdl", "libpthread"}
 # The words of the network that `./demo` runs.
@@ -164,6 +164,8 @@ WRONG_BODIES = (
     ("a new file of others is removed", "signer/guard.rs", "text.starts_with(of_owner) && text[..end].lines().skip(1).all(is_stored)", "end > 0 || is_stored(text) || true"),
     ("a file that another signer replaced is taken", "signer/guard.rs", "Ok(()) if is_named().map_err(|error| at(path, error))? => Ok(()),",
      "Ok(()) if is_named().is_ok() => Ok(()),"),
+    ("who is slow with a request is waited for", "http.rs", "self.stream.set_read_timeout(self.left()?)?;", "self.stream.set_read_timeout(Some(WITHIN))?;"),
+    ("who does not read a reply is waited for", "http.rs", "self.stream.set_write_timeout(self.left()?)?;", "self.stream.set_write_timeout(None)?;"),
     ("two processes have one key", "../../journal/src/journal.rs", "Err(TryLockError::WouldBlock) => Err(JournalError::new(folder, Cause::InUse)),",
      "Err(TryLockError::WouldBlock) => Ok(file),"),
     ("a leader that proposes early and often takes all room", "replica.rs", "if is_near && (is_first || self.parts.engine.admits_vote(view)) {", "if is_near {"),

@@ -60,6 +60,7 @@ pub mod events;
 pub mod evidence;
 pub mod faults;
 pub mod floor;
+pub mod http;
 pub mod inbox;
 pub mod init;
 pub mod leader_votes;
