@@ -27,7 +27,7 @@ from lib.program import ROOT
 
 NODE = ROOT / "node"
 SKIPPED = 77
-LEAST_TESTS = 324
+LEAST_TESTS = 325
 # The libraries that the container of `node/Containerfile` has.
 IN_CONTAINER = {"libssl", "libcrypto", "libgcc_s", "libc", "libm", "libdl", "libpthread"}
 # The words of the network that `./demo` runs.
@@ -166,6 +166,7 @@ WRONG_BODIES = (
      "Ok(()) if is_named().is_ok() => Ok(()),"),
     ("who is slow with a request is waited for", "http.rs", "self.stream.set_read_timeout(self.left()?)?;", "self.stream.set_read_timeout(Some(WITHIN))?;"),
     ("who does not read a reply is waited for", "http.rs", "self.stream.set_write_timeout(self.left()?)?;", "self.stream.set_write_timeout(None)?;"),
+    ("the lag counts what is passed to the archive", "replica/finality.rs", "target.get().saturating_sub(self.parts.keeper.synced().get())", "views"),
     ("two processes have one key", "../../journal/src/journal.rs", "Err(TryLockError::WouldBlock) => Err(JournalError::new(folder, Cause::InUse)),",
      "Err(TryLockError::WouldBlock) => Ok(file),"),
     ("a leader that proposes early and often takes all room", "replica.rs", "if is_near && (is_first || self.parts.engine.admits_vote(view)) {", "if is_near {"),

@@ -359,3 +359,22 @@ fn a_folder_that_init_made_is_on_the_disk() {
     assert_eq!(without_name(&calls), Vec::<&str>::new(), "{calls:?}");
     fs::remove_dir_all(network.folder()).expect("a folder");
 }
+
+/// Blocks that wait for the disk are not archived yet.
+#[test]
+fn the_lag_counts_what_the_disk_has() {
+    let alone = Plan {
+        nodes: 1,
+        ..plan("disk-lag")
+    };
+    let mut network = Network::new(alone).expect("keys and settings");
+    let mut variables = Disk::of(&network).variables(None);
+    variables.push(("DISK_DELAYS", "0/archive/* 600000".to_owned()));
+    network.begin_with_variables(0, &variables).expect("a process");
+    assert!(network.wait_until(&[0], "lag_views", 20, SOON), "{}", log(&network));
+    network.kill(0).expect("a process");
+    network.begin(0).expect("a process");
+    assert!(network.wait_until(&[0], "height", 30, SOON), "{}", log(&network));
+    network.stop().expect("it stops");
+    fs::remove_dir_all(network.folder()).expect("a folder");
+}
