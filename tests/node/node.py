@@ -167,6 +167,12 @@ WRONG_BODIES = (
     ("who is slow with a request is waited for", "http.rs", "self.stream.set_read_timeout(self.left()?)?;", "self.stream.set_read_timeout(Some(WITHIN))?;"),
     ("who does not read a reply is waited for", "http.rs", "self.stream.set_write_timeout(self.left()?)?;", "self.stream.set_write_timeout(None)?;"),
     ("the lag counts what is passed to the archive", "replica/finality.rs", "target.get().saturating_sub(self.parts.keeper.synced().get())", "views"),
+    ("each final view writes all blocks again", "blocks.rs", "        let last = self.segments.lengths().last_key_value().map(|(number, _)| *number);\n",
+     "        for block in self.by_payload.values() {\n            let (segment, _) = self.segments.append(self.next, block.bytes())?;\n"
+     "            self.next += 1;\n            self.highest.insert(segment, archived);\n        }\n"
+     "        let last = self.segments.lengths().last_key_value().map(|(number, _)| *number);\n"),
+    ("blocks that are passed stay on the disk", "blocks.rs", "self.highest.iter().filter_map(is_over).collect();",
+     "self.highest.iter().filter_map(is_over).take(0).collect();"),
     ("two processes have one key", "../../journal/src/journal.rs", "Err(TryLockError::WouldBlock) => Err(JournalError::new(folder, Cause::InUse)),",
      "Err(TryLockError::WouldBlock) => Ok(file),"),
     ("a leader that proposes early and often takes all room", "replica.rs", "if is_near && (is_first || self.parts.engine.admits_vote(view)) {", "if is_near {"),
