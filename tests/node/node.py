@@ -27,7 +27,7 @@ from lib.program import ROOT
 
 NODE = ROOT / "node"
 SKIPPED = 77
-LEAST_TESTS = 309
+LEAST_TESTS = 326
 # The libraries that the container of `node/Containerfile` has.
 IN_CONTAINER = {"libssl", "libcrypto", "libgcc_s", "libc", "libm", "libdl", "libpthread"}
 # The words of the network that `./demo` runs.
@@ -147,16 +147,45 @@ WRONG_BODIES = (
     ("a node that can't store continues", "replica.rs", "Output::Store(entries) => self.parts.journal.append(&entries)?,",
      "Output::Store(entries) => drop(self.parts.journal.append(&entries)),"),
     ("a record is made short and the journal kept", "replica.rs", "self.parts.journal.replace(&entries)?;", "drop(entries);"),
+    ("a write of the journal that failed is ignored", "../../journal/src/journal.rs", "it.file.as_mut().map_or(Ok(()), |file| file.write_all(&piece))?;",
+     "let _ = it.file.as_mut().map_or(Ok(()), |file| file.write_all(&piece));"),
+    ("a sync of the journal that failed is ignored", "../../journal/src/journal.rs", "it.file.as_ref().map_or(Ok(()), File::sync_data)?;",
+     "let _ = it.file.as_ref().map_or(Ok(()), File::sync_data);"),
+    ("a new journal is not synced", "../../journal/src/journal.rs", "    file.sync_all()?;\n    fs::rename", "    fs::rename"),
+    ("the folder of a new journal is not synced", "../../journal/src/journal.rs", "path(folder))?;\n    sync_folder(folder)\n", "path(folder))\n"),
+    ("the folder above a new one is not synced", "../../journal/src/journal.rs", "    missing\n        .iter()", "    missing[..0]\n        .iter()"),
+    ("the folder of a new segment is not synced", "segments.rs", "            sync_folder(&self.folder)?;\n", ""),
+    ("the folder above new segments is not synced", "segments.rs", "            sync_folder(folder.parent().unwrap_or(Path::new(\".\")))?;\n", ""),
+    ("what an earlier process wrote is not synced", "segments.rs", "        segments.is_dirty = true;\n", ""),
+    ("blocks that can't be written are ignored", "segments.rs", "file.write_all(&framed).map_err(not_stored(&segment))?;",
+     "let _ = file.write_all(&framed).map_err(not_stored(&segment));"),
+    ("an archive that can't be stored is logged alone", "archive/keeper.rs",
+     "self.inbox.tell(Event::Failed(format!(\"the archive: {error}\")));\n                return;", "self.log(&error);"),
+    ("a chain that can't be stored is ignored", "ledger.rs", "self.file.sync_data().map_err(not_stored(&self.path))?;", "let _ = self.file.sync_data();"),
+    ("a vote that a signer did not store is signed when it is asked for again", "signer/guard.rs", "        if self.has_failed {\n", "        if false {\n"),
+    ("a new file that a crash left stays", "signer/guard.rs", "        guard.remove_left_files();\n", ""),
+    ("a new file of others is removed", "signer/guard.rs", "text.starts_with(of_owner) && text[..end].lines().skip(1).all(is_stored)", "end > 0 || is_stored(text) || true"),
+    ("a file that another signer replaced is taken", "signer/guard.rs", "Ok(()) if is_named().map_err(|error| at(path, error))? => Ok(()),",
+     "Ok(()) if is_named().is_ok() => Ok(()),"),
+    ("who is slow with a request is waited for", "http.rs", "self.stream.set_read_timeout(self.left()?)?;", "self.stream.set_read_timeout(Some(WITHIN))?;"),
+    ("who does not read a reply is waited for", "http.rs", "self.stream.set_write_timeout(self.left()?)?;", "self.stream.set_write_timeout(None)?;"),
+    ("the lag counts what is passed to the archive", "replica/finality.rs", "target.get().saturating_sub(self.parts.keeper.synced().get())", "views"),
+    ("each final view writes all blocks again", "blocks.rs", "        let last = self.segments.lengths().last_key_value().map(|(number, _)| *number);\n",
+     "        for block in self.by_payload.values() {\n            let (segment, _) = self.segments.append(self.next, block.bytes())?;\n"
+     "            self.next += 1;\n            self.highest.insert(segment, archived);\n        }\n"
+     "        let last = self.segments.lengths().last_key_value().map(|(number, _)| *number);\n"),
+    ("blocks that are passed stay on the disk", "blocks.rs", "self.highest.iter().filter_map(is_over).collect();",
+     "self.highest.iter().filter_map(is_over).take(0).collect();"),
     ("two processes have one key", "../../journal/src/journal.rs", "Err(TryLockError::WouldBlock) => Err(JournalError::new(folder, Cause::InUse)),",
      "Err(TryLockError::WouldBlock) => Ok(file),"),
     ("a leader that proposes early and often takes all room", "replica.rs", "if is_near && (is_first || self.parts.engine.admits_vote(view)) {", "if is_near {"),
     ("all blocks of a leader are kept", "replica.rs", "if is_near && is_first || self.waiting", "if is_near || self.waiting"),
     ("a peer that floods holds up the others", "../../net/src/inbox.rs", "self.turn = (index + 1) % count;", "self.turn = 0;"),
-    ("a node that lost its journal begins anew", "start.rs", "(None, Some(left)) => Err(format!(", "(None, Some(left)) if false => Err(format!("),
-    ("a node whose disk is not mounted begins anew", "start.rs", "if recovered.is_none() && settings.has_journal {", "if false {"),
+    ("a node without a journal makes one", "start.rs", "test_journal(&settings.data)?;", "let _ = (test_journal(&settings.data), crate::init(settings));"),
+    ("what a lost journal left is not named", "start.rs", "match places.into_iter().find(|it| it.exists()) {", "match places.into_iter().find(|_| false) {"),
+    ("init takes a folder that holds something", "init.rs", "    test_empty(folder)?;\n", "    let _ = test_empty(folder);\n"),
     ("a journal of another key is taken", "../../journal/src/journal.rs", "Some(difference) => Err(refused(Cause::Other(difference))),", "Some(_) => Ok(Some(recovered)),"),
     ("a journal that is older than the chain is taken", "start.rs", "if height == 0 || last <= finalized {", "if true {"),
-    ("a journal that is lost beside a chain is begun anew", "start.rs", "if recovered.is_none() && height > 0 {", "if false {"),
     ("a block is final before its finalization is stored", "replica.rs", "matches!(output, Output::Finalized(_)) || is_behind", "is_behind"),
     ("a run removes what it did not write", "run_folder.rs", "if !is_empty && !is_marked {", "if false {"),
     ("blocks are built without a pause", "pace.rs", "let due = self.last.map_or(now, |last| last + self.least);", "let due = now;"),

@@ -8,6 +8,9 @@ use std::{fmt, io};
 /// What is left to do where votes may be lost.
 pub const NEW_KEY: &str = "If there is none, this key must never vote again: the member needs a new one, with the next epoch";
 
+/// What is left to do where the disk refuses what a node writes.
+pub const BEGIN_AGAIN: &str = "Make room or mend the disk, then start again: no vote was sent that is not stored";
+
 /// An error of a journal, with the file that it is about.
 #[derive(Debug)]
 pub struct JournalError {
@@ -72,7 +75,7 @@ impl std::error::Error for JournalError {
 impl fmt::Display for Cause {
     fn fmt(&self, f: &mut fmt::Formatter<'_>) -> fmt::Result {
         match self {
-            Cause::Disk(error) => write!(f, "the journal can't be read or written: {error}"),
+            Cause::Disk(error) => write!(f, "the journal can't be read or written: {error}. {BEGIN_AGAIN}"),
             Cause::InUse => f.write_str("another process has this folder: end it first, or name another folder"),
             Cause::NoJournal => f.write_str("this is no journal: move it away, and put the member's journal back"),
             Cause::OtherVersion(it) => write!(

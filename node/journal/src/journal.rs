@@ -64,7 +64,7 @@ impl Journal {
     ///
     /// Where another process has the folder, and those of [`read`].
     pub fn open(folder: &Path, identity: &Identity, syncs: bool) -> Outcome<(Journal, Option<Recovered>)> {
-        fs::create_dir_all(folder).map_err(JournalError::disk(folder))?;
+        make_folder(folder).map_err(JournalError::disk(folder))?;
         let lock = lock(folder)?;
         let recovered = read(folder, identity)?;
         let journal = Journal {
@@ -182,13 +182,30 @@ fn lock(folder: &Path) -> Outcome<File> {
     }
 }
 
+/// Makes a folder where it does not exist, and those above it. Their names are on the disk then: a journal in a folder that a power cut
+/// takes away is lost.
+fn make_folder(folder: &Path) -> io::Result<()> {
+    let named = |it: &&Path| !it.as_os_str().is_empty();
+    let missing = folder.ancestors().filter(named).take_while(|it| !it.exists());
+    let missing: Vec<&Path> = missing.collect();
+    fs::create_dir_all(folder)?;
+    missing
+        .iter()
+        .filter_map(|it| it.parent())
+        .try_for_each(|above| sync_folder(Some(above).filter(named).unwrap_or(Path::new("."))))
+}
+
+fn sync_folder(folder: &Path) -> io::Result<()> {
+    File::open(folder)?.sync_all()
+}
+
 fn replace(folder: &Path, bytes: &[u8]) -> io::Result<()> {
     let fresh = folder.join("journal.new");
     let mut file = File::create(&fresh)?;
     file.write_all(bytes)?;
     file.sync_all()?;
     fs::rename(&fresh, path(folder))?;
-    File::open(folder)?.sync_all()
+    sync_folder(folder)
 }
 
 #[cfg(test)]

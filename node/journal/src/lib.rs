@@ -92,6 +92,6 @@ mod journal;
 #[cfg(test)]
 mod scratch;
 
-pub use error::{Cause, JournalError, NEW_KEY};
+pub use error::{BEGIN_AGAIN, Cause, JournalError, NEW_KEY};
 pub use format::{HEAD, Recovered, VERSION, engine, parse};
 pub use journal::{Journal, path, read};

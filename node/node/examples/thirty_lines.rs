@@ -1,4 +1,5 @@
-//! A node with an application of its own: `cargo run --example thirty_lines -- --config node.toml`
+//! A node with an application of its own: `cargo run --example thirty_lines -- --config node.toml`. `simplex-node init --config node.toml`
+//! makes its folder, once.
 
 use simplex_node::{Application, Cancelled, Outcome, Settings, run};
 use simplex_view_state::{Context, Digest, View};

@@ -4,7 +4,7 @@
 //! the node and its network.
 
 use crate::crypto::{hex, is_signed_by};
-use crate::named::named;
+use crate::named::{named, not_stored};
 use crate::settings::{Outcome, Settings};
 use crate::vote::is_sound;
 use simplex_view_state::{Epoch, Participant, Proposal, Subject, Vote};
@@ -118,7 +118,7 @@ impl Collected {
         let file = match &mut self.file {
             Some(file) => file,
             None => {
-                let (file, bytes) = open(&self.path).map_err(named(&self.path))?;
+                let (file, bytes) = open(&self.path).map_err(not_stored(&self.path))?;
                 self.bytes = bytes;
                 self.file.insert(file)
             }
@@ -129,13 +129,17 @@ impl Collected {
         self.bytes += line.len() as u64;
         file.write_all(line.as_bytes())
             .and_then(|()| file.sync_data())
-            .map_err(named(&self.path))
+            .map_err(not_stored(&self.path))
     }
 }
 
-/// The file, and its length: a last line that a crash cut off is dropped.
+/// The file, whose name is on the disk, and its length: a last line that a crash cut off is dropped.
 fn open(path: &Path) -> io::Result<(File, u64)> {
+    let is_new = !path.exists();
     let file = OpenOptions::new().create(true).append(true).read(true).open(path)?;
+    if is_new && let Some(folder) = path.parent() {
+        File::open(folder)?.sync_all()?;
+    }
     let bytes = fs::read(path)?;
     let whole = bytes.iter().rposition(|it| *it == b'\n').map_or(0, |it| it + 1) as u64;
     file.set_len(whole)?;

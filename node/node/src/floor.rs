@@ -2,8 +2,9 @@
 //!
 //! It begins with eight letters and a version. Then come the text of the certificate's votes and its bytes.
 
-use crate::crypto::Keys;
+use crate::crypto::raw_key;
 use crate::settings::{Outcome, Settings};
+use simplex_keys::PublicKeys;
 use simplex_view_state::{Certificate, CertificateKind, Config, Engine, Finalization, Floor, Moment, Options, Subject};
 use std::fs;
 
@@ -12,10 +13,12 @@ const NAME: &[u8; 8] = b"simplexf";
 const VERSION: u8 = 3;
 
 /// Where a node begins: genesis, or the finalized proposal whose certificate the settings name.
-pub fn read(settings: &Settings, keys: &Keys) -> Outcome<Floor> {
+pub fn read(settings: &Settings) -> Outcome<Floor> {
     let Some(path) = &settings.floor else {
         return Ok(Floor::Genesis(settings.identity()?.genesis()));
     };
+    let members = settings.members.iter().map(|it| raw_key(&it.key)).collect::<Outcome<Vec<_>>>()?;
+    let keys = PublicKeys::new(settings.network.clone(), &members)?;
     let bytes = fs::read(path).map_err(|error| format!("{}: {error}", path.display()))?;
     match parse(&bytes).map_err(|error| format!("{}: {error}", path.display()))? {
         it if keys.is_certificate(&Certificate::Finalization(it.clone())) => Ok(Floor::Finalized(it)),
@@ -51,7 +54,7 @@ pub fn of(settings: &Settings) -> Outcome<Vec<u8>> {
     let folder = &settings.data;
     let none = || format!("{}: there is no journal", simplex_journal::path(folder).display());
     let recovered = simplex_journal::read(folder, &settings.identity()?)?.ok_or_else(none)?;
-    let config: Config = settings.config(read(settings, &Keys::read(settings)?)?);
+    let config: Config = settings.config(read(settings)?);
     let engine = Engine::resume(
         &config,
         &Options::default(),

@@ -6,7 +6,7 @@ mod restoring;
 pub mod snapshots;
 
 use crate::application::{Application, Cancelled};
-use crate::named::named;
+use crate::named::{named, not_stored};
 use crate::settings::{Outcome, Settings};
 use crate::start::Start;
 use simplex_view_state::{Context, Digest, View};
@@ -181,7 +181,7 @@ impl Ledger {
         file.set_len(whole as u64).map_err(named(&path))?;
         if is_new {
             // Its name is on the disk before any of its lines counts.
-            File::open(folder).and_then(|it| it.sync_all()).map_err(named(folder))?;
+            File::open(folder).and_then(|it| it.sync_all()).map_err(not_stored(folder))?;
         }
         let is_whole = !floor_path(folder).exists();
         Ok(Ledger {
@@ -261,7 +261,7 @@ impl Application for Ledger {
             taken_us,
             latency_us: taken_us.saturating_sub(block.built_us),
         };
-        self.file.write_all(written(&link).as_bytes()).map_err(named(&self.path))?;
+        self.file.write_all(written(&link).as_bytes()).map_err(not_stored(&self.path))?;
         self.last = (block.view, block.payload());
         self.height += 1;
         if let Some(snapshots) = &mut self.snapshots {
@@ -280,7 +280,7 @@ impl Application for Ledger {
     }
 
     fn durable(&mut self) -> io::Result<u64> {
-        self.file.sync_data().map_err(named(&self.path))?;
+        self.file.sync_data().map_err(not_stored(&self.path))?;
         Ok(self.height)
     }
 

@@ -31,7 +31,7 @@
 //!
 //! fn main() -> Outcome {
 //!     let settings = Settings::read("node.toml".as_ref())?;              // node/node.toml explains them
-//!     run(settings, |start| Ok(Greetings { last: start.block, count: 0 }))
+//!     run(settings, |start| Ok(Greetings { last: start.block, count: 0 }))   // `init` makes the folder of a new member, once
 //! }
 //! ```
 //!
@@ -60,7 +60,9 @@ pub mod events;
 pub mod evidence;
 pub mod faults;
 pub mod floor;
+pub mod http;
 pub mod inbox;
+pub mod init;
 pub mod leader_votes;
 pub mod ledger;
 pub mod metrics;
@@ -84,6 +86,7 @@ pub mod waiting;
 
 pub use application::{Application, Cancelled};
 pub use crypto::Signature;
+pub use init::init;
 pub use settings::{Outcome, Settings};
 pub use signer::Signer;
 pub use start::{Start, open, open_with_signer, run, run_with_signer};

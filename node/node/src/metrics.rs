@@ -100,7 +100,7 @@ counters! {
     last_finalized: "gauge",
     /// Blocks of the finalized chain.
     height: "gauge",
-    /// Views between the archive's last block and the last finalized view.
+    /// Views between the last block that the archive has on the disk and the last finalized view.
     lag_views: "gauge",
     /// The height of a final block that no other member has any more; 0 where there is none.
     missing_height: "gauge",

@@ -138,6 +138,14 @@ impl Network {
         self.begin_limited(index, &format!("ulimit -n {files}"))
     }
 
+    /// Begins a node with these variables in its environment.
+    pub fn begin_with_variables(&mut self, index: u32, variables: &[(&str, String)]) -> Outcome {
+        let mut command = Command::new(&self.plan.program);
+        command.arg("--config").arg(self.config(index));
+        command.envs(variables.iter().map(|(name, value)| (name, value)));
+        self.begin_by(index, command)
+    }
+
     fn begin_limited(&mut self, index: u32, limit: &str) -> Outcome {
         let script = format!("{limit}; exec \"$0\" --config \"$1\"");
         let mut command = Command::new("sh");
@@ -145,7 +153,15 @@ impl Network {
         self.begin_by(index, command)
     }
 
+    /// Makes the folder of a node's data. A node that begins for the first time does so by itself.
+    pub fn init(&self, index: u32) -> Outcome {
+        crate::init(&Settings::read(&self.config(index))?)
+    }
+
     fn begin_by(&mut self, index: u32, mut command: Command) -> Outcome {
+        if self.lives[index as usize] == 0 && !self.data(index).exists() {
+            self.init(index)?;
+        }
         let log: File = OpenOptions::new().create(true).append(true).open(self.log(index))?;
         let child = command.stdin(Stdio::null()).stdout(log.try_clone()?).stderr(log).spawn()?;
         self.children[index as usize] = Some(child);

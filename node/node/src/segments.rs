@@ -4,7 +4,7 @@
 //! its body and a CRC-32 of length and body, four bytes each, and the body. Nothing that stands is written again. A crash may cut the last
 //! records off: what has no good checksum at the end of the last segment is cut away.
 
-use crate::named::named;
+use crate::named::{named, not_stored};
 use std::collections::BTreeMap;
 use std::fs::{self, File, OpenOptions};
 use std::io::{self, Read, Seek, SeekFrom, Write};
@@ -39,7 +39,7 @@ impl Segments {
     /// were is the second answer. A file that is no segment of this network is an error.
     pub fn open(folder: &Path, genesis: [u8; 32], longest: u64, syncs: bool) -> io::Result<(Segments, u64)> {
         if !folder.exists() {
-            fs::create_dir_all(folder).map_err(named(folder))?;
+            fs::create_dir_all(folder).map_err(not_stored(folder))?;
             sync_folder(folder.parent().unwrap_or(Path::new(".")))?;
         }
         let mut segments = Segments {
@@ -57,6 +57,9 @@ impl Segments {
             segments.lengths.insert(number, entry.metadata()?.len());
         }
         let cut = segments.mend_last()?;
+        // An earlier process may have ended before it waited for the disk, which then has less than this one reads.
+        segments.is_dirty = true;
+        segments.sync()?;
         Ok((segments, cut))
     }
 
@@ -116,7 +119,7 @@ impl Segments {
         let (Some(file), Some(mut last)) = (&mut self.last, self.lengths.last_entry()) else {
             return Err(io::Error::other("a segment was begun"));
         };
-        file.write_all(&framed).map_err(named(&segment))?;
+        file.write_all(&framed).map_err(not_stored(&segment))?;
         let at = *last.get();
         *last.get_mut() += framed.len() as u64;
         self.is_dirty = true;
@@ -127,10 +130,14 @@ impl Segments {
     fn begin(&mut self, number: u64) -> io::Result<()> {
         self.sync()?;
         let path = self.path(number);
-        let mut file = OpenOptions::new().create_new(true).append(true).open(&path).map_err(named(&path))?;
-        file.write_all(&head(&self.genesis)).map_err(named(&path))?;
+        let mut file = OpenOptions::new()
+            .create_new(true)
+            .append(true)
+            .open(&path)
+            .map_err(not_stored(&path))?;
+        file.write_all(&head(&self.genesis)).map_err(not_stored(&path))?;
         if self.syncs {
-            file.sync_all().map_err(named(&path))?;
+            file.sync_all().map_err(not_stored(&path))?;
             sync_folder(&self.folder)?;
         }
         self.last = Some(file);
@@ -142,9 +149,9 @@ impl Segments {
     pub fn sync(&mut self) -> io::Result<()> {
         if std::mem::take(&mut self.is_dirty)
             && self.syncs
-            && let Some(file) = &self.last
+            && let (Some(file), Some((number, _))) = (&self.last, self.lengths.last_key_value())
         {
-            file.sync_data().map_err(named(&self.folder))?;
+            file.sync_data().map_err(not_stored(&self.path(*number)))?;
         }
         Ok(())
     }
@@ -259,7 +266,7 @@ fn foreign(path: &Path) -> io::Error {
 
 fn sync_folder(folder: &Path) -> io::Result<()> {
     let folder = if folder.as_os_str().is_empty() { Path::new(".") } else { folder };
-    File::open(folder).and_then(|it| it.sync_all()).map_err(named(folder))
+    File::open(folder).and_then(|it| it.sync_all()).map_err(not_stored(folder))
 }
 
 #[cfg(test)]

@@ -37,8 +37,7 @@ pub struct Settings {
     /// Whether a vote waits until the disk has it. Without it, a machine that loses power may vote twice.
     #[serde(default = "yes")]
     pub sync: bool,
-    /// Whether the node has a journal already: it refuses to begin without one. Set it after the first start, so that a disk which is lost or
-    /// not mounted makes no member vote a second time.
+    /// Has no effect: each node refuses to begin without a journal. Settings of earlier releases name it.
     #[serde(default)]
     pub has_journal: bool,
     /// Where all votes that are sent or received are written down, for audits; nowhere by default.

@@ -46,8 +46,8 @@ pub struct Start {
 ///
 /// # Errors
 ///
-/// Where the node must not begin, says what to do: its journal is lost, older, damaged or another member's; another process has its folder;
-/// a key file may be read by others. While it runs: the disk refuses, or the application returned an error or panicked. Nothing was sent
+/// Where the node must not begin, says what to do: [`init`](crate::init()) did not make its folder; its journal is lost, older, damaged or
+/// another member's; another process has its folder; a key file may be read by others. While it runs: the disk refuses, or the application returned an error or panicked. Nothing was sent
 /// that is not stored, so the node may be run again.
 pub fn run<A: Application>(settings: Settings, application: impl FnOnce(&Start) -> Outcome<A>) -> Outcome {
     run_until_signal(open(settings, application)?)
@@ -119,7 +119,7 @@ fn open_by<A: Application>(
     let place = place_of(&settings, &identity);
     let keeper = Keeper::begin(stored.archive, place, peers.clone(), inbox.clone(), counters.clone())?;
     let application = Worker::begin(stored.application, stored.serving, inbox.clone(), counters.clone())?;
-    tell(stored.recovered.as_ref(), &views);
+    tell(&stored.recovered, &views);
     let replica = Replica::new(Parts {
         blocks: Blocks::open(&settings.data, *identity.genesis().bytes(), settings.sync)?,
         keeper,
@@ -141,7 +141,7 @@ fn open_by<A: Application>(
 /// What a node goes on from: all that it stored, which was tested against each other.
 struct Stored<A> {
     keys: Arc<Keys>,
-    recovered: Option<Recovered>,
+    recovered: Recovered,
     journal: Journal,
     engine: Engine,
     views: Views,
@@ -158,10 +158,11 @@ impl<A: Application> Stored<A> {
         keys: Arc<Keys>,
         application: impl FnOnce(&Start) -> Outcome<A>,
     ) -> Outcome<Stored<A>> {
+        test_journal(&settings.data)?;
         let (mut journal, recovered) = Journal::open(&settings.data, identity, settings.sync)?;
-        test_journal(settings, recovered.as_ref())?;
-        let floor = floor::read(settings, &keys)?;
-        let mut engine = simplex_journal::engine(recovered.as_ref(), &settings.config(floor.clone()), &Options::default())?;
+        let recovered = recovered.ok_or_else(|| no_journal(&settings.data))?;
+        let floor = floor::read(settings)?;
+        let mut engine = simplex_journal::engine(Some(&recovered), &settings.config(floor.clone()), &Options::default())?;
         let views = engine.views().ok_or(EngineError::Failed)?;
         let start = Start {
             folder: settings.data.clone(),
@@ -170,7 +171,7 @@ impl<A: Application> Stored<A> {
         };
         let mut application = application(&start)?;
         let replaced = installation::resume(&settings.data, &mut application)?;
-        test_application(&settings.data, &application, recovered.as_ref(), views.last_finalized)?;
+        test_application(&settings.data, &application, views.last_finalized)?;
         let archive = open_archive(settings, identity, &mut application, replaced)?;
         let serving = serving(settings, &archive, &mut application);
         test_archive(&settings.data, archive.tail(), views.last_finalized)?;
@@ -190,50 +191,44 @@ impl<A: Application> Stored<A> {
     }
 }
 
-/// Refuses to begin anew where the settings, or files of the node, show that it had a journal: that is lost, and without it the node would
-/// vote a second time.
-fn test_journal(settings: &Settings, recovered: Option<&Recovered>) -> Outcome {
-    let folder = &settings.data;
-    if recovered.is_none() && settings.has_journal {
-        return Err(format!(
-            "the journal {} is not here, and by `has_journal` this node has one: is its disk mounted? Put the journal back. {NEW_KEY}",
-            simplex_journal::path(folder).display(),
-        )
-        .into());
+/// Refuses to begin without a journal: the node may have had one, and would vote a second time. Nothing is made then.
+fn test_journal(folder: &Path) -> Outcome {
+    let journal = simplex_journal::path(folder);
+    // (where it can't be known, opening the journal says why)
+    if journal.try_exists().unwrap_or(true) {
+        return Ok(());
     }
     let places = [blocks::path(folder), archive::path(folder)];
-    let left = places.into_iter().find(|it| it.exists());
-    match (recovered, left) {
-        (None, Some(left)) => Err(format!(
+    match places.into_iter().find(|it| it.exists()) {
+        Some(left) => Err(format!(
             "{} is here, and the journal {} is not: this node may have voted, and could contradict its votes. Put the journal back. {NEW_KEY}",
             left.display(),
-            simplex_journal::path(folder).display(),
+            journal.display(),
         )
         .into()),
-        _ => Ok(()),
+        None => Err(no_journal(folder).into()),
     }
 }
 
-/// Refuses a journal that is older than the application's chain, or is not there while that is. The application gets a block only after
-/// the journal holds the finalization, so one that is ahead shows that the journal is lost, or an earlier one was put back.
-fn test_application(folder: &Path, application: &impl Application, recovered: Option<&Recovered>, finalized: View) -> Outcome {
-    let (height, journal) = (application.height(), simplex_journal::path(folder));
-    if recovered.is_none() && height > 0 {
-        return Err(format!(
-            "the application's chain has {height} blocks, and the journal {} is not here: this node may have voted, and could contradict \
-             its votes. Put the journal back. {NEW_KEY}",
-            journal.display(),
-        )
-        .into());
-    }
-    let last = application.last().0;
+fn no_journal(folder: &Path) -> String {
+    format!(
+        "the journal {} is not here. If this key has never voted, make the folder by `simplex-node init`, once. If it has, mount its disk, or \
+         put the journal back. {NEW_KEY}",
+        simplex_journal::path(folder).display(),
+    )
+}
+
+/// Refuses a journal that is older than the application's chain. The application gets a block only after the journal holds the finalization,
+/// so one that is ahead shows that an earlier journal was put back.
+fn test_application(folder: &Path, application: &impl Application, finalized: View) -> Outcome {
+    let (height, last) = (application.height(), application.last().0);
     if height == 0 || last <= finalized {
         return Ok(());
     }
     Err(format!(
         "the journal {} is older than the application's chain: its last finalized view is {finalized}, and the chain's is {last}. Votes are \
          lost: put the newest journal back. {NEW_KEY}",
-        journal.display(),
+        simplex_journal::path(folder).display(),
     )
     .into())
 }
@@ -325,14 +320,14 @@ fn replay(archive: &mut Archive, application: &mut impl Application) -> Outcome 
     Ok(())
 }
 
-fn tell(recovered: Option<&Recovered>, views: &Views) {
-    let (cut, entries) = recovered.map_or((0, 0), |it| (it.cut, it.stored.entries.get()));
+fn tell(recovered: &Recovered, views: &Views) {
+    let (cut, entries) = (recovered.cut, recovered.stored.entries.get());
     let (current, finalized) = (views.current.get(), views.last_finalized.get());
     info!(cut, entries, current, finalized, "begun");
 }
 
 /// Begins the journal of a life, from the engine's first output on: the whole record, in place of all that was stored.
-fn begin_journal(engine: &mut Engine, journal: &mut Journal, now: Moment) -> Outcome {
+pub(crate) fn begin_journal(engine: &mut Engine, journal: &mut Journal, now: Moment) -> Outcome {
     match engine.poll(now)? {
         Some(Output::Replace(entries)) => Ok(journal.replace(&entries)?),
         other => Err(format!("the engine begins with {other:?} in place of its record").into()),

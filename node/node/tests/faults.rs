@@ -3,20 +3,21 @@
 //!
 //! `SIMPLEX_LONG=1` kills fifty times in place of six.
 
+mod stored;
+
 use simplex_node::audit::{contradictions, disagreements};
-use simplex_node::crypto::raw_key;
 use simplex_node::faults::Fault;
 use simplex_node::ledger::Link;
 use simplex_node::network::{Network, Plan, folder_of};
-use simplex_node::settings::{Protocol, Settings};
+use simplex_node::settings::Protocol;
 use simplex_node::trace;
 use simplex_node::trace::Line;
-use simplex_view_state::{Digest, Epoch, Proposal, Round, Subject, View};
 use std::fs;
 use std::path::Path;
 use std::process::{Command, Stdio};
 use std::thread::sleep;
 use std::time::{Duration, Instant};
+use stored::has_stored;
 
 /// Within what time something has to be finalized after each fault.
 const SOON: Duration = Duration::from_secs(60);
@@ -300,35 +301,6 @@ fn fewer_than_a_quorum() {
     network.begin(0).expect("a process");
     goes_on(&network, &[0, 2, 3]);
     ends_well(network, 1);
-}
-
-/// Whether a node's journal has a vote of its own: the record holds the text that was signed.
-fn has_stored(network: &Network, vote: &Line) -> bool {
-    let settings = Settings::read(&network.config(vote.signer)).expect("settings");
-    let identity = settings.identity().expect("keys");
-    let kept = simplex_journal::read(&settings.data, &identity)
-        .expect("a journal")
-        .expect("it began");
-    let text = subject_of(vote, settings.protocol.epoch).encode();
-    kept.frames.windows(text.len()).any(|it| it == text)
-}
-
-/// What a vote of a trace is on.
-fn subject_of(vote: &Line, epoch: u64) -> Subject {
-    let (epoch, view) = (Epoch::new(epoch), View::new(vote.view));
-    let round = Round { epoch, view };
-    let Some((parent, payload)) = vote.proposal.split_once(' ') else {
-        return Subject::Nullify(round);
-    };
-    let proposal = Proposal {
-        round,
-        parent: View::new(parent.parse().expect("a view")),
-        payload: Digest::new(raw_key(payload).expect("a digest has as many digits as a key")),
-    };
-    match vote.kind {
-        'n' => Subject::Notarize(proposal),
-        _ => Subject::Finalize(proposal),
-    }
 }
 
 #[test]

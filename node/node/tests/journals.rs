@@ -2,7 +2,8 @@
 
 use simplex_journal::{self as journal, HEAD};
 use simplex_node::network::{Network, Plan, folder_of};
-use simplex_node::settings::Protocol;
+use simplex_node::settings::{Protocol, Settings};
+use std::ffi::OsString;
 use std::fs;
 use std::path::Path;
 use std::process::{Command, Output, Stdio};
@@ -11,8 +12,9 @@ use std::time::{Duration, Instant};
 
 /// Within what time something has to be seen, on a machine that does much else.
 const SOON: Duration = Duration::from_secs(60);
-/// A network of so many nodes that has finalized some views, and has stopped.
-fn stopped(name: &str, nodes: u32) -> Network {
+
+/// A network of so many nodes, none of which has a folder yet.
+fn network(name: &str, nodes: u32) -> Network {
     let plan = Plan {
         nodes,
         protocol: Protocol::default(),
@@ -22,7 +24,12 @@ fn stopped(name: &str, nodes: u32) -> Network {
         program: env!("CARGO_BIN_EXE_simplex-node").into(),
         folder: folder_of(name),
     };
-    let mut network = Network::new(plan).expect("keys and settings");
+    Network::new(plan).expect("keys and settings")
+}
+
+/// A network of so many nodes that has finalized some views, and has stopped.
+fn stopped(name: &str, nodes: u32) -> Network {
+    let mut network = network(name, nodes);
     runs_on(&mut network);
     network
 }
@@ -36,9 +43,10 @@ fn runs_on(network: &mut Network) {
     network.stop().expect("they stop");
 }
 
-/// Runs the program with a node's settings until it ends.
-fn run(config: &Path) -> Output {
+/// Runs the program with these words and a node's settings until it ends.
+fn run(words: &[&str], config: &Path) -> Output {
     let mut child = Command::new(env!("CARGO_BIN_EXE_simplex-node"))
+        .args(words)
         .arg("--config")
         .arg(config)
         .stderr(Stdio::piped())
@@ -69,7 +77,7 @@ fn runs(network: &mut Network, index: u32) {
 
 /// Why a node is refused.
 fn refused(network: &Network, index: u32) -> String {
-    let done = run(&network.config(index));
+    let done = run(&[], &network.config(index));
     assert!(!done.status.success());
     let said = String::from_utf8_lossy(&done.stderr).into_owned();
     assert!(!said.contains("begun"), "it began: {said}");
@@ -85,14 +93,10 @@ fn a_node_that_lost_its_journal_is_refused_by_what_it_left() {
     let network = stopped("lost", 1);
     let data = network.data(0);
     fs::remove_file(journal::path(&data)).expect("a journal");
-    for (left, named) in [
-        ("blocks", data.join("blocks").display().to_string()),
-        ("archive", data.join("archive").display().to_string()),
-        ("chain", "the application's chain".to_owned()),
-    ] {
+    for (left, named) in [("blocks", "blocks"), ("archive", "archive"), ("chain", "journal")] {
         let said = refused(&network, 0);
-        assert!(said.contains(&named), "{said}");
-        assert!(said.contains("journal") && said.contains("Put the journal back"), "{said}");
+        assert!(said.contains(&data.join(named).display().to_string()), "{said}");
+        assert!(said.contains("journal") && said.contains("ut the journal back"), "{said}");
         assert!(!journal::path(&data).exists(), "no other journal is begun");
         let path = data.join(left);
         if path.is_dir() {
@@ -105,26 +109,86 @@ fn a_node_that_lost_its_journal_is_refused_by_what_it_left() {
     end(network);
 }
 
-/// All that the node stored is gone with its disk: its settings know better.
+/// All that the node stored is gone with its disk.
 #[test]
 fn a_node_whose_disk_is_not_mounted_is_refused() {
     let mut network = stopped("unmounted", 1);
-    network.set(0, |it| it.has_journal = true).expect("settings");
     let (data, elsewhere) = (network.data(0), network.folder().join("elsewhere"));
     fs::rename(&data, &elsewhere).expect("a disk");
-    for _ in 0..2 {
-        let said = refused(&network, 0);
-        assert!(
-            said.contains("by `has_journal` this node has one") && said.contains("Put the journal back"),
-            "{said}"
-        );
-        assert!(!journal::path(&data).exists(), "no other journal is begun");
-    }
-    fs::remove_dir_all(&data).expect("what the refused ones made");
+    let said = refused(&network, 0);
+    assert!(said.contains("mount its disk, or put the journal back"), "{said}");
+    assert!(!data.exists(), "nothing is made");
     fs::rename(&elsewhere, &data).expect("a disk");
     network.begin(0).expect("a process");
     assert!(network.wait_until(&[0], "height", 3, SOON), "it goes on");
     network.stop().expect("it stops");
+    end(network);
+}
+
+/// What a folder holds: the names, and what is in the files.
+fn held(folder: &Path) -> Vec<(OsString, Vec<u8>)> {
+    let entries = fs::read_dir(folder).expect("a folder").map(|it| it.expect("an entry"));
+    let mut held: Vec<_> = entries
+        .map(|it| (it.file_name(), fs::read(it.path()).unwrap_or_default()))
+        .collect();
+    held.sort();
+    held
+}
+
+#[test]
+fn a_folder_that_init_did_not_make_is_refused_and_stays_as_it_is() {
+    let network = network("no-init", 1);
+    let data = network.data(0);
+    let is_refused = || {
+        let said = refused(&network, 0);
+        let journal = journal::path(&data).display().to_string();
+        assert!(
+            said.contains(&journal) && said.contains("make the folder by `simplex-node init`"),
+            "{said}"
+        );
+    };
+    is_refused();
+    assert!(!data.exists());
+    fs::create_dir(&data).expect("a disk");
+    for name in ["", "notes"] {
+        if !name.is_empty() {
+            fs::write(data.join(name), "mine").expect("a disk");
+        }
+        let before = held(&data);
+        is_refused();
+        assert_eq!(held(&data), before);
+    }
+    end(network);
+}
+
+#[test]
+fn init_makes_the_folder_of_a_new_member_once() {
+    let mut network = network("init", 1);
+    let (data, config) = (network.data(0), network.config(0));
+    let said = |done: &Output| String::from_utf8_lossy(&done.stderr).into_owned();
+    let done = run(&["init"], &config);
+    assert!(done.status.success(), "{}", said(&done));
+    let identity = Settings::read(&config).and_then(|it| it.identity()).expect("settings");
+    let made = journal::read(&data, &identity).expect("its own").expect("a journal");
+    assert_eq!((made.stored.entries.get(), made.cut), (0, 0));
+    let is_refused = |name: &str| {
+        let before = held(&data);
+        let done = run(&["init"], &config);
+        let said = said(&done);
+        assert!(
+            !done.status.success() && said.contains(&format!("{} holds {name}", data.display())),
+            "{said}"
+        );
+        assert!(said.contains("name another one as `data`"), "{said}");
+        assert_eq!(held(&data), before, "it stays as it is");
+    };
+    is_refused("");
+    runs_on(&mut network);
+    is_refused("");
+    fs::rename(&data, network.folder().join("elsewhere")).expect("a disk");
+    fs::create_dir(&data).expect("a disk");
+    fs::write(data.join("thesis"), "years of work").expect("a disk");
+    is_refused("thesis");
     end(network);
 }
 

@@ -124,6 +124,27 @@ fn four_nodes_apply_each_transaction_once_and_agree_on_balances() {
     fs::remove_dir_all(network.folder()).expect("a folder");
 }
 
+/// Clients that begin a transaction and send no more of it.
+#[test]
+fn clients_that_are_slow_hold_up_no_other() {
+    let mut network = network("ledger-http-slow");
+    post(&network, 0, "treasury", "alice", 1, 0);
+    let at = fs::read_to_string(network.data(0).join("http")).expect("an address");
+    let slow = |length: u32| {
+        let mut stream = TcpStream::connect(&at).expect("it listens");
+        let head = format!("POST /transactions HTTP/1.1\r\nHost: node\r\nContent-Length: {length}\r\n\r\n{{");
+        stream.write_all(head.as_bytes()).expect("it reads");
+        stream
+    };
+    let begun = Instant::now();
+    let open: Vec<TcpStream> = [500, 5000].into_iter().flat_map(|length| [length; 5]).map(slow).collect();
+    assert_eq!(post(&network, 0, "treasury", "alice", 1, 1), 202);
+    assert!(begun.elapsed() < Duration::from_secs(20), "{:?}", begun.elapsed());
+    drop(open);
+    network.stop().expect("they stop");
+    fs::remove_dir_all(network.folder()).expect("a folder");
+}
+
 #[test]
 fn what_is_no_transaction_is_refused_and_says_why() {
     let mut network = network("ledger-http-refusals");

@@ -243,6 +243,7 @@ fn hosted(signed: &Signed, key: &str, count: &Arc<AtomicUsize>) -> (Settings, Co
 #[test]
 fn a_host_runs_a_node_by_a_signer_of_its_own() {
     let mut signed = Signed::new("hosted");
+    signed.network.init(0).expect("a folder");
     (1..4).for_each(|index| signed.network.begin(index).expect("a process"));
     let count = Arc::new(AtomicUsize::new(0));
     let (settings, signer) = hosted(&signed, "0.pem", &count);
@@ -268,6 +269,7 @@ fn a_host_runs_a_node_by_a_signer_of_its_own() {
 #[test]
 fn a_hosts_signer_with_another_key_and_two_signers_at_once_are_refused() {
     let signed = Signed::new("other-key");
+    signed.network.init(0).expect("a folder");
     let count = Arc::new(AtomicUsize::new(0));
     let run = |change: fn(&mut Settings)| {
         let (mut settings, signer) = hosted(&signed, "1.pem", &count);

@@ -4,15 +4,12 @@ use crate::accounts::Transaction;
 use crate::ledger::{Book, Posted, locked};
 use serde_json::json;
 use simplex_node::Outcome;
-use std::io::{self, Read};
+use simplex_node::http::{self, Reply, Request};
 use std::net::SocketAddr;
 use std::sync::{Arc, Mutex};
-use std::thread;
-use tiny_http::{Header, Method, Request, Response, Server};
 
 /// The longest body of a request, in bytes.
-const LONGEST: u64 = 1024;
-const THREADS: usize = 4;
+const LONGEST: usize = 1024;
 
 /// Serves requests on threads of its own, for as long as the process runs. Returns where.
 pub fn serve(at: SocketAddr, book: &Arc<Mutex<Book>>) -> Outcome<SocketAddr> {
@@ -22,38 +19,29 @@ pub fn serve(at: SocketAddr, book: &Arc<Mutex<Book>>) -> Outcome<SocketAddr> {
         )
         .into());
     }
-    let server = Arc::new(Server::http(at).map_err(|error| format!("{at}: {error}"))?);
-    let at = server.server_addr().to_ip().ok_or("the endpoint has no address")?;
-    for _ in 0..THREADS {
-        let (server, book) = (server.clone(), book.clone());
-        thread::Builder::new().name("http".into()).spawn(move || {
-            while let Ok(request) = server.recv() {
-                let _ = answered(request, &book); // who asked has gone
-            }
-        })?;
-    }
-    Ok(at)
+    let book = book.clone();
+    Ok(http::serve(at, move |request| reply(request, &book)).map_err(|error| format!("{at}: {error}"))?)
 }
 
-fn answered(mut request: Request, book: &Mutex<Book>) -> io::Result<()> {
-    let (status, text) = match (request.method(), request.url()) {
-        (Method::Post, "/transactions") => posted(&mut request, book),
-        (Method::Get, "/balances") => (200, balances(&locked(book))),
-        (Method::Get, "/height") => (200, height(&locked(book))),
+fn reply(request: &Request, book: &Mutex<Book>) -> Reply {
+    let (status, text) = match (request.method.as_str(), request.path.as_str()) {
+        ("POST", "/transactions") => posted(&request.body, book),
+        ("GET", "/balances") => (200, balances(&locked(book))),
+        ("GET", "/height") => (200, height(&locked(book))),
         _ => (404, error("POST /transactions, GET /balances, GET /height")),
     };
-    let kind = Header::from_bytes("Content-Type", "application/json").map_err(|()| io::Error::other("a header"))?;
-    request.respond(Response::from_string(text + "\n").with_status_code(status).with_header(kind))
+    Reply {
+        status,
+        kind: "application/json",
+        body: text + "\n",
+    }
 }
 
-fn posted(request: &mut Request, book: &Mutex<Book>) -> (u16, String) {
-    let mut body = String::new();
-    match request.as_reader().take(LONGEST + 1).read_to_string(&mut body) {
-        Ok(length) if length as u64 > LONGEST => return (413, error("a transaction has at most 1024 bytes")),
-        Ok(_) => {}
-        Err(_) => return (400, error("the body is no text")),
+fn posted(body: &[u8], book: &Mutex<Book>) -> (u16, String) {
+    if body.len() > LONGEST {
+        return (413, error("a transaction has at most 1024 bytes"));
     }
-    let it: Transaction = match serde_json::from_str(&body) {
+    let it: Transaction = match serde_json::from_slice(body) {
         Ok(it) => it,
         Err(fault) => {
             return (

@@ -1,5 +1,6 @@
 //! A node whose application is a ledger: it takes transactions over HTTP on this machine, and shows balances.
 //!
+//!     simplex-node init --config node.toml            makes the node's folder, once
 //!     cargo run --example ledger_http -- --config node.toml --http 127.0.0.1:8080
 //!     curl --data '{"from":"treasury","to":"alice","amount":5,"number":0}' http://127.0.0.1:8080/transactions
 //!     curl http://127.0.0.1:8080/balances

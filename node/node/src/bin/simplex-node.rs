@@ -33,6 +33,12 @@ enum Command {
         #[arg(long)]
         out: PathBuf,
     },
+    /// Makes the folder of a new member's data, which names its key, network, epoch and members. A node begins with such a folder alone.
+    Init {
+        /// The settings of the node.
+        #[arg(long)]
+        config: PathBuf,
+    },
     /// Signs the votes of a member for its node, over a Unix socket, and never two that contradict each other.
     Signer {
         /// The network's name.
@@ -82,6 +88,7 @@ fn main() -> ExitCode {
         .init();
     let outcome = match (arguments.command, arguments.config) {
         (Some(Command::Keygen { out }), _) => crypto::make_key(&out).map(|public| println!("{public}")),
+        (Some(Command::Init { config }), _) => Settings::read(&config).and_then(|it| simplex_node::init(&it)),
         (Some(Command::Floor { config, out }), _) => write_floor(&config, &out),
         (Some(Command::Evidence { config, file }), _) => verify_evidence(&config, &file),
         (Some(it @ Command::Signer { .. }), _) => sign(it),

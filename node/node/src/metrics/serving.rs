@@ -1,77 +1,32 @@
 //! Metrics over HTTP.
 
 use super::Counters;
-use std::io::{self, BufRead, BufReader, Read, Write};
-use std::net::{SocketAddr, TcpListener, TcpStream};
+use crate::http::{self, Reply, Request};
+use std::io;
+use std::net::SocketAddr;
 use std::sync::Arc;
-use std::thread;
-use std::time::{Duration, Instant};
 
-/// How long a request may be, in bytes.
-const LONGEST_REQUEST: u64 = 8192;
-/// How many requests are answered at once: who is slow with one holds up no other.
-const MOST_REQUESTS: usize = 16;
-/// How long it is waited where the system has no room for a connection or a thread.
-const NO_ROOM: Duration = Duration::from_millis(50);
-
-/// Serves the counters by HTTP, one request a connection.
+/// Serves the counters by HTTP. Returns where.
+///
+/// # Errors
+///
+/// Where the address can't be listened at.
 pub fn serve(address: SocketAddr, counters: Arc<Counters>) -> io::Result<SocketAddr> {
-    let listener = TcpListener::bind(address)?;
-    let bound = listener.local_addr()?;
-    thread::Builder::new().name("metrics".into()).spawn(move || {
-        let open = Arc::new(());
-        for stream in listener.incoming() {
-            // (there may be no file descriptor left for it)
-            let Ok(stream) = stream else {
-                thread::sleep(NO_ROOM);
-                continue;
-            };
-            if Arc::strong_count(&open) > MOST_REQUESTS {
-                continue;
-            }
-            let (counters, its_place) = (counters.clone(), open.clone());
-            let begun = thread::Builder::new().name("metrics of one".into()).spawn(move || {
-                let _ = answer(stream, &counters);
-                drop(its_place);
-            });
-            if begun.is_err() {
-                thread::sleep(NO_ROOM);
-            }
-        }
-    })?;
-    Ok(bound)
-}
-
-/// Reads a request up to its end, within a second and so many bytes, and answers it.
-fn answer(mut stream: TcpStream, counters: &Counters) -> io::Result<()> {
-    stream.set_read_timeout(Some(Duration::from_secs(1)))?;
-    stream.set_write_timeout(Some(Duration::from_secs(1)))?;
-    let begun = Instant::now();
-    let mut lines = BufReader::new(&stream).take(LONGEST_REQUEST);
-    let mut request = String::new();
-    lines.read_line(&mut request)?;
-    let mut line = request.clone();
-    while !line.trim_end().is_empty() && begun.elapsed() < Duration::from_secs(2) {
-        line.clear();
-        lines.read_line(&mut line)?;
-    }
-    let is_asked = request.starts_with("GET /metrics ");
-    let (status, body) = if is_asked {
-        ("200 OK", counters.text())
-    } else {
-        ("404 Not Found", String::new())
-    };
-    let length = body.len();
-    let head =
-        format!("HTTP/1.1 {status}\r\nContent-Type: text/plain; version=0.0.4\r\nContent-Length: {length}\r\nConnection: close\r\n\r\n");
-    stream.write_all(head.as_bytes())?;
-    stream.write_all(body.as_bytes())
+    http::serve(address, move |request: &Request| {
+        let is_asked = request.method == "GET" && request.path == "/metrics";
+        let (status, body) = if is_asked { (200, counters.text()) } else { (404, String::new()) };
+        let kind = "text/plain; version=0.0.4";
+        Reply { status, kind, body }
+    })
 }
 
 #[cfg(test)]
 mod tests {
     use super::*;
+    use std::io::{Read, Write};
+    use std::net::TcpStream;
     use std::sync::atomic::Ordering::Relaxed;
+    use std::time::{Duration, Instant};
 
     #[test]
     fn counters_are_served() {

@@ -150,11 +150,12 @@ impl Replica {
         self.note_lack();
     }
 
-    /// Counts and logs how far behind the node is, and when it has caught up.
+    /// Counts how far behind the archive is on the disk. Logs how far behind the node is, and when it has caught up.
     fn note_lag(&mut self) {
         let (tail, target) = (self.chain.tail(), self.chain.target());
         let views = target.get().saturating_sub(tail.view.get());
-        self.parts.counters.lag_views.store(views, Relaxed);
+        let not_synced = target.get().saturating_sub(self.parts.keeper.synced().get());
+        self.parts.counters.lag_views.store(not_synced, Relaxed);
         if self.chain.hole().is_none() {
             if let Some((since, first)) = self.lag.since.take().filter(|_| self.lag.is_told) {
                 let milliseconds = since.elapsed().as_millis() as u64;

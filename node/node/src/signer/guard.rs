@@ -1,7 +1,8 @@
 //! What a signer has signed, on the disk: it never signs two votes that contradict each other, whoever asks and whatever was restarted.
 //!
 //! A vote is in the file, and the file synced, before its signature is returned. Below the lowest view of the file nothing is signed, so
-//! old votes can be dropped: the lowest view rises, and the votes of some thousand views above it stay.
+//! old votes can be dropped: the lowest view rises, and the votes of some thousand views above it stay. Where the disk refuses a vote,
+//! nothing more is signed: the next process reads what the disk has.
 
 use crate::crypto::hex;
 use crate::settings::Outcome;
@@ -9,8 +10,10 @@ use simplex_identity::NetworkName;
 use simplex_view_state::Subject;
 use std::collections::BTreeMap;
 use std::fs::{self, File, OpenOptions, TryLockError};
-use std::io::{ErrorKind, Write};
+use std::io::{self, ErrorKind, Write};
+use std::os::unix::fs::MetadataExt;
 use std::path::{Path, PathBuf};
+use tracing::{info, warn};
 
 /// How many votes are in the file before old ones are dropped.
 const MOST_VOTES: usize = 16_384;
@@ -18,6 +21,8 @@ const MOST_VOTES: usize = 16_384;
 const KEPT_VIEWS: u64 = 4096;
 /// What a file begins with.
 const BEGIN: &str = "simplex-signer 1";
+/// What is left to do where the disk refuses.
+const BEGIN_AGAIN: &str = "make room or mend the disk, and begin the signer again";
 
 /// Whose votes a guard is of: its file is no other signer's.
 #[derive(Clone, Debug, PartialEq, Eq)]
@@ -39,7 +44,9 @@ pub struct Guard {
     /// Below this view nothing is signed.
     lowest: u64,
     /// The texts of votes, by view and kind.
-    votes: BTreeMap<(u64, char), String>,
+    votes: Votes,
+    /// The disk refused something, so it is not known what it has.
+    has_failed: bool,
 }
 
 fn kind_of(subject: &Subject) -> char {
@@ -76,14 +83,16 @@ impl Guard {
             owner,
             lowest,
             votes: BTreeMap::new(),
+            has_failed: false,
         };
-        (&guard.file).write_all(guard.head().as_bytes())?;
-        guard.file.sync_all()?;
+        let written = (&guard.file).write_all(guard.head().as_bytes());
+        written.and_then(|()| guard.file.sync_all()).map_err(|error| at(path, error))?;
         sync_folder(path)?;
         Ok(guard)
     }
 
-    /// The file of a signer that goes on. A line that a crash cut off is dropped: its signature was not returned.
+    /// The file of a signer that goes on. A line that a crash cut off is dropped: its signature was not returned. All else is written anew,
+    /// so that the disk has it.
     ///
     /// # Errors
     ///
@@ -101,15 +110,13 @@ impl Guard {
         })?;
         lock(path, &file)?;
         let bytes = fs::read(path).map_err(|error| at(path, error))?;
-        let whole = whole_lines(&bytes);
-        file.set_len(whole.len() as u64)?;
         let damaged = || {
             at(
                 path,
                 "the file is damaged: put back a whole copy that is not older, or make a new key",
             )
         };
-        let text = std::str::from_utf8(whole).map_err(|_| damaged())?;
+        let text = std::str::from_utf8(whole_lines(&bytes)).map_err(|_| damaged())?;
         let (lowest, votes) = read(text, &owner).ok_or_else(damaged)?;
         let lowest = lowest.ok_or_else(|| {
             at(
@@ -120,13 +127,17 @@ impl Guard {
                 ),
             )
         })?;
-        Ok(Guard {
+        let mut guard = Guard {
             path: path.to_owned(),
             file,
             owner,
             lowest,
             votes,
-        })
+            has_failed: false,
+        };
+        guard.remove_left_files();
+        guard.write_anew()?;
+        Ok(guard)
     }
 
     /// Stores that a vote is signed. Once it returns, the vote may be signed: it is on the disk, and no other one that contradicts it was
@@ -134,8 +145,11 @@ impl Guard {
     ///
     /// # Errors
     ///
-    /// Where the vote is of another epoch, below the lowest view, or contradicts one that was signed; or where the disk refuses.
+    /// Where the vote is of another epoch, below the lowest view, or contradicts one that was signed; or where the disk refuses, or did.
     pub fn admit(&mut self, subject: &Subject) -> Outcome {
+        if self.has_failed {
+            return Err(at(&self.path, format!("the disk refused it before: {BEGIN_AGAIN}")).into());
+        }
         let (round, kind, text) = (subject.round(), kind_of(subject), hex(&subject.encode()));
         let (view, epoch) = (round.view.get(), round.epoch.get());
         if epoch != self.owner.epoch {
@@ -160,15 +174,21 @@ impl Guard {
         self.store(view, kind, text)
     }
 
+    /// Where this fails, the vote is not among those that were signed: a repeat must not be taken for one that is on the disk.
     fn store(&mut self, view: u64, kind: char, text: String) -> Outcome {
         let line = format!("{view} {kind} {text}\n");
         let written = self.file.write_all(line.as_bytes()).and_then(|()| self.file.sync_data());
+        written.map_err(|error| self.failed(error))?;
         self.votes.insert((view, kind), text);
-        written.map_err(|error| at(&self.path, error))?;
         if self.votes.len() > MOST_VOTES {
             self.drop_old()?;
         }
         Ok(())
+    }
+
+    fn failed(&mut self, error: impl std::fmt::Display) -> String {
+        self.has_failed = true;
+        at(&self.path, format!("{error}: nothing more is signed. So {BEGIN_AGAIN}"))
     }
 
     /// Drops the votes of old views, which are signed no more from now on.
@@ -176,16 +196,53 @@ impl Guard {
         let highest = self.votes.last_key_value().map_or(0, |((view, _), _)| *view);
         self.lowest = self.lowest.max(highest.saturating_sub(KEPT_VIEWS));
         self.votes = self.votes.split_off(&(self.lowest, '\0'));
+        self.write_anew()
+    }
+
+    /// Writes all votes to a new file, which takes the place of the file in one step.
+    fn write_anew(&mut self) -> Outcome {
         let (new, mut file) = new_file(&self.path)?;
         lock(&new, &file)?;
         let lines = self.votes.iter().map(|((view, kind), text)| format!("{view} {kind} {text}\n"));
         let all: String = std::iter::once(self.head()).chain(lines).collect();
         let written = file.write_all(all.as_bytes()).and_then(|()| file.sync_all());
-        written.map_err(|error| at(&new, error))?;
-        fs::rename(&new, &self.path).map_err(|error| at(&new, error))?;
-        sync_folder(&self.path)?;
+        if let Err(error) = written.and_then(|()| fs::rename(&new, &self.path)) {
+            let _ = fs::remove_file(&new); // (this process made it, and the votes are in the file that stays)
+            return Err(self.failed(error).into());
+        }
         self.file = file;
+        sync_folder(&self.path).map_err(|error| self.failed(error))?;
         Ok(())
+    }
+
+    /// Removes new files that a crash left beside the file, which has all that they have. Those of others stay.
+    fn remove_left_files(&self) {
+        for path in new_names(&self.path).take_while(|it| fs::symlink_metadata(it).is_ok()) {
+            match fs::read(&path).map(|bytes| self.is_left(&bytes)) {
+                Ok(true) => match fs::remove_file(&path) {
+                    Ok(()) => info!(path = %path.display(), "a crash left this new file: it is removed"),
+                    Err(error) => warn!(path = %path.display(), %error, "a crash left this new file"),
+                },
+                Ok(false) | Err(_) => warn!(path = %path.display(), "this file is of others, and stays"),
+            }
+        }
+    }
+
+    /// Whether a new file that a crash cut off anywhere may hold this: a beginning of one of this signer's, with no vote that the file has
+    /// not.
+    fn is_left(&self, bytes: &[u8]) -> bool {
+        let written = bytes.iter().rposition(|it| *it != 0).map_or(0, |it| it + 1);
+        let Ok(text) = std::str::from_utf8(&bytes[..written]) else {
+            return false;
+        };
+        let of_owner = head_of(&self.owner, 0);
+        let of_owner = of_owner.trim_end_matches("0\n");
+        if text.len() <= of_owner.len() {
+            return of_owner.starts_with(text);
+        }
+        let is_stored = |line: &str| vote_of(line).is_some_and(|(key, text)| self.votes.get(&key) == Some(&text));
+        let end = text.rfind('\n').unwrap_or(0);
+        text.starts_with(of_owner) && text[..end].lines().skip(1).all(is_stored)
     }
 
     fn head(&self) -> String {
@@ -197,30 +254,42 @@ fn head_of(owner: &Owner, lowest: u64) -> String {
     format!("{BEGIN} {} {} {} {lowest}\n", owner.network, owner.epoch, hex(&owner.key))
 }
 
+/// Locks a file. Where another one has its name by now, a signer has replaced it, and has that one.
 fn lock(path: &Path, file: &File) -> Outcome {
+    let is_named = || -> io::Result<bool> {
+        let (here, there) = (file.metadata()?, fs::metadata(path)?);
+        Ok((here.dev(), here.ino()) == (there.dev(), there.ino()))
+    };
     match file.try_lock() {
-        Ok(()) => Ok(()),
-        Err(TryLockError::WouldBlock) => Err(at(path, "another signer has this file: end that one first").into()),
+        Ok(()) if is_named().map_err(|error| at(path, error))? => Ok(()),
+        Ok(()) | Err(TryLockError::WouldBlock) => Err(at(path, "another signer has this file: end that one first").into()),
         Err(TryLockError::Error(error)) => Err(at(path, error).into()),
     }
 }
 
-/// A file beside this one that was not there: its name with `.new` behind it, and a number where a file has that name already, which may be
-/// anybody's and stays as it is.
-fn new_file(path: &Path) -> Outcome<(PathBuf, File)> {
-    let named = |number: u32| {
+/// The names of new files beside this one: its name with `.new` behind it, and a number.
+fn new_names(path: &Path) -> impl Iterator<Item = PathBuf> + '_ {
+    (0..1000).map(|number| {
         let mut name = path.as_os_str().to_owned();
         name.push(if number == 0 { ".new".to_owned() } else { format!(".new{number}") });
         PathBuf::from(name)
-    };
-    for new in (0..1000).map(named) {
+    })
+}
+
+/// A file beside this one that was not there. One that is there may be anybody's, and stays as it is.
+fn new_file(path: &Path) -> Outcome<(PathBuf, File)> {
+    for new in new_names(path) {
         match OpenOptions::new().create_new(true).append(true).read(true).open(&new) {
             Ok(file) => return Ok((new, file)),
             Err(error) if error.kind() == ErrorKind::AlreadyExists => {}
             Err(error) => return Err(at(&new, error).into()),
         }
     }
-    Err(at(&named(0), "this file and a thousand more like it are in the way: move them away").into())
+    Err(at(
+        path,
+        "files of all names for a new one are in the way, `.new` to `.new999`: move them away",
+    )
+    .into())
 }
 
 fn sync_folder(path: &Path) -> Outcome {
@@ -244,14 +313,15 @@ fn read(text: &str, owner: &Owner) -> Option<(Option<u64>, Votes)> {
     let head = lines.next()?.strip_prefix(BEGIN)?;
     let lowest: u64 = head.rsplit(' ').next()?.parse().ok()?;
     let is_own = head_of(owner, lowest).trim_end().strip_prefix(BEGIN) == Some(head);
-    let vote = |line: &str| {
-        let mut words = line.split(' ');
-        let view: u64 = words.next()?.parse().ok()?;
-        let kind = words.next()?.parse().ok()?;
-        let text = words.next()?.to_owned();
-        (words.next().is_none() && text.len().is_multiple_of(2) && text.len() >= 34).then_some(((view, kind), text))
-    };
-    Some((is_own.then_some(lowest), lines.map(vote).collect::<Option<Votes>>()?))
+    Some((is_own.then_some(lowest), lines.map(vote_of).collect::<Option<Votes>>()?))
+}
+
+fn vote_of(line: &str) -> Option<((u64, char), String)> {
+    let mut words = line.split(' ');
+    let view: u64 = words.next()?.parse().ok()?;
+    let kind = words.next()?.parse().ok()?;
+    let text = words.next()?.to_owned();
+    (words.next().is_none() && text.len().is_multiple_of(2) && text.len() >= 34).then_some(((view, kind), text))
 }
 
 #[cfg(test)]
@@ -370,6 +440,63 @@ mod tests {
         assert_eq!(guard.lowest, 20_001 - KEPT_VIEWS);
         assert!(beside.iter().all(|it| fs::read_to_string(it).expect("a file") == "mine"));
         assert!(!path.with_file_name("guard.txt.new2").exists());
+    }
+
+    #[test]
+    fn a_new_file_that_a_crash_left_is_removed_and_those_of_others_stay() {
+        let path = path("guard-left");
+        let mut guard = Guard::create(&path, owner(), 1).expect("a disk");
+        (1..=3).for_each(|view| guard.admit(&notarize(view, 7)).expect("a disk"));
+        let whole = fs::read(&path).expect("a file");
+        let new = path.with_file_name("guard.new");
+        drop(guard);
+        for end in (0..whole.len()).step_by(7).chain([whole.len()]) {
+            fs::write(&new, [&whole[..end], &vec![0; end % 3][..]].concat()).expect("a disk");
+            let mut guard = Guard::open(&path, owner()).expect("it does not block a start");
+            assert!(!new.exists(), "cut after {end} bytes");
+            assert!(refused(&mut guard, notarize(3, 8)).contains("another vote"));
+        }
+        let of_another = head_of(&Owner { epoch: 2, ..owner() }, 1);
+        let with_more = [&whole[..], format!("9 n {}\n", hex(&notarize(9, 7).encode())).as_bytes()].concat();
+        for other in [b"mine".to_vec(), of_another.into_bytes(), with_more, vec![0xff; 9]] {
+            fs::write(&new, &other).expect("a disk");
+            drop(Guard::open(&path, owner()).expect("it does not block a start"));
+            assert_eq!(fs::read(&new).expect("it stays"), other);
+            assert!(!path.with_file_name("guard.new1").exists());
+        }
+        assert_eq!(fs::read(&path).expect("a file"), whole);
+    }
+
+    /// A disk that refuses: the file is opened to be read alone.
+    #[test]
+    fn a_vote_that_is_not_stored_is_not_signed_when_it_is_asked_for_again() {
+        let path = path("guard-refused");
+        let mut guard = Guard::create(&path, owner(), 1).expect("a disk");
+        guard.admit(&notarize(1, 7)).expect("a disk");
+        guard.file = File::open(&path).expect("a file");
+        let first = refused(&mut guard, notarize(2, 7));
+        assert!(
+            first.contains("guard: ") && first.contains("make room or mend the disk, and begin the signer again"),
+            "{first}"
+        );
+        for vote in [notarize(2, 7), notarize(1, 7)] {
+            assert!(refused(&mut guard, vote).contains("begin the signer again"));
+        }
+        drop(guard);
+        let mut guard = Guard::open(&path, owner()).expect("its own");
+        assert!(refused(&mut guard, notarize(1, 8)).contains("another vote"));
+        guard.admit(&notarize(2, 8)).expect("that signature was not returned");
+    }
+
+    /// A signer that opens the file just as another one replaces it has a file without a name: its votes would be lost.
+    #[test]
+    fn a_file_that_was_replaced_is_another_signers() {
+        let path = path("guard-replaced");
+        drop(Guard::create(&path, owner(), 1).expect("a disk"));
+        let file = File::open(&path).expect("a file");
+        drop(Guard::open(&path, owner()).expect("it writes its file anew"));
+        let said = lock(&path, &file).expect_err("it is refused").to_string();
+        assert!(said.contains("another signer has this file"), "{said}");
     }
 
     #[test]

@@ -47,6 +47,10 @@ impl Others {
     }
 
     pub fn around_a_node_with(name: &str, change: impl FnOnce(&mut Settings)) -> Others {
+        Others::around_a_node_begun_by(name, change, |network| network.begin(0).expect("a process"))
+    }
+
+    pub fn around_a_node_begun_by(name: &str, change: impl FnOnce(&mut Settings), begin: impl FnOnce(&mut Network)) -> Others {
         let mut network = Network::new(plan(name)).expect("keys and settings");
         network.set(0, change).expect("a disk");
         let settings = settings_of(&network);
@@ -57,7 +61,7 @@ impl Others {
             let its_own = peers::credentials(&settings[member as usize], &keys[member as usize]).expect("a certificate");
             thread::spawn(move || hear(&listener, member, &its_own, &told));
         }
-        network.begin(0).expect("a process");
+        begin(&mut network);
         assert!(network.wait_until(&[0], "current_view", 1, SOON), "it does not begin");
         let address = &settings[0].members[0].address;
         let links: Vec<Link> = credentials[1..].iter().map(|it| Link::begin(it, address)).collect();
