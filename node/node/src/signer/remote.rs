@@ -56,19 +56,25 @@ impl Remote {
         format!("the signer at {}: {error}", self.path.display())
     }
 
-    /// A connection to the signer, whose owner is compared.
+    /// A connection to the signer, and who that says to be.
+    fn connected(&self) -> io::Result<(UnixStream, (u8, Vec<u8>))> {
+        let mut stream = UnixStream::connect(&self.path)?;
+        stream.set_read_timeout(Some(REPLIES_WITHIN))?;
+        stream.set_write_timeout(Some(REPLIES_WITHIN))?;
+        let reply = ask(&mut stream, WHO, &[])?;
+        Ok((stream, reply))
+    }
+
+    /// A connection to the signer, whose owner is compared. One that is just ending may still take a connection, and not reply.
     fn open(&self) -> Outcome<UnixStream> {
         let begun = Instant::now();
-        let mut stream = loop {
-            match UnixStream::connect(&self.path) {
-                Ok(stream) => break stream,
+        let (stream, (status, there)) = loop {
+            match self.connected() {
+                Ok(it) => break it,
                 Err(_) if begun.elapsed() < BACK_WITHIN => sleep(Duration::from_millis(50)),
                 Err(error) => return Err(self.named(format!("{error}: begin it by `simplex-node signer`")).into()),
             }
         };
-        stream.set_read_timeout(Some(REPLIES_WITHIN))?;
-        stream.set_write_timeout(Some(REPLIES_WITHIN))?;
-        let (status, there) = ask(&mut stream, WHO, &[]).map_err(|error| self.named(error))?;
         if status != DONE || there != who(&self.owner) {
             let here = format!(
                 "network {}, epoch {}, key {}",
