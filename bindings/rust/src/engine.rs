@@ -282,6 +282,42 @@ impl Engine {
         Ok((found.has != 0).then(|| Certificate::of(Subject::of(found.has, &found.proposal), self.bytes(ffi::SHOWN_OF_ENGINE))))
     }
 
+    /// Returns what a peer is sent that asks by a [`Fetch`] of this kind and view: that certificate, or else what [`serve`](Engine::serve)
+    /// returns. An error changes nothing.
+    ///
+    /// # Errors
+    ///
+    /// [`EngineError::OutOfMemory`] and [`EngineError::Failed`].
+    ///
+    /// [`Fetch`]: crate::Fetch
+    pub fn certificate_for(&self, kind: FetchKind, view: View) -> Result<Option<Certificate>, EngineError> {
+        let asked: &[CertificateKind] = match kind {
+            FetchKind::Notarization => &[CertificateKind::Notarization],
+            FetchKind::Nullification => &[],
+            FetchKind::Decision => &[CertificateKind::Finalization, CertificateKind::Nullification],
+        };
+        for kind in asked {
+            if let Some(it) = self.certificate(*kind, view)? {
+                return Ok(Some(it));
+            }
+        }
+        self.serve(view)
+    }
+
+    /// Returns the proposal of the last finalized view; `None` at genesis. After a resume it is the one to deliver: the report of it may have
+    /// been lost with the process before. An error changes nothing.
+    ///
+    /// # Errors
+    ///
+    /// [`EngineError::OutOfMemory`] and [`EngineError::Failed`].
+    pub fn last_finalization(&self) -> Result<Option<Proposal>, EngineError> {
+        let last = self.views().ok_or(EngineError::Failed)?.last_finalized;
+        Ok(match self.certificate(CertificateKind::Finalization, last)? {
+            Some(Certificate::Finalization(it)) => Some(it.proposal),
+            _ => None,
+        })
+    }
+
     /// Returns the certificate to serve to a peer that asks for the view: one that leads past it, if there is one. An error changes nothing.
     ///
     /// # Errors

@@ -9,8 +9,7 @@
 )]
 
 use simplex_view_state::{
-    Certificate, CertificateKind, Config, Context, Digest, Engine, EngineError, Entries, Fetch, Input, Member, Moment, Options, Output,
-    Proposal, Stored, View, Vote,
+    Certificate, Config, Context, Digest, Engine, Entries, Fetch, Input, Member, Moment, Options, Output, Proposal, Stored, View, Vote,
 };
 use std::collections::HashMap;
 use std::error::Error as StdError;
@@ -172,9 +171,8 @@ impl Host {
 
 #[rustfmt::skip]
 fn after_a_resume(engine: Engine, mut host: Host) -> Result<(), Error> {
-    let last = engine.views().ok_or(EngineError::Failed)?.last_finalized;
-    if let Some(Certificate::Finalization(it)) = engine.certificate(CertificateKind::Finalization, last)? {
-        host.deliver(it.proposal)?;                                              // unless its view is delivered already
+    if let Some(proposal) = engine.last_finalization()? {
+        host.deliver(proposal)?;                                                 // unless its view is delivered already
     }
     Ok(())
 }

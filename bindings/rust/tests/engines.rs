@@ -450,6 +450,32 @@ fn a_block_of_a_view_that_is_over_is_given_up() -> Tested {
 }
 
 #[test]
+fn a_peer_is_sent_the_certificate_that_it_asks_for_or_one_that_leads_past_the_view() -> Tested {
+    let mut engine = engine(1)?;
+    assert_eq!(engine.last_finalization()?, None, "genesis");
+    for certificate in [notarization(1), nullification(2), finalization(3)] {
+        engine.handle(Input::Certificate(certificate), START)?;
+        outputs(&mut engine, START)?;
+    }
+    let past = || Some(finalization(3));
+    for (kind, view, expected) in [
+        (FetchKind::Notarization, 1, Some(notarization(1))),
+        (FetchKind::Notarization, 2, past()),
+        (FetchKind::Nullification, 2, past()),
+        (FetchKind::Decision, 2, Some(nullification(2))),
+        (FetchKind::Decision, 3, past()),
+        (FetchKind::Notarization, 4, None),
+    ] {
+        assert_eq!(engine.certificate_for(kind, View::new(view))?, expected, "{kind:?} of {view}");
+    }
+    let Certificate::Finalization(last) = finalization(3) else {
+        unreachable!()
+    };
+    assert_eq!(engine.last_finalization()?, Some(last.proposal));
+    Ok(())
+}
+
+#[test]
 fn bytes_of_any_length_come_back_whole() -> Tested {
     let mut engine = engine(1)?;
     for certificate in [notarization(1), nullification(2), finalization(3)] {

@@ -5,8 +5,8 @@
 //! last one that was delivered.
 
 use simplex_view_state::{
-    Certificate, CertificateKind, Config, Context, Digest, Engine, Epoch, Fetch, FetchKind, Input, Moment, Options, Order, Output,
-    Participant, Proposal, Stored, View, Vote,
+    Certificate, Config, Context, Digest, Engine, Epoch, Fetch, Input, Moment, Options, Order, Output, Participant, Proposal, Stored, View,
+    Vote,
 };
 use std::collections::{HashMap, VecDeque};
 use std::error::Error;
@@ -169,11 +169,7 @@ impl Node {
             None => Engine::start(&config, &options, now)?,
             Some(stored) => Engine::resume(&config, &options, now, stored, &self.disk.journal)?,
         };
-        let last = engine.views().ok_or("it has begun")?.last_finalized;
-        self.finalized = match engine.certificate(CertificateKind::Finalization, last)? {
-            Some(Certificate::Finalization(it)) => Some(it.proposal),
-            _ => None,
-        };
+        self.finalized = engine.last_finalization()?;
         self.engine = Some(engine);
         self.deliver(out);
         Ok(())
@@ -210,7 +206,7 @@ impl Node {
                 }
             }
             Message::Ask(fetch) => {
-                if let Some(certificate) = served(engine, &fetch)? {
+                if let Some(certificate) = engine.certificate_for(fetch.kind, fetch.view)? {
                     out.push_back(Sent {
                         from: me,
                         to: from,
@@ -325,16 +321,6 @@ impl Node {
             message: message.clone(),
         }));
     }
-}
-
-/// What a member is served that asks: the notarization of just that view, or a certificate that leads past it.
-fn served(engine: &Engine, fetch: &Fetch) -> Outcome<Option<Certificate>> {
-    if fetch.kind == FetchKind::Notarization {
-        if let Some(certificate) = engine.certificate(CertificateKind::Notarization, fetch.view)? {
-            return Ok(Some(certificate));
-        }
-    }
-    Ok(engine.serve(fetch.view)?)
 }
 
 /// Whether a certificate is of n - f members' good signatures.

@@ -2,9 +2,7 @@
 
 use crate::network::Message;
 use crate::toys::{MEMBERS, block_on, is_good, signature};
-use simplex_view_state::{
-    CertificateKind, Config, Digest, Engine, Entries, Epoch, FetchKind, Input, Moment, Options, Output, Participant, Proposal, Stored,
-};
+use simplex_view_state::{Config, Digest, Engine, Entries, Epoch, Input, Moment, Options, Output, Participant, Proposal, Stored};
 use std::fs::{self, File};
 use std::io::{ErrorKind, Write};
 use std::path::PathBuf;
@@ -118,10 +116,7 @@ impl Host {
             }
             Message::Certificate(certificate) if is_good(&certificate) => self.pass(Input::Certificate(certificate))?,
             Message::Ask(fetch) => {
-                let asked = self.engine.certificate(CertificateKind::Notarization, fetch.view)?;
-                let found = asked
-                    .filter(|_| fetch.kind == FetchKind::Notarization)
-                    .or(self.engine.serve(fetch.view)?);
+                let found = self.engine.certificate_for(fetch.kind, fetch.view)?;
                 found.into_iter().for_each(|it| self.send(from, Message::Certificate(it)));
             }
             Message::Vote(_) | Message::Certificate(_) => {}

@@ -4,12 +4,10 @@ use simplex_chain::{Delivery, Tail};
 use simplex_journal::Journal;
 use simplex_keys::{FromMember, Keys, Messages};
 use simplex_net::{Inbox, Peers, Places};
-use simplex_view_state::{Engine, Input, Moment, Options, Order, Output, Participant};
+use simplex_view_state::{Engine, Input, Moment, Options, Order, Output, Participant, Proposal};
 use simplex_wire::{Block, Message};
-use std::error::Error;
-use std::path::Path;
-use std::sync::Arc;
 use std::time::{Duration, Instant};
+use std::{error::Error, path::Path, sync::Arc};
 
 pub type Outcome<T = ()> = Result<T, Box<dyn Error + Send + Sync>>;
 
@@ -36,9 +34,10 @@ impl Host {
         let (messages, inbox) = Messages::new(keys.clone());
         let peers = Peers::start(places, keys.credentials(&identity)?, messages, Arc::new(()))?;
         let blocks = Delivery::new(Tail::genesis(identity.genesis())); // or behind the application's last block
-        let (begun, delivered) = (Instant::now(), Vec::new());
+        let (begun, delivered, last) = (Instant::now(), Vec::new(), engine.last_finalization()?);
         #[rustfmt::skip]
-        let host = Host { keys, engine, journal, peers, inbox, blocks, begun, delivered };
+        let mut host = Host { keys, engine, journal, peers, inbox, blocks, begun, delivered };
+        last.iter().try_for_each(|it| host.finalized(it))?; // its report may be lost
         Ok(host)
     }
 
@@ -79,10 +78,7 @@ impl Host {
                 self.pass(it.verified(is_valid))?;
             }
             Output::Certify(it) => self.pass(it.certified(true))?,
-            Output::Finalized(proposal) => {
-                let blocks = self.blocks.finalize(&proposal)?;
-                self.deliver(blocks);
-            }
+            Output::Finalized(proposal) => self.finalized(&proposal)?,
             Output::StopBuilding(_) | Output::ProposedTwice(..) | Output::Equivocated(..) | Output::Forget(_) => {}
         }
         Ok(())
@@ -111,7 +107,7 @@ impl Host {
             }
             Message::Vote(vote) => self.pass(Input::Vote(vote))?,
             Message::Certificate(certificate) => self.pass(Input::Certificate(certificate))?,
-            Message::AskCertificate(_, view) => self.answer(from, self.engine.serve(view)?.map(Message::Certificate)),
+            Message::AskCertificate(kind, view) => self.answer(from, self.engine.certificate_for(kind, view)?.map(Message::Certificate)),
             Message::AskBlock(_, digest) => self.answer(from, self.blocks.get(&digest).map(|it| Message::Block(it.bytes().to_vec()))),
             Message::Block(bytes) => self.insert(Block::decode(bytes)?)?,
             _ => {} // it keeps no archive, and its application has no snapshots
@@ -125,6 +121,12 @@ impl Host {
 
     fn insert(&mut self, block: Block) -> Outcome {
         let blocks = self.blocks.insert(block)?;
+        self.deliver(blocks);
+        Ok(())
+    }
+
+    fn finalized(&mut self, proposal: &Proposal) -> Outcome {
+        let blocks = self.blocks.finalize(proposal)?;
         self.deliver(blocks);
         Ok(())
     }

@@ -1,7 +1,7 @@
 //! What peers are asked for, and what they are served.
 
 use super::Replica;
-use simplex_view_state::{Certificate, CertificateKind, Digest, EngineError, Fetch, FetchKind, Participant, View};
+use simplex_view_state::{Digest, Fetch, FetchKind, Participant, View};
 use simplex_wire::Message;
 use std::sync::atomic::Ordering::Relaxed;
 
@@ -28,7 +28,7 @@ impl Replica {
 
     /// Serves a peer that asks for a certificate. It may ask for what is no view: that is no error of this node.
     pub(super) fn serve(&mut self, from: Participant, kind: FetchKind, view: View) {
-        if let Ok(Some(it)) = self.certificate_for(kind, view) {
+        if let Ok(Some(it)) = self.parts.engine.certificate_for(kind, view) {
             let subject = it.subject();
             self.broadcast_before(&subject);
             if self.parts.peers.serve(from, &Message::Certificate(it)) {
@@ -36,21 +36,6 @@ impl Replica {
             }
             self.events.served(from, kind, view);
         }
-    }
-
-    /// The certificate that is asked for, or else one that leads past the view.
-    fn certificate_for(&self, kind: FetchKind, view: View) -> Result<Option<Certificate>, EngineError> {
-        let asked: &[CertificateKind] = match kind {
-            FetchKind::Notarization => &[CertificateKind::Notarization],
-            FetchKind::Nullification => &[],
-            FetchKind::Decision => &[CertificateKind::Finalization, CertificateKind::Nullification],
-        };
-        for kind in asked {
-            if let Some(it) = self.parts.engine.certificate(*kind, view)? {
-                return Ok(Some(it));
-            }
-        }
-        self.parts.engine.serve(view)
     }
 
     /// Serves a block, of those of proposals or of the archive, as far as the peer's share of this node goes.
