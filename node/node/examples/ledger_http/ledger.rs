@@ -2,7 +2,7 @@
 
 use crate::accounts::{Accounts, Transaction};
 use serde::{Deserialize, Serialize};
-use simplex_node::{Application, Cancelled, Outcome, Start};
+use simplex_node::{Ancestors, Application, Cancelled, Outcome, Start};
 use simplex_view_state::{Context, Digest, View};
 use simplex_wire::Block;
 use std::fs::{self, File};
@@ -115,7 +115,7 @@ fn transactions(block: &Block) -> Option<Vec<Transaction>> {
 }
 
 impl Application for Ledger {
-    fn build(&mut self, _: &Context, _: &Cancelled) -> Option<Vec<u8>> {
+    fn build(&mut self, _: &Context, _: &Ancestors, _: &Cancelled) -> Option<Vec<u8>> {
         let book = locked(&self.book);
         let mut accounts = book.state.accounts.clone();
         let mut pending: Vec<&Transaction> = book.pending.iter().collect();
@@ -125,12 +125,12 @@ impl Application for Ledger {
     }
 
     /// A block may hold transactions that have no effect once it is final: whether they have one depends on blocks before it.
-    fn verify(&mut self, block: &Block, _: &Cancelled) -> Option<bool> {
+    fn verify(&mut self, block: &Block, _: &Ancestors, _: &Cancelled) -> Option<bool> {
         Some(transactions(block).is_some())
     }
 
-    fn certify(&mut self, block: &Block, cancelled: &Cancelled) -> Option<bool> {
-        self.verify(block, cancelled)
+    fn certify(&mut self, block: &Block, ancestors: &Ancestors, cancelled: &Cancelled) -> Option<bool> {
+        self.verify(block, ancestors, cancelled)
     }
 
     fn finalized(&mut self, block: &Block) -> io::Result<()> {
