@@ -246,6 +246,8 @@ WRONG_BODIES = (
     ("a slow application is waited for each time", "application/worker.rs", "!self.shared.is_slow.load(Relaxed) && {", "{"),
     ("a panic of the application is not told", "application/worker.rs", 'None => "the application panicked".to_owned(),', "None => return,"),
     ("a certificate of a far view does not wait", "replica/far.rs", "const FAR: u64 = 256;", "const FAR: u64 = 1 << 40;"),
+    ("the ledger over HTTP forgets what ancestors hold", "../examples/ledger_http/ledger.rs", "ancestors.iter().filter_map(transactions)",
+     "ancestors.iter().take(0).filter_map(transactions)"),
     ("an application is shown no ancestors", "application/worker.rs", "above.after(last, parent, self.shared.lock().finals.iter());",
      "above.after(last, parent, self.shared.lock().finals.iter()).map(|_| Ancestors::default());"),
     ("final blocks that wait are no ancestors", "application/worker.rs", "parent, self.shared.lock().finals.iter());", "parent, [].iter());"),
