@@ -35,8 +35,9 @@
 //! }
 //! ```
 //!
-//! `examples/thirty_lines.rs` is that program, `examples/ledger_http` takes transactions over HTTP and shows balances, and [`ledger`] is an
-//! application with a file of its own, which the program `simplex-node` runs.
+//! `examples/thirty_lines.rs` is that program, `examples/ledger_http` takes transactions over HTTP and shows balances, `examples/numbered.rs`
+//! has a state that follows from a block's [`Ancestors`], and [`ledger`] is an application with a file of its own, which the program
+//! `simplex-node` runs.
 //! [`network`] runs networks of processes, for tests of yours too.
 //!
 //! # A part a module, or a crate
