@@ -23,7 +23,7 @@ impl Numbered {
             }
         }
         if at != parent {
-            println!("the ancestors lead to view {}, and not to the parent of view {}", at.0, parent.0);
+            println!("the ancestors lead to view {}, and the parent is of view {}", at.0, parent.0);
             return None;
         }
         Some(number)
