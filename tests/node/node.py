@@ -27,7 +27,7 @@ from lib.program import ROOT
 
 NODE = ROOT / "node"
 SKIPPED = 77
-LEAST_TESTS = 326
+LEAST_TESTS = 335
 # The libraries that the container of `node/Containerfile` has.
 IN_CONTAINER = {"libssl", "libcrypto", "libgcc_s", "libc", "libm", "libdl", "libpthread"}
 # The words of the network that `./demo` runs.
@@ -246,6 +246,16 @@ WRONG_BODIES = (
     ("a slow application is waited for each time", "application/worker.rs", "!self.shared.is_slow.load(Relaxed) && {", "{"),
     ("a panic of the application is not told", "application/worker.rs", 'None => "the application panicked".to_owned(),', "None => return,"),
     ("a certificate of a far view does not wait", "replica/far.rs", "const FAR: u64 = 256;", "const FAR: u64 = 1 << 40;"),
+    ("the ledger over HTTP forgets what ancestors hold", "../examples/ledger_http/ledger.rs", "ancestors.iter().filter_map(transactions)",
+     "ancestors.iter().take(0).filter_map(transactions)"),
+    ("an application is shown no ancestors", "application/worker.rs", "above.after(last, parent, self.shared.lock().finals.iter());",
+     "above.after(last, parent, self.shared.lock().finals.iter()).map(|_| Ancestors::default());"),
+    ("final blocks that wait are no ancestors", "application/worker.rs", "parent, self.shared.lock().finals.iter());", "parent, [].iter());"),
+    ("all final blocks that wait are ancestors of each block", "application/worker.rs", "waiting.finals.len() > MOST_FINALS &&", "waiting.finals.len() > usize::MAX - 1 &&"),
+    ("a block without an ancestor is invalid", "application/ancestors.rs", "None => return Branch::Missing(next.0, next.1),", "None => return Branch::Broken,"),
+    ("a branch that leaves out a final block is waited for", "application/ancestors.rs", "if next.0 <= last.0 {\n                return Branch::Broken;",
+     "if next.0 <= last.0 {\n                return Branch::Missing(next.0, next.1);"),
+    ("what waits for a block waits on where that is archived", "waiting.rs", "self.take_where(|block| block.0 <= upto)", "self.take_where(|block| block.0 < upto && upto == View::GENESIS)"),
     ("a build that never began is not answered", "application/worker.rs", "is_build || !is_passed", "let _ = is_build; !is_passed"),
     ("a damaged line of the chain is cut away", "ledger.rs", "    links.collect()\n", "    Ok(links.map_while(Result::ok).collect())\n"),
     ("a key that others may read is taken", "crypto.rs", "if mode & 0o077 != 0 {", "if mode == 0 {"),

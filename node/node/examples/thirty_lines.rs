@@ -1,7 +1,7 @@
 //! A node with an application of its own: `cargo run --example thirty_lines -- --config node.toml`. `simplex-node init --config node.toml`
 //! makes its folder, once.
 
-use simplex_node::{Application, Cancelled, Outcome, Settings, run};
+use simplex_node::{Ancestors, Application, Cancelled, Outcome, Settings, run};
 use simplex_view_state::{Context, Digest, View};
 use simplex_wire::Block;
 use std::io;
@@ -13,16 +13,16 @@ struct Greetings {
 }
 
 impl Application for Greetings {
-    fn build(&mut self, context: &Context, _: &Cancelled) -> Option<Vec<u8>> {
+    fn build(&mut self, context: &Context, _: &Ancestors, _: &Cancelled) -> Option<Vec<u8>> {
         Some(format!("hello from member {}", context.leader).into_bytes())
     }
 
-    fn verify(&mut self, block: &Block, _: &Cancelled) -> Option<bool> {
+    fn verify(&mut self, block: &Block, _: &Ancestors, _: &Cancelled) -> Option<bool> {
         Some(block.content().starts_with(b"hello from member "))
     }
 
-    fn certify(&mut self, block: &Block, cancelled: &Cancelled) -> Option<bool> {
-        self.verify(block, cancelled)
+    fn certify(&mut self, block: &Block, ancestors: &Ancestors, cancelled: &Cancelled) -> Option<bool> {
+        self.verify(block, ancestors, cancelled)
     }
 
     fn finalized(&mut self, block: &Block) -> io::Result<()> {

@@ -2,8 +2,11 @@
 //!
 //! The application has a thread of its own ([`worker`]): it takes as long as it needs, and holds up neither the engine nor the disk.
 
+pub mod ancestors;
 pub mod requests;
 pub mod worker;
+
+pub use ancestors::Ancestors;
 
 use simplex_view_state::{Context, Digest, View};
 use simplex_wire::{Block, Manifest};
@@ -32,21 +35,23 @@ impl Cancelled {
 ///
 /// - **All honest nodes have to answer alike.** [`verify`](Application::verify) and [`certify`](Application::certify) depend on the block and
 ///   its ancestors alone, not on the clock, on chance or on this machine: a network whose applications contradict each other can stop for good.
-/// - **A block is looked at before its ancestors are final**, and may never be: `build`, `verify` and `certify` change nothing that lasts.
-///   What a block does is done in [`finalized`](Application::finalized).
+/// - **The state before a block is that of [`last`](Application::last), and on it all [`Ancestors`] in order.** They are not final yet, or not
+///   taken yet, and are passed with each question, also in the first one after a restart: the application need not remember any.
+/// - **A block may never become final**: `build`, `verify` and `certify` change nothing that lasts. What a block does is done in
+///   [`finalized`](Application::finalized).
 /// - **Over lifetimes it gets each final block once after its own [`last`](Application::last).** So it stores a block's effects and that it is
 ///   the last one in one step. One that stores nothing gets all blocks again at each start.
 pub trait Application: Send + 'static {
-    /// What a block holds that this node builds in a context; `None` where it is cancelled, or has nothing to propose.
-    fn build(&mut self, context: &Context, cancelled: &Cancelled) -> Option<Vec<u8>>;
+    /// What a block holds that this node builds in a context, after these ancestors; `None` where it is cancelled, or has nothing to propose.
+    fn build(&mut self, context: &Context, ancestors: &Ancestors, cancelled: &Cancelled) -> Option<Vec<u8>>;
 
-    /// Whether a block may be voted for: what it holds is good behind its parent. `None` where it is cancelled, or the application can't tell
+    /// Whether a block may be voted for: what it holds is good after its ancestors. `None` where it is cancelled, or the application can't tell
     /// yet: this node does not vote for the block then.
-    fn verify(&mut self, block: &Block, cancelled: &Cancelled) -> Option<bool>;
+    fn verify(&mut self, block: &Block, ancestors: &Ancestors, cancelled: &Cancelled) -> Option<bool>;
 
     /// Whether a notarized block may be built on. It is asked in all nodes, also in those that did not vote for it. `None` where it is
     /// cancelled.
-    fn certify(&mut self, block: &Block, cancelled: &Cancelled) -> Option<bool>;
+    fn certify(&mut self, block: &Block, ancestors: &Ancestors, cancelled: &Cancelled) -> Option<bool>;
 
     /// Takes a finalized block: each once, each behind its parent.
     ///

@@ -6,6 +6,7 @@ use simplex_wire::Block;
 use std::collections::{BTreeMap, HashMap};
 use std::io;
 use std::path::{Path, PathBuf};
+use std::sync::Arc;
 use tracing::info;
 
 /// How many views below the archive's last block blocks are kept: those that are not final are here alone.
@@ -20,7 +21,7 @@ pub struct Blocks {
     next: u64,
     /// The highest view in each segment, by the number of its first record.
     highest: BTreeMap<u64, View>,
-    by_payload: HashMap<Digest, Block>,
+    by_payload: HashMap<Digest, Arc<Block>>,
     by_view: BTreeMap<View, Vec<Digest>>,
     bytes: usize,
 }
@@ -81,11 +82,11 @@ impl Blocks {
         *highest = block.view.max(*highest);
         self.bytes += block.bytes().len();
         self.by_view.entry(block.view).or_default().push(block.payload());
-        self.by_payload.insert(block.payload(), block);
+        self.by_payload.insert(block.payload(), Arc::new(block));
     }
 
     /// The block of a digest.
-    pub fn get(&self, payload: &Digest) -> Option<&Block> {
+    pub fn get(&self, payload: &Digest) -> Option<&Arc<Block>> {
         self.by_payload.get(payload)
     }
 
@@ -171,6 +172,9 @@ mod tests {
         assert_eq!(blocks.segments.lengths(), &length);
         blocks.sync().expect("a disk");
         let again = Blocks::open(&folder, [0; 32], true).expect("a disk");
-        assert_eq!((again.get(&it.payload()), again.bytes()), (Some(&it), it.bytes().len()));
+        assert_eq!(
+            (again.get(&it.payload()).map(|it| &**it), again.bytes()),
+            (Some(&it), it.bytes().len())
+        );
     }
 }

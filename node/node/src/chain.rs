@@ -14,6 +14,6 @@ pub type FinalChain = simplex_chain::FinalChain<Block>;
 
 impl Store<Block> for Blocks {
     fn block(&self, payload: &Digest) -> Option<&Block> {
-        self.get(payload)
+        self.get(payload).map(|it| &**it)
     }
 }

@@ -5,7 +5,7 @@
 mod restoring;
 pub mod snapshots;
 
-use crate::application::{Application, Cancelled};
+use crate::application::{Ancestors, Application, Cancelled};
 use crate::named::{named, not_stored};
 use crate::settings::{Outcome, Settings};
 use crate::start::Start;
@@ -225,7 +225,7 @@ fn parse_digest(hex: &str) -> io::Result<Digest> {
 }
 
 impl Application for Ledger {
-    fn build(&mut self, context: &Context, cancelled: &Cancelled) -> Option<Vec<u8>> {
+    fn build(&mut self, context: &Context, _: &Ancestors, cancelled: &Cancelled) -> Option<Vec<u8>> {
         self.works(cancelled)?;
         self.salt = self.salt.wrapping_add(1);
         let mut content = Vec::with_capacity(self.options.block_bytes + 32);
@@ -239,7 +239,7 @@ impl Application for Ledger {
         Some(content)
     }
 
-    fn verify(&mut self, block: &Block, cancelled: &Cancelled) -> Option<bool> {
+    fn verify(&mut self, block: &Block, _: &Ancestors, cancelled: &Cancelled) -> Option<bool> {
         self.works(cancelled)?;
         match self.options.bond_of(block) {
             Some(bond) => self.snapshots.as_ref()?.is_own(&bond),
@@ -248,7 +248,7 @@ impl Application for Ledger {
     }
 
     /// (More than f members have compared the bond of a block that is notarized.)
-    fn certify(&mut self, block: &Block, cancelled: &Cancelled) -> Option<bool> {
+    fn certify(&mut self, block: &Block, _: &Ancestors, cancelled: &Cancelled) -> Option<bool> {
         self.works(cancelled)?;
         Some(self.options.is_of_form(block))
     }

@@ -5,7 +5,7 @@
 //! peers that lag.
 //!
 //! ```no_run
-//! use simplex_node::{Application, Cancelled, Outcome, Settings, run};
+//! use simplex_node::{Ancestors, Application, Cancelled, Outcome, Settings, run};
 //! use simplex_view_state::{Context, Digest, View};
 //! use simplex_wire::Block;
 //!
@@ -16,9 +16,9 @@
 //! }
 //!
 //! impl Application for Greetings {
-//!     fn build(&mut self, _: &Context, _: &Cancelled) -> Option<Vec<u8>> { Some(b"hello".to_vec()) }
-//!     fn verify(&mut self, block: &Block, _: &Cancelled) -> Option<bool> { Some(block.content() == b"hello") }
-//!     fn certify(&mut self, block: &Block, _: &Cancelled) -> Option<bool> { Some(block.content() == b"hello") }
+//!     fn build(&mut self, _: &Context, _: &Ancestors, _: &Cancelled) -> Option<Vec<u8>> { Some(b"hello".to_vec()) }
+//!     fn verify(&mut self, block: &Block, _: &Ancestors, _: &Cancelled) -> Option<bool> { Some(block.content() == b"hello") }
+//!     fn certify(&mut self, block: &Block, _: &Ancestors, _: &Cancelled) -> Option<bool> { Some(block.content() == b"hello") }
 //!     fn finalized(&mut self, block: &Block) -> std::io::Result<()> {
 //!         self.last = (block.view, block.payload());
 //!         self.count += 1;
@@ -35,8 +35,9 @@
 //! }
 //! ```
 //!
-//! `examples/thirty_lines.rs` is that program, `examples/ledger_http` takes transactions over HTTP and shows balances, and [`ledger`] is an
-//! application with a file of its own, which the program `simplex-node` runs.
+//! `examples/thirty_lines.rs` is that program, `examples/ledger_http` takes transactions over HTTP and shows balances, `examples/numbered.rs`
+//! has a state that follows from a block's [`Ancestors`], and [`ledger`] is an application with a file of its own, which the program
+//! `simplex-node` runs.
 //! [`network`] runs networks of processes, for tests of yours too.
 //!
 //! # A part a module, or a crate
@@ -84,7 +85,7 @@ pub mod version;
 pub mod vote;
 pub mod waiting;
 
-pub use application::{Application, Cancelled};
+pub use application::{Ancestors, Application, Cancelled};
 pub use crypto::Signature;
 pub use init::init;
 pub use settings::{Outcome, Settings};

@@ -97,6 +97,8 @@ pub struct Replica {
     waiting: Waiting,
     /// The blocks that wait to be built.
     pace: Pace,
+    /// The last final block that the application's thread has.
+    passed: (View, Digest),
     /// The context of the block that the application builds.
     building: Option<Context>,
     /// What the application is asked of a view, and of which block.
@@ -149,6 +151,7 @@ impl Replica {
             events: Events::open(&parts.settings, parts.journal.entries())?,
             waiting: Waiting::new(parts.settings.me(), members),
             pace: Pace::new(Duration::from_millis(parts.settings.protocol.pace_ms)),
+            passed: (parts.tail.view, parts.tail.payload),
             building: None,
             asked: BTreeMap::new(),
             leaving: Vec::new(),
@@ -468,12 +471,14 @@ impl Replica {
             Output::Finalized(proposal) => self.finalize(&proposal)?,
             Output::Verify(context, proposal) => self.verify(context, proposal)?,
             Output::Build(context) => {
+                self.waiting.stop_build(context.round.view);
                 self.pace.ask(context);
                 self.build_due()?;
             }
             Output::Certify(proposal) => self.certify(proposal)?,
             Output::StopBuilding(view) => {
                 self.pace.stop(view);
+                self.waiting.stop_build(view);
                 self.parts.application.cancel((Kind::Build, view));
             }
             Output::Equivocated(first, second) => self.show(&first, &second)?,

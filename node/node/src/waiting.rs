@@ -1,5 +1,6 @@
 //! What waits for a block that is not here: blocks are asked of one member after another until they come.
 
+use crate::application::worker::Kind;
 use simplex_view_state::{Context, Digest, Moment, Participant, Proposal, View};
 use std::collections::{BTreeMap, BTreeSet, HashSet};
 
@@ -15,24 +16,36 @@ struct Asking {
     wait_ms: u64,
 }
 
-/// The proposals that wait for their blocks, and the blocks that are asked for.
+/// What the application is to be asked once a block is here.
+#[derive(Clone, Copy, PartialEq, Eq, Debug)]
+pub enum Pending {
+    /// To build in a context.
+    Build(Context),
+    /// To verify a proposal.
+    Verify(Context, Proposal),
+    /// To judge a notarized proposal.
+    Certify(Proposal),
+}
+
+impl Pending {
+    fn key(&self) -> (View, Kind) {
+        match self {
+            Pending::Build(context) => (context.round.view, Kind::Build),
+            Pending::Verify(context, _) => (context.round.view, Kind::Verify),
+            Pending::Certify(proposal) => (proposal.view(), Kind::Certify),
+        }
+    }
+}
+
+/// The questions that wait for blocks, and the blocks that are asked for.
 pub struct Waiting {
     me: Participant,
     members: u32,
-    to_verify: BTreeMap<View, (Context, Proposal)>,
-    to_certify: BTreeMap<View, Proposal>,
+    /// What waits, and for which block: a proposal's own, or that of an ancestor.
+    questions: BTreeMap<(View, Kind), (Pending, (View, Digest))>,
     /// The block that the finalized chain waits for.
     of_chain: Option<Digest>,
     wanted: BTreeMap<Digest, Asking>,
-}
-
-/// What waited for a block that has come.
-#[derive(Default)]
-pub struct Ready {
-    /// Proposals to verify.
-    pub to_verify: Vec<(Context, Proposal)>,
-    /// Notarized proposals to judge.
-    pub to_certify: Vec<Proposal>,
 }
 
 impl Waiting {
@@ -41,23 +54,25 @@ impl Waiting {
         Waiting {
             me,
             members,
-            to_verify: BTreeMap::new(),
-            to_certify: BTreeMap::new(),
+            questions: BTreeMap::new(),
             of_chain: None,
             wanted: BTreeMap::new(),
         }
     }
 
-    /// A proposal is to be verified once its block is here, which is asked of its leader first.
-    pub fn verify(&mut self, context: Context, proposal: Proposal, now: Moment) {
-        self.to_verify.insert(context.round.view, (context, proposal));
-        self.want(proposal.view(), proposal.payload, context.leader, now);
+    /// A question waits for this block, in place of the one of its kind and view.
+    pub fn wait(&mut self, question: Pending, block: (View, Digest)) {
+        self.questions.insert(question.key(), (question, block));
     }
 
-    /// A proposal is to be judged once its block is here.
-    pub fn certify(&mut self, proposal: Proposal, leader: Participant, now: Moment) {
-        self.to_certify.insert(proposal.view(), proposal);
-        self.want(proposal.view(), proposal.payload, leader, now);
+    /// No block is to be built in a view.
+    pub fn stop_build(&mut self, view: View) {
+        self.questions.remove(&(view, Kind::Build));
+    }
+
+    /// No block is to be built below a view.
+    pub fn forget_builds(&mut self, lowest: View) {
+        self.questions.retain(|(view, kind), _| *kind != Kind::Build || *view >= lowest);
     }
 
     /// The finalized chain waits for this block; none where it has all of them.
@@ -74,17 +89,14 @@ impl Waiting {
 
     /// What the chain waited for is asked for no longer, where nothing else waits for it.
     fn drop_unneeded(&mut self, payload: Option<Digest>) {
-        let is_needed = |payload: &Digest| {
-            let mut of_views = self.to_verify.values().map(|it| &it.1).chain(self.to_certify.values());
-            of_views.any(|it| it.payload == *payload)
-        };
+        let is_needed = |payload: &Digest| self.questions.values().any(|(_, block)| block.1 == *payload);
         if let Some(payload) = payload.filter(|it| !is_needed(it)) {
             self.wanted.remove(&payload);
         }
     }
 
-    /// What is asked for already stays as it is.
-    fn want(&mut self, view: View, payload: Digest, peer: Participant, now: Moment) {
+    /// A block is asked for, of this member first. What is asked for already stays as it is.
+    pub fn want(&mut self, view: View, payload: Digest, peer: Participant, now: Moment) {
         self.wanted.entry(payload).or_insert(Asking {
             view,
             next: now,
@@ -113,21 +125,28 @@ impl Waiting {
         self.wanted.is_empty()
     }
 
-    /// A block is here: what waited for it goes on.
-    pub fn arrived(&mut self, payload: &Digest) -> Ready {
+    /// A block is here. Returns what waited for it.
+    pub fn arrived(&mut self, payload: &Digest) -> Vec<Pending> {
         self.wanted.remove(payload);
-        Ready {
-            to_verify: take_where(&mut self.to_verify, |it| it.1.payload == *payload),
-            to_certify: take_where(&mut self.to_certify, |it| it.payload == *payload),
-        }
+        self.take_where(|block| block.1 == *payload)
+    }
+
+    /// The final blocks up to a view are archived. Returns what waited for one of them.
+    pub fn archived(&mut self, upto: View) -> Vec<Pending> {
+        self.take_where(|block| block.0 <= upto)
+    }
+
+    fn take_where(&mut self, is_here: impl Fn(&(View, Digest)) -> bool) -> Vec<Pending> {
+        let taken = self.questions.values().filter(|it| is_here(&it.1)).map(|it| it.0).collect();
+        self.questions.retain(|_, it| !is_here(&it.1));
+        taken
     }
 
     /// Nothing waits in the views below any more. Blocks that nothing waits for are asked for no longer: perhaps nobody has them.
     pub fn forget(&mut self, lowest: View) {
-        self.to_verify = self.to_verify.split_off(&lowest);
-        self.to_certify = self.to_certify.split_off(&lowest);
-        let of_views = self.to_verify.values().map(|it| it.1).chain(self.to_certify.values().copied());
-        let needed: BTreeSet<Digest> = of_views.map(|it| it.payload).chain(self.of_chain).collect();
+        self.questions.retain(|(view, _), _| *view >= lowest);
+        let of_questions = self.questions.values().map(|(_, block)| block.1);
+        let needed: BTreeSet<Digest> = of_questions.chain(self.of_chain).collect();
         self.wanted.retain(|payload, _| needed.contains(payload));
     }
 
@@ -148,12 +167,6 @@ impl Waiting {
             });
         asked.filter(|(_, _, peer)| *peer != me).collect()
     }
-}
-
-fn take_where<T: Copy>(waiting: &mut BTreeMap<View, T>, is_taken: impl Fn(&T) -> bool) -> Vec<T> {
-    let taken = waiting.values().filter(|it| is_taken(it)).copied().collect();
-    waiting.retain(|_, it| !is_taken(it));
-    taken
 }
 
 fn next_of(peer: Participant, members: u32) -> Participant {
@@ -178,11 +191,17 @@ mod tests {
         Moment::from_millis(millis)
     }
 
+    /// A proposal is to be judged, whose block is asked for.
+    fn judge(waiting: &mut Waiting, proposal: Proposal, peer: Participant, now: Moment) {
+        waiting.wait(Pending::Certify(proposal), (proposal.view(), proposal.payload));
+        waiting.want(proposal.view(), proposal.payload, peer, now);
+    }
+
     #[test]
     fn each_other_member_is_asked_in_turn_until_the_block_comes() {
         let mut waiting = Waiting::new(Participant::new(2), 4);
         let lacking = proposal(5, 7);
-        waiting.certify(lacking, Participant::new(1), at(50));
+        judge(&mut waiting, lacking, Participant::new(1), at(50));
         assert!(waiting.due(at(49)).is_empty());
         let (mut peers, mut now) = (Vec::new(), 50);
         for turn in 0..6 {
@@ -191,7 +210,7 @@ mod tests {
             assert!(waiting.due(at(now - 1)).is_empty(), "later and later");
         }
         assert_eq!(peers, [1, 3, 0, 1, 3, 0]);
-        assert_eq!(waiting.arrived(&lacking.payload).to_certify, [lacking]);
+        assert_eq!(waiting.arrived(&lacking.payload), [Pending::Certify(lacking)]);
         assert!(waiting.due(at(99_999)).is_empty() && waiting.is_empty());
     }
 
@@ -199,7 +218,7 @@ mod tests {
     fn a_block_is_asked_for_as_long_as_something_waits_for_it() {
         let mut waiting = Waiting::new(Participant::new(0), 4);
         for view in 1..=4 {
-            waiting.certify(proposal(view, view as u8), Participant::new(1), at(0));
+            judge(&mut waiting, proposal(view, view as u8), Participant::new(1), at(0));
         }
         waiting.deliver(Some((View::new(1), Digest::new([1; 32]))), Participant::new(3), at(0));
         waiting.forget(View::new(4));
@@ -208,13 +227,43 @@ mod tests {
         waiting.deliver(None, Participant::new(3), at(0));
         waiting.forget(View::new(4));
         assert_eq!(is_wanted(&waiting), [false, false, false, true]);
-        assert!(waiting.arrived(&Digest::new([2; 32])).to_certify.is_empty());
+        assert!(waiting.arrived(&Digest::new([2; 32])).is_empty());
+    }
+
+    #[test]
+    fn a_question_waits_for_an_ancestor_until_it_comes_or_is_archived() {
+        let mut waiting = Waiting::new(Participant::new(0), 4);
+        let context = |view| Context {
+            round: proposal(view, 0).round,
+            leader: Participant::new(0),
+            parent: View::new(3),
+            parent_payload: Digest::new([3; 32]),
+        };
+        let ancestor = |view: u8| (View::new(view.into()), Digest::new([view; 32]));
+        let [verify, build] = [Pending::Verify(context(7), proposal(7, 7)), Pending::Build(context(9))];
+        let all = |it: &mut Waiting| {
+            it.wait(verify, ancestor(5));
+            it.wait(Pending::Certify(proposal(8, 8)), ancestor(3));
+            it.wait(build, ancestor(5));
+        };
+        all(&mut waiting);
+        assert!(waiting.arrived(&proposal(7, 7).payload).is_empty(), "its own block is here");
+        assert_eq!(waiting.arrived(&ancestor(5).1), [verify, build]);
+        assert!(waiting.archived(View::new(2)).is_empty());
+        assert_eq!(waiting.archived(View::new(3)), [Pending::Certify(proposal(8, 8))]);
+        all(&mut waiting);
+        waiting.forget_builds(View::new(9));
+        waiting.forget(View::new(8));
+        assert_eq!(waiting.arrived(&ancestor(5).1), [build]);
+        waiting.wait(build, ancestor(5));
+        waiting.forget_builds(View::new(10));
+        assert!(waiting.arrived(&ancestor(5).1).is_empty(), "its view is passed");
     }
 
     #[test]
     fn a_member_alone_asks_nobody() {
         let mut waiting = Waiting::new(Participant::new(0), 1);
-        waiting.certify(proposal(1, 1), Participant::new(0), at(0));
+        judge(&mut waiting, proposal(1, 1), Participant::new(0), at(0));
         assert!(waiting.due(at(0)).is_empty());
     }
 }

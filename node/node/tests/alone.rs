@@ -330,6 +330,30 @@ fn a_final_block_that_is_lacking_is_taken_by_its_digest_too() {
     others.end();
 }
 
+#[test]
+fn a_notarized_block_is_judged_once_its_ancestors_are_here() {
+    let mut others = Others::around_a_node("ancestors");
+    others.nullify(1);
+    let blocks = chain(others.genesis, 2..4, 256);
+    let ((parent, first), (block, second)) = (&blocks[0], &blocks[1]);
+    let vote = others.vote(2, Subject::Notarize(*second));
+    others.send(2, &Message::Proposal(vote, block.bytes().to_vec()));
+    for proposal in [second, first] {
+        let certificate = others.certificate(&[1, 2, 3], Subject::Notarize(*proposal));
+        others.send(1, &Message::Certificate(certificate));
+    }
+    let is_parent = |message: &Message| matches!(message, Message::AskBlock(_, payload) if *payload == parent.payload());
+    assert!(
+        others.hears(SOON, |_, message| is_parent(message)),
+        "it does not ask for the parent"
+    );
+    sleep(WHILE);
+    assert!(others.counts("current_view") < 4);
+    others.send(3, &Message::Block(parent.bytes().to_vec()));
+    others.comes_to("current_view", 4);
+    others.end();
+}
+
 /// A nullification of a far view would have the node ask for those of all views below, of which there are a hundred thousand.
 #[test]
 fn a_certificate_of_a_far_view_waits_for_a_finalization() {

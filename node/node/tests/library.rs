@@ -5,6 +5,7 @@ use simplex_node::settings::Protocol;
 use std::fs;
 use std::path::{Path, PathBuf};
 use std::process::Command;
+use std::thread::sleep;
 use std::time::Duration;
 
 /// Within what time something has to be seen, on a machine that does much else.
@@ -67,6 +68,60 @@ fn four_nodes_order_the_blocks_of_an_application_of_thirty_lines() {
         let both = other.len().min(again.len());
         assert!(both >= 60 && other[..both] == again[..both], "node {index}: {other:?}");
     }
+    fs::remove_dir_all(network.folder()).expect("a folder");
+}
+
+/// Kills four nodes at once. The first two vote to nullify their view before the other two are there, so a certified block may stay without a
+/// finalization.
+fn crash_all(network: &mut Network, first: [u32; 2], second: [u32; 2]) {
+    let ids = [0, 1, 2, 3].map(|index| network.process(index).expect("it runs").to_string());
+    assert!(Command::new("kill").arg("-KILL").args(ids).status().expect("a program").success());
+    (0..4).for_each(|index| network.kill(index).expect("it is waited for"));
+    first.iter().for_each(|index| network.begin(*index).expect("a process"));
+    sleep(Duration::from_millis(700));
+    second.iter().for_each(|index| network.begin(*index).expect("a process"));
+}
+
+/// The application answers only where it is shown all ancestors; and after a crash of all nodes none of them remembers a block.
+#[test]
+fn four_nodes_continue_after_each_crash_of_all_of_them_with_an_application_that_needs_all_ancestors() {
+    const ALL: [u32; 4] = [0, 1, 2, 3];
+    const CRASHES: u64 = 12;
+    let plan = Plan {
+        nodes: 4,
+        protocol: Protocol {
+            leader_timeout_ms: 300,
+            certification_timeout_ms: 600,
+            timeout_retry_ms: 200,
+            inactivity_ms: 1500,
+            ..Protocol::default()
+        },
+        sync: true,
+        faults: Vec::new(),
+        delay_ms: 0,
+        program: program("numbered"),
+        folder: folder_of("numbered"),
+    };
+    let mut network = Network::new(plan).expect("keys and settings");
+    network.begin_all().expect("processes");
+    let logs = |network: &Network| ALL.map(|index| fs::read_to_string(network.log(index)).unwrap_or_default()).concat();
+    let mut height = 0;
+    for crash in 1..=CRASHES {
+        assert!(
+            network.wait_until(&ALL, "height", height + 5, SOON),
+            "crash {crash}, height {height}: {}",
+            logs(&network)
+        );
+        sleep(Duration::from_millis(7 * crash)); // at another point of a view each time
+        let heights = ALL.iter().filter_map(|index| network.metric(*index, "height"));
+        height = heights.max().expect("they reply");
+        let (first, second) = if crash % 2 == 0 { ([0, 1], [2, 3]) } else { ([2, 3], [0, 1]) };
+        crash_all(&mut network, first, second);
+    }
+    assert!(network.wait_until(&ALL, "height", height + 5, SOON), "{}", logs(&network));
+    network.stop().expect("they stop");
+    let logs = logs(&network);
+    assert!(!logs.contains("and the parent is of view"), "{logs}");
     fs::remove_dir_all(network.folder()).expect("a folder");
 }
 

@@ -2,7 +2,7 @@
 
 use crate::accounts::{Accounts, Transaction};
 use serde::{Deserialize, Serialize};
-use simplex_node::{Application, Cancelled, Outcome, Start};
+use simplex_node::{Ancestors, Application, Cancelled, Outcome, Start};
 use simplex_view_state::{Context, Digest, View};
 use simplex_wire::Block;
 use std::fs::{self, File};
@@ -89,6 +89,15 @@ impl Ledger {
     pub fn book(&self) -> Arc<Mutex<Book>> {
         self.book.clone()
     }
+
+    /// The accounts before a block: those after the last final one, and all transactions of the ancestors after that.
+    fn accounts_after(&self, ancestors: &Ancestors) -> Accounts {
+        let mut accounts = locked(&self.book).state.accounts.clone();
+        for it in ancestors.iter().filter_map(transactions).flatten() {
+            accounts.apply(&it);
+        }
+        accounts
+    }
 }
 
 fn at_genesis(start: &Start) -> Outcome<State> {
@@ -115,29 +124,35 @@ fn transactions(block: &Block) -> Option<Vec<Transaction>> {
 }
 
 impl Application for Ledger {
-    fn build(&mut self, _: &Context, _: &Cancelled) -> Option<Vec<u8>> {
+    fn build(&mut self, _: &Context, ancestors: &Ancestors, _: &Cancelled) -> Option<Vec<u8>> {
+        let mut accounts = self.accounts_after(ancestors);
         let book = locked(&self.book);
-        let mut accounts = book.state.accounts.clone();
         let mut pending: Vec<&Transaction> = book.pending.iter().collect();
         pending.sort_by_key(|it| it.number); // a sender's transactions are applied in order
         let fits: Vec<&Transaction> = pending.into_iter().filter(|it| accounts.apply(it)).take(MOST_OF_A_BLOCK).collect();
         serde_json::to_vec(&fits).ok()
     }
 
-    /// A block may hold transactions that have no effect once it is final: whether they have one depends on blocks before it.
-    fn verify(&mut self, block: &Block, _: &Cancelled) -> Option<bool> {
-        Some(transactions(block).is_some())
+    /// All transactions of a block have an effect: no ancestor has one of them, and no account pays more than it has.
+    fn verify(&mut self, block: &Block, ancestors: &Ancestors, _: &Cancelled) -> Option<bool> {
+        let mut accounts = self.accounts_after(ancestors);
+        Some(transactions(block).is_some_and(|all| all.iter().all(|it| accounts.apply(it))))
     }
 
-    fn certify(&mut self, block: &Block, cancelled: &Cancelled) -> Option<bool> {
-        self.verify(block, cancelled)
+    fn certify(&mut self, block: &Block, ancestors: &Ancestors, cancelled: &Cancelled) -> Option<bool> {
+        self.verify(block, ancestors, cancelled)
     }
 
     fn finalized(&mut self, block: &Block) -> io::Result<()> {
         let mut book = locked(&self.book);
         let Book { state, pending } = &mut *book;
         for it in transactions(block).unwrap_or_default() {
-            state.accounts.apply(&it);
+            if !state.accounts.apply(&it) {
+                return Err(io::Error::other(format!(
+                    "the final block of view {} has a transaction without effect",
+                    block.view
+                )));
+            }
         }
         pending.retain(|it| it.number >= state.accounts.get(&it.from).next);
         (state.height, state.view, state.payload) = (state.height + 1, block.view.get(), *block.payload().bytes());

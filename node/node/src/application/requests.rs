@@ -141,7 +141,7 @@ fn logged<T>(found: io::Result<Option<T>>) -> Option<T> {
 #[cfg(test)]
 mod tests {
     use super::*;
-    use crate::application::Cancelled;
+    use crate::application::{Ancestors, Cancelled};
     use simplex_view_state::{Context, Epoch, Round};
     use std::sync::Arc;
 
@@ -167,13 +167,13 @@ mod tests {
     }
 
     impl Application for Bound {
-        fn build(&mut self, _: &Context, _: &Cancelled) -> Option<Vec<u8>> {
+        fn build(&mut self, _: &Context, _: &Ancestors, _: &Cancelled) -> Option<Vec<u8>> {
             None
         }
-        fn verify(&mut self, _: &Block, _: &Cancelled) -> Option<bool> {
+        fn verify(&mut self, _: &Block, _: &Ancestors, _: &Cancelled) -> Option<bool> {
             None
         }
-        fn certify(&mut self, _: &Block, _: &Cancelled) -> Option<bool> {
+        fn certify(&mut self, _: &Block, _: &Ancestors, _: &Cancelled) -> Option<bool> {
             None
         }
         fn finalized(&mut self, _: &Block) -> io::Result<()> {

@@ -1,8 +1,8 @@
 //! The thread of the application. What the engine waits for comes first, then what is asked of snapshots, then final blocks, one at a time in
-//! between.
+//! between. Where many final blocks wait, a question waits until few do: all of them are ancestors of its block.
 
 use super::requests::{Request, Serving};
-use super::{Application, Cancelled};
+use super::{Ancestors, Application, Cancelled};
 use crate::chain::Entry;
 use crate::inbox::{Event, Inbox};
 use crate::metrics::Counters;
@@ -14,6 +14,7 @@ use std::sync::atomic::{AtomicBool, Ordering::Relaxed};
 use std::sync::{Arc, Condvar, Mutex, MutexGuard};
 use std::thread::{self, JoinHandle};
 use std::time::{Duration, Instant};
+use tracing::error;
 
 /// How often the application is asked what it has on the disk.
 const DURABLE: Duration = Duration::from_secs(1);
@@ -22,16 +23,18 @@ const DURABLE: Duration = Duration::from_secs(1);
 pub const REPLY_WITHIN: Duration = Duration::from_micros(500);
 /// How many requests of a peer wait at most.
 const MOST_REQUESTS: usize = 8;
+/// How many final blocks wait at most while a question is answered.
+const MOST_FINALS: usize = 16;
 
-/// What the application is asked, and the engine waits for.
+/// What the application is asked, and the engine waits for: each with the ancestors above the final blocks that the worker has.
 #[derive(Debug)]
 pub enum Question {
     /// To build a block.
-    Build(Context),
+    Build(Context, Ancestors),
     /// To verify the block of a proposal.
-    Verify(Proposal, Block),
+    Verify(Proposal, Arc<Block>, Ancestors),
     /// To judge the block of a notarized proposal.
-    Certify(Proposal, Block),
+    Certify(Proposal, Arc<Block>, Ancestors),
 }
 
 /// Which questions a view has: one of each kind.
@@ -49,9 +52,9 @@ impl Question {
     /// Its kind and view.
     pub fn key(&self) -> (Kind, View) {
         match self {
-            Question::Build(context) => (Kind::Build, context.round.view),
-            Question::Verify(proposal, _) => (Kind::Verify, proposal.view()),
-            Question::Certify(proposal, _) => (Kind::Certify, proposal.view()),
+            Question::Build(context, _) => (Kind::Build, context.round.view),
+            Question::Verify(proposal, ..) => (Kind::Verify, proposal.view()),
+            Question::Certify(proposal, ..) => (Kind::Certify, proposal.view()),
         }
     }
 }
@@ -79,7 +82,7 @@ struct Waiting {
     /// What it works on.
     running: Option<((Kind, View), Cancelled)>,
     requests: VecDeque<Request>,
-    finals: VecDeque<Entry>,
+    finals: VecDeque<Arc<Block>>,
     is_closed: bool,
 }
 
@@ -164,7 +167,7 @@ impl Worker {
         let mut waiting = self.shared.lock();
         // (a build is answered also where it never began)
         waiting.questions.retain(|(question, cancelled, _)| {
-            let (is_passed, is_build) = (is_passed(question.key()), matches!(question, Question::Build(_)));
+            let (is_passed, is_build) = (is_passed(question.key()), matches!(question, Question::Build(..)));
             if is_passed {
                 cancelled.cancel();
             }
@@ -187,7 +190,7 @@ impl Worker {
 
     /// These blocks are final, and in the archive.
     pub fn finalized(&self, entries: Vec<Entry>) {
-        self.shared.lock().finals.extend(entries);
+        self.shared.lock().finals.extend(entries.into_iter().map(|it| Arc::new(it.block)));
         self.shared.arrival.notify_one();
     }
 
@@ -229,7 +232,7 @@ impl Drop for End {
 enum Next {
     Question(Asked),
     Request(Box<Request>),
-    Final(Box<Entry>),
+    Final(Arc<Block>),
     End,
 }
 
@@ -261,7 +264,7 @@ impl<A: Application> Work<A> {
                     reply.into_iter().for_each(|it| inbox.tell(Event::Replied(it)));
                     self.counters.height.store(self.application.height(), Relaxed);
                 }
-                Next::Final(entry) => self.take(&entry.block)?,
+                Next::Final(block) => self.take(&block)?,
                 Next::End => return Ok(()),
             }
             if self.asked_at.elapsed() > DURABLE {
@@ -275,6 +278,10 @@ impl<A: Application> Work<A> {
     fn next(&self) -> Next {
         let mut waiting = self.shared.lock();
         loop {
+            let is_behind = waiting.finals.len() > MOST_FINALS && !waiting.questions.is_empty();
+            if is_behind && let Some(block) = waiting.finals.pop_front() {
+                return Next::Final(block);
+            }
             if let Some(asked) = waiting.questions.pop_front() {
                 waiting.running = Some((asked.0.key(), asked.1.clone()));
                 return Next::Question(asked);
@@ -282,8 +289,8 @@ impl<A: Application> Work<A> {
             if let Some(request) = waiting.requests.pop_front() {
                 return Next::Request(Box::new(request));
             }
-            if let Some(entry) = waiting.finals.pop_front() {
-                return Next::Final(Box::new(entry));
+            if let Some(block) = waiting.finals.pop_front() {
+                return Next::Final(block);
             }
             if waiting.is_closed {
                 return Next::End;
@@ -295,20 +302,38 @@ impl<A: Application> Work<A> {
     /// The answer; `None` where nobody waits for it. A build is always answered: until then no other one begins.
     fn answer(&mut self, question: Question, cancelled: &Cancelled) -> Option<Answer> {
         match question {
-            Question::Build(context) => {
-                let is_wanted = !cancelled.is_cancelled();
-                let content = is_wanted.then(|| self.application.build(&context, cancelled)).flatten();
+            Question::Build(context, above) => {
+                let parent = (context.parent, context.parent_payload);
+                let ancestors = self.pending(&above, parent).filter(|_| !cancelled.is_cancelled());
+                let content = ancestors.and_then(|it| self.application.build(&context, &it, cancelled));
                 Some(Answer::Built(context, content.filter(|_| !cancelled.is_cancelled())))
             }
-            Question::Verify(proposal, block) => {
-                let is_valid = self.application.verify(&block, cancelled)?;
+            Question::Verify(proposal, block, above) => {
+                let ancestors = self.pending(&above, block.parent)?;
+                let is_valid = self.application.verify(&block, &ancestors, cancelled)?;
                 Some(Answer::Verified(proposal.view(), proposal.payload, is_valid))
             }
-            Question::Certify(proposal, block) => {
-                let is_success = self.application.certify(&block, cancelled)?;
+            Question::Certify(proposal, block, above) => {
+                let ancestors = self.pending(&above, block.parent)?;
+                let is_success = self.application.certify(&block, &ancestors, cancelled)?;
                 Some(Answer::Certified(proposal.view(), proposal.payload, is_success))
             }
         }
+    }
+
+    /// The ancestors that the application has not taken: final blocks that wait here, and those above. `None` where the application has passed
+    /// the parent: nobody waits for the answer then.
+    fn pending(&self, above: &Ancestors, parent: (View, Digest)) -> Option<Ancestors> {
+        let last = self.application.last();
+        let pending = above.after(last, parent, self.shared.lock().finals.iter());
+        if pending.is_none() && last.0 <= parent.0 {
+            let (last, parent) = (last.0.get(), parent.0.get());
+            error!(
+                last,
+                parent, "a block's ancestors do not have the application's last block: it is not asked about the block"
+            );
+        }
+        pending
     }
 
     /// (An application may be ahead of an archive whose end was cut off.)
@@ -332,13 +357,16 @@ mod tests {
 
     /// Works on each question until it is cancelled, where its view is odd; and panics in view 100.
     struct Slow {
-        taken: Vec<View>,
+        taken: Vec<(View, Digest)>,
         begun: Sender<View>,
+        /// How many ancestors the last question had, and how many blocks were taken.
+        shown: Arc<Mutex<(usize, usize)>>,
     }
 
     impl Slow {
-        fn work(&self, view: View, cancelled: &Cancelled) -> Option<bool> {
+        fn work(&self, view: View, ancestors: &Ancestors, cancelled: &Cancelled) -> Option<bool> {
             assert_ne!(view.get(), 100);
+            *self.shown.lock().expect("no panic") = (ancestors.len(), self.taken.len());
             self.begun.send(view).expect("the test looks");
             while view.get() % 2 == 1 {
                 thread::sleep(Duration::from_millis(1));
@@ -351,25 +379,25 @@ mod tests {
     }
 
     impl Application for Slow {
-        fn build(&mut self, context: &Context, cancelled: &Cancelled) -> Option<Vec<u8>> {
-            self.work(context.round.view, cancelled).map(|_| vec![1])
+        fn build(&mut self, context: &Context, ancestors: &Ancestors, cancelled: &Cancelled) -> Option<Vec<u8>> {
+            self.work(context.round.view, ancestors, cancelled).map(|_| vec![1])
         }
 
-        fn verify(&mut self, block: &Block, cancelled: &Cancelled) -> Option<bool> {
-            self.work(block.view, cancelled)
+        fn verify(&mut self, block: &Block, ancestors: &Ancestors, cancelled: &Cancelled) -> Option<bool> {
+            self.work(block.view, ancestors, cancelled)
         }
 
-        fn certify(&mut self, block: &Block, cancelled: &Cancelled) -> Option<bool> {
-            self.work(block.view, cancelled)
+        fn certify(&mut self, block: &Block, ancestors: &Ancestors, cancelled: &Cancelled) -> Option<bool> {
+            self.work(block.view, ancestors, cancelled)
         }
 
         fn finalized(&mut self, block: &Block) -> io::Result<()> {
-            self.taken.push(block.view);
+            self.taken.push((block.view, block.payload()));
             Ok(())
         }
 
         fn last(&self) -> (View, Digest) {
-            (self.taken.last().copied().unwrap_or(View::GENESIS), Digest::default())
+            self.taken.last().copied().unwrap_or_default()
         }
 
         fn height(&self) -> u64 {
@@ -394,30 +422,60 @@ mod tests {
     }
 
     fn asked(kind: Kind, view: u64) -> Question {
-        let block = Block::new(&context(view), &[]);
+        asked_on(kind, context(view), Ancestors::default())
+    }
+
+    fn asked_on(kind: Kind, context: Context, above: Ancestors) -> Question {
+        let block = Arc::new(Block::new(&context, &[]));
         let proposal = Proposal {
-            round: context(view).round,
-            parent: View::GENESIS,
+            round: context.round,
+            parent: context.parent,
             payload: block.payload(),
         };
         match kind {
-            Kind::Build => Question::Build(context(view)),
-            Kind::Verify => Question::Verify(proposal, block),
-            Kind::Certify => Question::Certify(proposal, block),
+            Kind::Build => Question::Build(context, above),
+            Kind::Verify => Question::Verify(proposal, block, above),
+            Kind::Certify => Question::Certify(proposal, block, above),
         }
+    }
+
+    /// Blocks of the views from 1 on, each on the one before; and the context of the next one in this view.
+    fn chain(length: u64, view: u64) -> (Vec<Block>, Context) {
+        let (mut blocks, mut next) = (Vec::new(), context(1));
+        for height in 1..=length {
+            let block = Block::new(&next, &[]);
+            next = Context {
+                parent: block.view,
+                parent_payload: block.payload(),
+                ..context(height + 1)
+            };
+            blocks.push(block);
+        }
+        next.round.view = View::new(view);
+        (blocks, next)
+    }
+
+    fn entries(blocks: &[Block]) -> Vec<Entry> {
+        let entry = |(height, block): (u64, &Block)| Entry {
+            height,
+            block: block.clone(),
+            certificate: None,
+        };
+        (1..).zip(blocks).map(entry).collect()
     }
 
     /// The worker, what it began, and its answers and counts.
     fn worker() -> (Worker, std::sync::mpsc::Receiver<View>, Arc<Inbox>, Arc<Counters>) {
         let (begun, seen) = channel();
         let (inbox, counters) = (Arc::new(Inbox::new(1)), Arc::new(Counters::default()));
-        let slow = Slow { taken: Vec::new(), begun };
-        (
-            Worker::begin(slow, Serving::default(), inbox.clone(), counters.clone()).expect("a thread"),
-            seen,
-            inbox,
-            counters,
-        )
+        let worker = begin(begun, &inbox, &counters, Default::default());
+        (worker, seen, inbox, counters)
+    }
+
+    fn begin(begun: Sender<View>, inbox: &Arc<Inbox>, counters: &Arc<Counters>, shown: Arc<Mutex<(usize, usize)>>) -> Worker {
+        let taken = Vec::new();
+        let slow = Slow { taken, begun, shown };
+        Worker::begin(slow, Serving::default(), inbox.clone(), counters.clone()).expect("a thread")
     }
 
     /// The next answer, but for what it has on the disk.
@@ -471,17 +529,54 @@ mod tests {
         let (mut worker, begun, inbox, counters) = worker();
         worker.ask(asked(Kind::Certify, 1));
         assert_eq!(begun.recv_timeout(SOON), Ok(View::new(1)));
-        let entry = |height: u64| Entry {
-            height,
-            block: Block::new(&context(height), &[]),
-            certificate: None,
-        };
-        worker.finalized((1..=500).map(entry).collect());
-        worker.ask(asked(Kind::Verify, 2));
+        let (blocks, next) = chain(500, 502);
+        worker.finalized(entries(&blocks));
+        worker.ask(asked_on(Kind::Verify, next, Ancestors::default()));
         worker.cancel_passed(View::new(1), View::new(1));
         assert!(matches!(answer(&inbox, SOON), Some(Answer::Verified(..))));
         worker.stop();
         assert_eq!(counters.height.load(Relaxed), 500);
+    }
+
+    /// What the application is shown for a block in view 1000, while so many final blocks wait and the others above them are pending: the
+    /// number of ancestors, and of blocks that it took before.
+    fn shown(finals: usize, pending: usize) -> (usize, usize) {
+        let (begun, seen) = channel();
+        let (inbox, shown) = (Arc::new(Inbox::new(1)), Arc::new(Mutex::new((0, 0))));
+        let worker = begin(begun, &inbox, &Arc::default(), shown.clone());
+        worker.ask(asked(Kind::Certify, 1));
+        assert_eq!(seen.recv_timeout(SOON), Ok(View::new(1)));
+        let (blocks, next) = chain((finals + pending) as u64, 1000);
+        worker.finalized(entries(&blocks[..finals]));
+        worker.ask(asked_on(Kind::Verify, next, blocks[finals..].iter().cloned().collect()));
+        worker.cancel_passed(View::new(1), View::new(1));
+        assert!(matches!(answer(&inbox, SOON), Some(Answer::Verified(..))));
+        *shown.lock().expect("no panic")
+    }
+
+    #[test]
+    fn final_blocks_that_wait_are_ancestors_and_most_of_many_are_taken_first() {
+        assert_eq!(shown(0, 3), (3, 0));
+        assert_eq!(shown(5, 2), (7, 0));
+        assert_eq!(shown(100, 2), (MOST_FINALS + 2, 100 - MOST_FINALS));
+    }
+
+    #[test]
+    fn a_block_whose_parent_the_application_has_passed_is_no_question_any_more() {
+        let (mut worker, begun, inbox, _) = worker();
+        let (blocks, _) = chain(500, 502);
+        worker.finalized(entries(&blocks));
+        let until = Instant::now() + SOON;
+        while !worker.shared.lock().finals.is_empty() {
+            assert!(Instant::now() < until);
+            thread::sleep(Duration::from_millis(1));
+        }
+        worker.ask(asked(Kind::Verify, 2));
+        worker.ask(asked(Kind::Build, 4));
+        let built = answer(&inbox, SOON);
+        assert!(matches!(built, Some(Answer::Built(_, None))), "{built:?}");
+        worker.stop();
+        assert!(begun.try_recv().is_err(), "the application was asked nothing");
     }
 
     #[test]

@@ -84,7 +84,7 @@ fn link_of(record: &[u8; RECORD], taken_us: u64) -> Link {
 #[cfg(test)]
 mod tests {
     use super::*;
-    use crate::application::{Application, Cancelled};
+    use crate::application::{Ancestors, Application, Cancelled};
     use crate::ledger::Options;
     use crate::start::Start;
     use crate::trace::scratch;
@@ -127,9 +127,11 @@ mod tests {
     fn grow(ledger: &mut Ledger, count: u64) -> Vec<Block> {
         let grown = (0..count).map(|_| {
             let context = context(ledger.last());
-            let content = ledger.build(&context, &Cancelled::default()).expect("nothing is cancelled");
+            let content = ledger
+                .build(&context, &Ancestors::default(), &Cancelled::default())
+                .expect("nothing is cancelled");
             let block = Block::new(&context, &content);
-            assert_eq!(ledger.verify(&block, &Cancelled::default()), Some(true));
+            assert_eq!(ledger.verify(&block, &Ancestors::default(), &Cancelled::default()), Some(true));
             ledger.finalized(&block).expect("a disk");
             block
         });
@@ -179,10 +181,10 @@ mod tests {
         let at = content.len() - 1;
         content[at] ^= 1;
         let other = Block::new(&context(ledger.last()), &content);
-        let judge = |it: &mut Ledger, block: &Block| it.verify(block, &Cancelled::default());
+        let judge = |it: &mut Ledger, block: &Block| it.verify(block, &Ancestors::default(), &Cancelled::default());
         assert_eq!(judge(&mut ledger, &other), Some(false));
         assert_eq!(
-            ledger.certify(&other, &Cancelled::default()),
+            ledger.certify(&other, &Ancestors::default(), &Cancelled::default()),
             Some(true),
             "all certify what is notarized"
         );
@@ -219,11 +221,11 @@ mod tests {
         let mut other = open_at(&late, (blocks[4].view, blocks[4].payload()));
         blocks[5..].iter().for_each(|it| other.finalized(it).expect("a disk"));
         let bind = blocks.iter().find(|it| ledger.bound(it).is_some()).expect("one binds");
-        assert_eq!(other.verify(bind, &Cancelled::default()), None);
+        assert_eq!(other.verify(bind, &Ancestors::default(), &Cancelled::default()), None);
         drop(other);
         let mut other = open(&late);
         assert_eq!(
-            other.verify(bind, &Cancelled::default()),
+            other.verify(bind, &Ancestors::default(), &Cancelled::default()),
             None,
             "also where it is not said at a restart"
         );
@@ -234,7 +236,7 @@ mod tests {
         let last = blocks[blocks.len() - 1].view;
         assert_eq!(fs::read(late.join(format!("chain.until-view-{last}"))).expect("it is there"), old);
         assert_eq!(blocks_of(&late), blocks_of(&folder)[..2 * EVERY as usize]);
-        assert_eq!(open(&late).verify(bind, &Cancelled::default()), Some(true));
+        assert_eq!(open(&late).verify(bind, &Ancestors::default(), &Cancelled::default()), Some(true));
     }
 
     #[test]

@@ -97,6 +97,7 @@ impl Replica {
         {
             self.chain.finalize(&proposal, Some(it), &self.parts.blocks)?;
         }
+        self.pass((tail.view, tail.payload))?;
         self.deliver()
     }
 
@@ -123,8 +124,10 @@ impl Replica {
 
     /// These blocks are in the archive: the application takes them, and what was kept for them goes.
     pub(super) fn take_archived(&mut self, entries: Vec<Entry>) -> Outcome {
+        let last = entries.last().map(|it| (it.block.view, it.block.payload()));
         self.parts.application.finalized(entries);
-        Ok(self.parts.blocks.forget(self.parts.keeper.synced())?)
+        self.parts.blocks.forget(self.parts.keeper.synced())?;
+        last.map_or(Ok(()), |it| self.pass(it))
     }
 
     /// Asks for the blocks that are missing after the chain's last one, where it is far behind or has been for a while.

@@ -1,44 +1,97 @@
 //! Blocks: what the application builds, verifies and judges.
 
 use super::Replica;
+use crate::application::Ancestors;
+use crate::application::ancestors::Branch;
 use crate::application::worker::{Answer, Kind, Question};
 use crate::settings::Outcome;
-use simplex_view_state::{Context, Digest, Input, Proposal};
+use crate::waiting::Pending;
+use simplex_view_state::{Context, Digest, Input, Proposal, View};
 use simplex_wire::{Block, LONGEST_BLOCK};
 use std::sync::atomic::Ordering::Relaxed;
 use std::time::Instant;
 use tracing::error;
 
 impl Replica {
-    /// Has the application verify a proposal, now or when its block has come.
+    /// Has the application verify a proposal, now or when its block and its ancestors' have come. Nobody waits for an answer of a view that
+    /// the final chain has passed.
     pub(super) fn verify(&mut self, context: Context, proposal: Proposal) -> Outcome {
-        let view = context.round.view;
-        let Some(block) = self.parts.blocks.get(&proposal.payload) else {
-            self.waiting.verify(context, proposal, self.parts.clock.now());
-            return Ok(());
-        };
-        if block.is_of(&proposal) && block.parent == (context.parent, context.parent_payload) {
-            let question = Question::Verify(proposal, block.clone());
-            self.ask_application(question, proposal.payload);
+        let (view, parent) = (context.round.view, (context.parent, context.parent_payload));
+        let question = Pending::Verify(context, proposal);
+        if view <= self.passed.0 {
             return Ok(());
         }
-        self.handle(Input::Verified { view, is_valid: false })?;
+        let Some(block) = self.parts.blocks.get(&proposal.payload).cloned() else {
+            self.wait_for(question, (view, proposal.payload));
+            return Ok(());
+        };
+        let is_its = block.is_of(&proposal) && block.parent == parent;
+        match self.branch_to(parent) {
+            Branch::Whole(ancestors) if is_its => {
+                self.ask_application(Question::Verify(proposal, block, ancestors), proposal.payload);
+            }
+            Branch::Missing(view, payload) if is_its => self.wait_for(question, (view, payload)),
+            _ => {
+                self.handle(Input::Verified { view, is_valid: false })?;
+            }
+        }
         Ok(())
     }
 
-    /// Has the application judge a notarized proposal, now or when its block has come.
+    /// Has the application judge a notarized proposal, now or when its block and its ancestors' have come; of a passed view as above.
     pub(super) fn certify(&mut self, proposal: Proposal) -> Outcome {
-        let view = proposal.view();
-        let Some(block) = self.parts.blocks.get(&proposal.payload) else {
-            self.waiting.certify(proposal, self.turns.leader(view), self.parts.clock.now());
-            return Ok(());
-        };
-        if block.is_of(&proposal) {
-            let question = Question::Certify(proposal, block.clone());
-            self.ask_application(question, proposal.payload);
+        let (view, question) = (proposal.view(), Pending::Certify(proposal));
+        if view <= self.passed.0 {
             return Ok(());
         }
-        self.handle(Input::Certified { view, is_success: false })?;
+        let Some(block) = self.parts.blocks.get(&proposal.payload).cloned() else {
+            self.wait_for(question, (view, proposal.payload));
+            return Ok(());
+        };
+        match self.branch_to(block.parent) {
+            Branch::Whole(ancestors) if block.is_of(&proposal) => {
+                self.ask_application(Question::Certify(proposal, block, ancestors), proposal.payload);
+            }
+            Branch::Missing(view, payload) if block.is_of(&proposal) => self.wait_for(question, (view, payload)),
+            _ => {
+                self.handle(Input::Certified { view, is_success: false })?;
+            }
+        }
+        Ok(())
+    }
+
+    /// The ancestors up to a parent, above the final blocks that the application's thread has.
+    fn branch_to(&self, parent: (View, Digest)) -> Branch {
+        Ancestors::collect(self.passed, parent, |payload| self.parts.blocks.get(payload))
+    }
+
+    /// A question waits for a block, which is asked of its leader first. (Final blocks are asked for by the chain: they come in ranges.)
+    fn wait_for(&mut self, question: Pending, block: (View, Digest)) {
+        self.waiting.wait(question, block);
+        if block.0 > self.chain.target() {
+            let (leader, now) = (self.turns.leader(block.0), self.parts.clock.now());
+            self.waiting.want(block.0, block.1, leader, now);
+        }
+    }
+
+    /// The application's thread has the final blocks up to this one: what waited for one of them is asked.
+    pub(super) fn pass(&mut self, last: (View, Digest)) -> Outcome {
+        if last.0 <= self.passed.0 {
+            return Ok(());
+        }
+        self.passed = last;
+        let ready = self.waiting.archived(last.0);
+        self.ask_again(ready)
+    }
+
+    fn ask_again(&mut self, questions: Vec<Pending>) -> Outcome {
+        for question in questions {
+            match question {
+                Pending::Build(context) => self.pace.ask(context),
+                Pending::Verify(context, proposal) => self.verify(context, proposal)?,
+                Pending::Certify(proposal) => self.certify(proposal)?,
+            }
+        }
         Ok(())
     }
 
@@ -47,14 +100,22 @@ impl Replica {
         self.parts.application.ask(question);
     }
 
-    /// Has the application build the next block that is due, once it has built the one before.
+    /// Has the application build the next block that is due, once it has built the one before and the ancestors have come.
     pub(super) fn build_due(&mut self) -> Outcome {
-        self.pace.forget(self.views()?.current);
+        let current = self.views()?.current;
+        self.pace.forget(current);
+        self.waiting.forget_builds(current);
         if self.building.is_none()
             && let Some(context) = self.pace.due(Instant::now())
         {
-            self.building = Some(context);
-            self.parts.application.ask(Question::Build(context));
+            match self.branch_to((context.parent, context.parent_payload)) {
+                Branch::Whole(ancestors) => {
+                    self.building = Some(context);
+                    self.parts.application.ask(Question::Build(context, ancestors));
+                }
+                Branch::Missing(view, payload) => self.wait_for(Pending::Build(context), (view, payload)),
+                Branch::Broken => {}
+            }
         }
         Ok(())
     }
@@ -113,12 +174,7 @@ impl Replica {
         self.parts.blocks.keep(block.clone())?;
         self.chain.arrived(&block, &self.parts.blocks)?;
         let ready = self.waiting.arrived(&payload);
-        for (context, proposal) in ready.to_verify {
-            self.verify(context, proposal)?;
-        }
-        for proposal in ready.to_certify {
-            self.certify(proposal)?;
-        }
+        self.ask_again(ready)?;
         self.deliver()
     }
 }

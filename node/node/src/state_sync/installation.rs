@@ -177,7 +177,7 @@ pub fn resume(folder: &Path, application: &mut impl Application) -> io::Result<O
 #[cfg(test)]
 mod tests {
     use super::*;
-    use crate::application::Cancelled;
+    use crate::application::{Ancestors, Cancelled};
     use crate::trace::scratch;
     use simplex_view_state::{Context, Digest, View};
     use simplex_wire::Block;
@@ -191,13 +191,13 @@ mod tests {
     }
 
     impl Application for Bytes {
-        fn build(&mut self, _: &Context, _: &Cancelled) -> Option<Vec<u8>> {
+        fn build(&mut self, _: &Context, _: &Ancestors, _: &Cancelled) -> Option<Vec<u8>> {
             None
         }
-        fn verify(&mut self, _: &Block, _: &Cancelled) -> Option<bool> {
+        fn verify(&mut self, _: &Block, _: &Ancestors, _: &Cancelled) -> Option<bool> {
             None
         }
-        fn certify(&mut self, _: &Block, _: &Cancelled) -> Option<bool> {
+        fn certify(&mut self, _: &Block, _: &Ancestors, _: &Cancelled) -> Option<bool> {
             None
         }
         fn finalized(&mut self, _: &Block) -> io::Result<()> {
