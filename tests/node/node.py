@@ -27,7 +27,7 @@ from lib.program import ROOT
 
 NODE = ROOT / "node"
 SKIPPED = 77
-LEAST_TESTS = 335
+LEAST_TESTS = 336
 # The libraries that the container of `node/Containerfile` has.
 IN_CONTAINER = {"libssl", "libcrypto", "libgcc_s", "libc", "libm", "libdl", "libpthread"}
 # The words of the network that `./demo` runs.
@@ -241,6 +241,8 @@ WRONG_BODIES = (
     ("links are never cut", "../../sim/src/network.rs", "let is_cut = side(sent.from) != side(sent.to);", "let is_cut = false;"),
     ("a silent leader proposes", "../../sim/src/fault.rs", "if matches!(sent.message, Message::Proposal(..)) {", "if false {"),
     ("what is passed is not cancelled", "application/worker.rs", "cancelled.cancel();\n        }\n    }\n\n    /// Asks something", "drop(cancelled);\n        }\n    }\n\n    /// Asks something"),
+    ("a notarized block on another block than the notarized one is judged", "replica/judging.rs",
+     "let is_good = block.is_of(&proposal) && self.may_be_parent(block.parent)?;", "let is_good = block.is_of(&proposal);"),
     ("an answer of the application is lost", "replica/judging.rs", "self.handle(Input::Certified { view, is_success })?;", "drop(is_success);"),
     ("the disk is waited for before a reply that is near", "replica.rs", "            self.take_replies()?;\n", ""),
     ("a slow application is waited for each time", "application/worker.rs", "!self.shared.is_slow.load(Relaxed) && {", "{"),

@@ -7,7 +7,7 @@ use members::{SOON, chain, stored_blocks};
 use others::{Others, round};
 use simplex_node::crypto::{Keys, hex};
 use simplex_node::settings::Settings;
-use simplex_view_state::{Certificate, Digest, FetchKind, Participant, Proposal, Subject, View, Vote};
+use simplex_view_state::{Certificate, Context, Digest, FetchKind, Participant, Proposal, Subject, View, Vote};
 use simplex_wire::{Block, Message, Range};
 use std::collections::BTreeSet;
 use std::fs;
@@ -351,6 +351,38 @@ fn a_notarized_block_is_judged_once_its_ancestors_are_here() {
     assert!(others.counts("current_view") < 4);
     others.send(3, &Message::Block(parent.bytes().to_vec()));
     others.comes_to("current_view", 4);
+    others.end();
+}
+
+/// The leader of view 2 proposes two blocks, and the one of view 3 builds on the one that is not notarized: no chain can hold it.
+#[test]
+fn a_notarized_block_on_another_block_than_the_notarized_one_is_refused() {
+    let mut others = Others::around_a_node("two-parents");
+    others.nullify(1);
+    let ((vote, other), (notarized, parent)) = (others.proposal(2, 1, 7), others.proposal(2, 1, 8));
+    let is_voted = |message: &Message| matches!(message, Message::Vote(it) if it.subject == vote.subject);
+    others.send(1, &Message::Proposal(vote.clone(), other.bytes().to_vec()));
+    assert!(others.hears(SOON, |_, message| is_voted(message)), "it does not vote for the first");
+    let certificate = others.certificate(&[1, 2, 3], notarized.subject);
+    others.gives(&certificate, &parent);
+    others.comes_to("current_view", 3);
+    let context = Context {
+        round: round(3),
+        leader: Participant::new(2),
+        parent: View::new(2),
+        parent_payload: other.payload(),
+    };
+    let block = Block::new(&context, &[9; 256]);
+    let subject = Subject::Notarize(Proposal {
+        round: context.round,
+        parent: context.parent,
+        payload: block.payload(),
+    });
+    let certificate = others.certificate(&[1, 2, 3], subject);
+    others.gives(&certificate, &block);
+    let is_refused = |message: &Message| matches!(message, Message::Vote(it) if it.subject == Subject::Nullify(round(3)));
+    assert!(others.hears(SOON, |_, message| is_refused(message)), "it takes the block");
+    assert_eq!(others.counts("current_view"), 3);
     others.end();
 }
 

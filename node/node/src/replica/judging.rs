@@ -6,7 +6,7 @@ use crate::application::ancestors::Branch;
 use crate::application::worker::{Answer, Kind, Question};
 use crate::settings::Outcome;
 use crate::waiting::Pending;
-use simplex_view_state::{Context, Digest, Input, Proposal, View};
+use simplex_view_state::{CertificateKind, Context, Digest, Input, Proposal, Subject, View};
 use simplex_wire::{Block, LONGEST_BLOCK};
 use std::sync::atomic::Ordering::Relaxed;
 use std::time::Instant;
@@ -48,16 +48,30 @@ impl Replica {
             self.wait_for(question, (view, proposal.payload));
             return Ok(());
         };
+        let is_good = block.is_of(&proposal) && self.may_be_parent(block.parent)?;
         match self.branch_to(block.parent) {
-            Branch::Whole(ancestors) if block.is_of(&proposal) => {
+            Branch::Whole(ancestors) if is_good => {
                 self.ask_application(Question::Certify(proposal, block, ancestors), proposal.payload);
             }
-            Branch::Missing(view, payload) if block.is_of(&proposal) => self.wait_for(question, (view, payload)),
+            Branch::Missing(view, payload) if is_good => self.wait_for(question, (view, payload)),
             _ => {
                 self.handle(Input::Certified { view, is_success: false })?;
             }
         }
         Ok(())
+    }
+
+    /// Whether no other block is notarized or final in the view of this one. A notarized block may be on another block than the one that is
+    /// notarized in its parent's view, where that view's leader proposed two: no chain can hold both. Whoever judges it has a certificate of
+    /// its parent's view, so all honest nodes judge alike.
+    fn may_be_parent(&self, block: (View, Digest)) -> Outcome<bool> {
+        for kind in [CertificateKind::Notarization, CertificateKind::Finalization] {
+            let found = self.parts.engine.certificate(kind, block.0)?;
+            if let Some(Subject::Notarize(it) | Subject::Finalize(it)) = found.map(|it| it.subject()) {
+                return Ok(it.payload == block.1);
+            }
+        }
+        Ok(true)
     }
 
     /// The ancestors up to a parent, above the final blocks that the application's thread has.

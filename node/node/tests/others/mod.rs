@@ -99,6 +99,18 @@ impl Others {
         Certificate::of(subject, bytes)
     }
 
+    /// Sends a certificate on a block, and the block where the node asks for it.
+    pub fn gives(&mut self, certificate: &Certificate, block: &Block) {
+        self.send(1, &Message::Certificate(certificate.clone()));
+        let is_it = |message: &Message| matches!(message, Message::AskBlock(_, payload) if *payload == block.payload());
+        assert!(
+            self.hears(SOON, |_, message| is_it(message)),
+            "it does not ask for the block of view {}",
+            block.view
+        );
+        self.send(1, &Message::Block(block.bytes().to_vec()));
+    }
+
     pub fn nullify(&mut self, view: u64) {
         let certificate = self.certificate(&[1, 2, 3], Subject::Nullify(round(view)));
         self.send(1, &Message::Certificate(certificate));
