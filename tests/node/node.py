@@ -241,6 +241,8 @@ WRONG_BODIES = (
     ("links are never cut", "../../sim/src/network.rs", "let is_cut = side(sent.from) != side(sent.to);", "let is_cut = false;"),
     ("a silent leader proposes", "../../sim/src/fault.rs", "if matches!(sent.message, Message::Proposal(..)) {", "if false {"),
     ("what is passed is not cancelled", "application/worker.rs", "cancelled.cancel();\n        }\n    }\n\n    /// Asks something", "drop(cancelled);\n        }\n    }\n\n    /// Asks something"),
+    ("a host of parts asks for a missing block at each reply", "../examples/with_parts/host.rs", "self.blocks.hole().filter(|it| Some(*it) != asked)",
+     "self.blocks.hole().filter(|_| asked != Some(Default::default()))"),
     ("a notarized block on another block than the notarized one is judged", "replica/judging.rs",
      "let is_good = block.is_of(&proposal) && self.may_be_parent(block.parent)?;", "let is_good = block.is_of(&proposal);"),
     ("an answer of the application is lost", "replica/judging.rs", "self.handle(Input::Certified { view, is_success })?;", "drop(is_success);"),

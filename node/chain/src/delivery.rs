@@ -70,7 +70,8 @@ impl<B: Linked + Clone> Delivery<B> {
         Ok(self.take())
     }
 
-    /// Returns the lowest final block that is known to be missing: ask peers for it.
+    /// Returns the lowest final block that is known to be missing: ask peers for it at each finalization, and else once. Where all peers
+    /// reply and a host asks at each reply, the asks triple with each block, and its peers cut it off.
     pub fn hole(&self) -> Option<(View, Digest)> {
         self.chain.hole()
     }

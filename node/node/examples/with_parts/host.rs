@@ -4,15 +4,12 @@ use simplex_chain::{Delivery, Tail};
 use simplex_journal::Journal;
 use simplex_keys::{FromMember, Keys, Messages};
 use simplex_net::{Inbox, Peers, Places};
-use simplex_view_state::{Engine, Input, Moment, Options, Order, Output, Participant, Proposal};
+use simplex_view_state::{Digest, Engine, Input, Moment, Options, Order, Output, Participant, Proposal, View};
 use simplex_wire::{Block, Message};
 use std::time::{Duration, Instant};
 use std::{error::Error, path::Path, sync::Arc};
 
 pub type Outcome<T = ()> = Result<T, Box<dyn Error + Send + Sync>>;
-
-/// How many outputs are carried out before messages and time get a turn.
-const MOST_OUTPUTS: usize = 100;
 
 pub struct Host {
     keys: Arc<Keys>,
@@ -44,7 +41,8 @@ impl Host {
     /// Carries out what the engine returns, and passes it what comes, until enough is done.
     pub fn run(&mut self, mut is_enough: impl FnMut(&Host) -> bool) -> Outcome {
         while !is_enough(self) {
-            for _ in 0..MOST_OUTPUTS {
+            for _ in 0..100 {
+                // then messages and time get a turn
                 let Some(output) = self.engine.poll(self.now())? else { break };
                 self.carry_out(output)?;
             }
@@ -120,21 +118,22 @@ impl Host {
     }
 
     fn insert(&mut self, block: Block) -> Outcome {
+        let asked = self.blocks.hole();
         let blocks = self.blocks.insert(block)?;
-        self.deliver(blocks);
+        self.deliver(blocks, asked);
         Ok(())
     }
 
     fn finalized(&mut self, proposal: &Proposal) -> Outcome {
         let blocks = self.blocks.finalize(proposal)?;
-        self.deliver(blocks);
+        self.deliver(blocks, None);
         Ok(())
     }
 
-    /// Delivers final blocks, and asks for one that is missing.
-    fn deliver(&mut self, blocks: Vec<Block>) {
+    /// Delivers final blocks, and asks for one that is missing: at each finalization, and else once. All peers reply to one ask.
+    fn deliver(&mut self, blocks: Vec<Block>, asked: Option<(View, Digest)>) {
         self.delivered.extend(blocks);
-        if let Some((view, digest)) = self.blocks.hole() {
+        if let Some((view, digest)) = self.blocks.hole().filter(|it| Some(*it) != asked) {
             self.peers.broadcast(&Message::AskBlock(view, digest));
         }
     }

@@ -1,4 +1,5 @@
-//! A host of one's own, made of the parts: four members over TLS on this machine, each with a thread and a journal, finalize twenty blocks.
+//! A host of one's own, made of the parts: four members over TLS on this machine, each with a thread and a journal, finalize sixty blocks.
+//! The last one begins when the first has forty, and fetches these.
 //!
 //!     cargo run --example with_parts -- FOLDER
 
@@ -12,11 +13,13 @@ use simplex_wire::Block;
 use std::net::TcpListener;
 use std::path::PathBuf;
 use std::sync::Arc;
-use std::sync::atomic::{AtomicU32, Ordering::Relaxed};
+use std::sync::atomic::{AtomicU32, AtomicUsize, Ordering::Relaxed};
+use std::time::Duration;
 use std::{fs, thread};
 
 const MEMBERS: u32 = 4;
-const BLOCKS: usize = 20;
+const BLOCKS: usize = 60;
+const LATE: usize = 40;
 
 /// Keys that everyone knows: a real member draws its own.
 fn secret(index: u32) -> [u8; 32] {
@@ -37,12 +40,21 @@ fn main() -> Outcome {
     let public = (0..MEMBERS).map(|it| public_key(&secret(it))).collect::<Result<Vec<_>, _>>()?;
     let addresses = (0..MEMBERS).map(|_| address()).collect::<Outcome<Vec<_>>>()?;
     let (folder, done) = (PathBuf::from(folder), AtomicU32::new(0)); // how many members have delivered all blocks
+    let first = AtomicUsize::new(0); // how many blocks the first has delivered
     let run = |index| -> Outcome<Vec<Block>> {
         let me = Participant::new(index);
         let keys = Arc::new(Keys::new("with-parts".to_owned().try_into()?, me, &secret(index), &public)?);
         let places = Places::of(me, addresses.clone()).ok_or("no such member")?;
+        while index == MEMBERS - 1 && first.load(Relaxed) < LATE {
+            thread::sleep(Duration::from_millis(10));
+        }
         let mut host = Host::begin(keys, &places, &folder.join(index.to_string()))?;
-        host.run(|it| it.delivered.len() >= BLOCKS)?;
+        host.run(|it| {
+            if index == 0 {
+                first.store(it.delivered.len(), Relaxed);
+            }
+            it.delivered.len() >= BLOCKS
+        })?;
         done.fetch_add(1, Relaxed);
         host.run(|_| done.load(Relaxed) == MEMBERS)?; // until the others have them too
         Ok(host.delivered)
