@@ -23,7 +23,7 @@ const DURABLE: Duration = Duration::from_secs(1);
 pub const REPLY_WITHIN: Duration = Duration::from_micros(500);
 /// How many requests of a peer wait at most.
 const MOST_REQUESTS: usize = 8;
-/// How many final blocks wait at most while a question is answered.
+/// How many final blocks wait at most while the application works on a question.
 const MOST_FINALS: usize = 16;
 
 /// What the application is asked, and the engine waits for: each with the ancestors above the final blocks that the worker has.
