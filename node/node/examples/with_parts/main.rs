@@ -66,6 +66,11 @@ fn main() -> Outcome {
             .map(|it| it.join().expect("no host panics"))
             .collect::<Outcome<Vec<_>>>()
     })?;
+    show(&chains)
+}
+
+/// Prints the blocks of the first chain, and compares the others with it.
+fn show(chains: &[Vec<Block>]) -> Outcome {
     for it in &chains[0][..BLOCKS] {
         println!(
             "view {:>3}  block {}  {}",
