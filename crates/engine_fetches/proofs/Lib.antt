@@ -1,6 +1,6 @@
 pub mod Earlier
 pub mod Once
-pub mod Passing
+pub mod Remainders
 pub mod OutstandingFetches
-pub mod Opening
+pub mod OpenedFetches
 pub mod Repairs

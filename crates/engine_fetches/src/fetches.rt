@@ -12,8 +12,8 @@
 ghost use Rattle.std.specs.Prelude.{◌≡◌, ◌≢◌, ◌≤◌, ℕ, [], ◌++◌, ◌∷◌, true, not, filter, is_some, length, nat_lt, IfOk, OnOk, OnErr, IfSome, IsTrue, if◌then◌else◌};
 ghost use Rattle.engine_fetches.specs.Fetches.{fetch_kind, same_kind, is_of, is_within, is_fetch_open, each_once, due_at, fresh, asked_again, first_of, peers_of, place_of, whose_turn, IsEarliest};
 
-mod applying;
-mod lacking;
+mod effects;
+mod missing;
 
 use simplex_types::reasons::Kind;
 use simplex_types::types::{Participant, View};

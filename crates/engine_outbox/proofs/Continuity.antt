@@ -11,7 +11,7 @@ use Rattle.simplex_member.specs.Calls.{CallFacts, ReplyFacts}
 use Rattle.simplex_member.specs.MemberFacts.{MemberFacts, IsCall}
 use Rattle.simplex_member.specs.declared.member.journal.Stored.{Stored}
 use Rattle.laws_safety.specs.LifetimeLaws.{WhileAlive}
-use Rattle.laws_safety.proofs.frames.Rising.{never_fell, falls_never, never_falls, call_goes}
+use Rattle.laws_safety.proofs.frames.NoLowerViews.{never_fell, falls_never, never_falls, call_goes}
 use Rattle.laws_safety.proofs.lives.WithinLives.{alive_still, alive_joined, each_call}
 use Rattle.laws_safety.specs.Traces.{TraceEvent, Accepts, Signs}
 use Rattle.laws_safety.specs.MemberHistory.{HasHistory, ExtendsHistory}

@@ -1,10 +1,10 @@
 pub mod Behind
-pub mod Copying
+pub mod CopiedEntries
 pub mod Finalizations
 pub mod Lawfully
-pub mod Finalizing
+pub mod FinalOutputs
 pub mod Queued
-pub mod Working
+pub mod QueuedOutputs
 pub mod EmittedVotes
 pub mod HostStops
 pub mod RecordReach
@@ -18,4 +18,4 @@ pub mod TracedOutputs
 pub mod Signatures
 pub mod Resumes
 pub mod Begun
-pub mod Dropping
+pub mod IgnoredCalls

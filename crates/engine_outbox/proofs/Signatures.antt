@@ -19,7 +19,7 @@ use Rattle.laws_safety.specs.ExactVotes.{ExactAt, IsSignedFor}
 use Rattle.laws_safety.specs.Traces.{Signs, signed_in}
 use Rattle.simplex_member.specs.Runs.{Calls}
 use Rattle.laws_safety.specs.LifetimeLaws.{WhileAlive}
-use Rattle.laws_safety.proofs.frames.Rising.{call_goes}
+use Rattle.laws_safety.proofs.frames.NoLowerViews.{call_goes}
 use Rattle.laws_safety.proofs.lists.Splits.{only_one}
 use Rattle.laws_safety.proofs.lives.WithinLives.{each_call}
 use Rattle.engine_votes.specs.declared.votes.Vote.{Vote}

@@ -3,7 +3,7 @@ use Rattle.std.specs.Prelude.{◌≡◌, ◌⊎◌, ℕ, ◌≤◌, Bool, true, 
 use Rattle.simplex_types.specs.declared.types.messages.Subject.{Subject}
 use Rattle.simplex_voter.specs.Facts.{Elect, StateFacts}
 use Rattle.simplex_member.specs.MemberFacts.{MemberFacts, SignedMember}
-use Rattle.simplex_member.specs.Pruning.{pruned_member}
+use Rattle.simplex_member.specs.PrunedRecord.{pruned_member}
 use Rattle.simplex_member.specs.declared.member.journal.Stored.{Stored}
 use Rattle.laws_safety.specs.Traces.{TraceEvent}
 use Rattle.laws_safety.specs.MemberHistory.{HasHistory, ExtendsHistory}

@@ -62,7 +62,7 @@ impl<S: Scheme<D>, L: Elector<S>, D: Digest> Journaled<S, L, D> {
     ghost use Rattle.laws_safety.specs.RecordsOnce.{HoldsEachEntryOnce};
     ghost use Rattle.simplex_member.specs.Journal.{stored_of};
     ghost use Rattle.simplex_member.specs.OutstandingWork.{is_offered};
-    ghost use Rattle.simplex_member.specs.Pruning.{pruned_member};
+    ghost use Rattle.simplex_member.specs.PrunedRecord.{pruned_member};
     ghost use Rattle.engine_outbox.specs.Outputs.{AreBehind};
     ghost use Rattle.engine_outbox.specs.Outboxes.{HasRoom, IsRepeated, QueuesNoWork};
     ghost use Rattle.engine_outbox.specs.Finalizations.{finals_in, WereAccepted, RiseByView, EndsAt, ReportsNoMore};

@@ -12,7 +12,7 @@ use Rattle.engine_fetches.specs.declared.repair.Repair.{Repair}
 use Rattle.engine_fetches.specs.Fetches.{is_of, is_fetch_open, opened, same_kind}
 use Rattle.engine_fetches.specs.Repairs.{HasFetches, HasPassed}
 use Rattle.engine_fetches.specs.OutstandingFetches.{fetching, wants, OpensNoOther}
-use Rattle.engine_fetches.proofs.Opening.{open_fetching, open_once, opens_left}
+use Rattle.engine_fetches.proofs.OpenedFetches.{open_fetching, open_once, opens_left}
 use Rattle.engine_outbox.specs.declared.output.Work.TheVariants as work
 use Rattle.engine_planner.specs.declared.plan.builds.Building.{Building}
 use Rattle.engine_planner.specs.declared.plan.Plan.{Plan}

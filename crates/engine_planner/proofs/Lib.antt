@@ -2,10 +2,10 @@ pub mod Blocks
 pub mod PlanStates
 pub mod PlannedWork
 pub mod Causes
-pub mod Giving
+pub mod GivenWork
 pub mod FetchRequests
-pub mod StillAsking
-mod Accepting
+pub mod AskedSteps
+mod AcceptedCertificates
 pub mod Consequences
 pub mod ViewChanges
 pub mod StepSelection

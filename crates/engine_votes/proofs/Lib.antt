@@ -4,5 +4,5 @@ pub mod VoteCounts
 pub mod StoredVotes
 pub mod Given
 pub mod Good
-pub mod Forgetting
+pub mod KeptVotes
 pub mod Within

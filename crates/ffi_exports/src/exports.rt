@@ -6,7 +6,7 @@ ghost use Rattle.std.specs.Prelude.{◌≡◌};
 ghost use Rattle.std.specs.Borrow.{sem};
 ghost use Rattle.ffi_member.specs.declared.held.Held.{Held};
 ghost use Rattle.ffi_member.specs.Journals.{IsScan};
-ghost use Rattle.ffi_member.specs.Pruning.{IsPruned};
+ghost use Rattle.ffi_member.specs.PrunedRecord.{IsPruned};
 ghost use Rattle.ffi_member.specs.MemberHandles.{IsCallServed};
 ghost use Rattle.ffi_member.specs.ShownFacts.{IsChunkOf, IsEntries, IsFound, IsItem, IsText, IsView};
 ghost use Rattle.ffi_member.specs.Withheld.{IsWithheld};

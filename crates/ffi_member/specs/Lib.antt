@@ -2,7 +2,7 @@ pub mod Calls
 pub mod Journals
 pub mod Numbers
 pub mod Resumption
-pub mod Pruning
+pub mod PrunedRecord
 pub mod Replies
 pub mod ResolverHandles
 pub mod MemberHandles

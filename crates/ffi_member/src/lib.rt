@@ -10,7 +10,7 @@ pub mod journal;
 pub mod kinds;
 pub mod null_handle;
 pub mod numbers;
-pub mod pruning;
+pub mod prune;
 pub mod resolver_calls;
 pub mod resolver_types;
 pub mod resumption;

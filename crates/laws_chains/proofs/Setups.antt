@@ -13,7 +13,7 @@ use Rattle.simplex_member.specs.Runs.{StepFacts, Calls, Prunes, Restarts, IsRun}
 use Rattle.simplex_member.proofs.EventsMake.{call_by_any}
 use Rattle.laws_safety.specs.Executions.{new_member, Execution}
 use Rattle.laws_safety.proofs.frames.CallsMake.{recovered_keeps}
-use Rattle.laws_safety.proofs.frames.Rising.{event_goes}
+use Rattle.laws_safety.proofs.frames.NoLowerViews.{event_goes}
 use Rattle.laws_safety.proofs.frames.RunsKeep.{HoldsIn}
 use Rattle.laws_safety.proofs.lists.Splits.{Contains-cons_rest}
 use Rattle.laws_safety.proofs.lives.WithinLives.{call_outcome}

@@ -1,5 +1,5 @@
 pub mod Told
-pub mod Nullifying
+pub mod TimeoutCauses
 pub mod Examples
 pub mod Votes
 pub mod Offers

@@ -18,10 +18,10 @@ use Rattle.laws_history.specs.LeaderHistory.{comes_to_track}
 use Rattle.laws_history.specs.WorkRequests.{names}
 use Rattle.laws_history.specs.Moments.{enters}
 use Rattle.laws_history.specs.HistoryFacts.{DeterminesState, kept_of, comes_up}
-use Rattle.laws_history.proofs.Following.{FollowsEvent, left_from}
+use Rattle.laws_history.proofs.EventFacts.{FollowsEvent, left_from}
 use Rattle.laws_safety.proofs.frames.InOrder.{event_in_order}
 use Rattle.laws_history.proofs.UnchangedHistories.{from_T}
-use Rattle.laws_history.proofs.FollowingReplays.{event_follows}
+use Rattle.laws_history.proofs.ReplayEvents.{event_follows}
 use Rattle.laws_history.proofs.EventsWorked.{event_works}
 use Rattle.laws_history.proofs.HistoryRounds.{round_further}
 use Rattle.laws_history.proofs.ShownWork.{done_further, known_further}

@@ -15,7 +15,7 @@ use Rattle.laws_history.specs.WorkRequests.{sets_verified, asks_to_build, asks_t
 use Rattle.laws_history.specs.HistoryRounds.{round_in}
 use Rattle.laws_history.specs.HistoryFolds.{or_new, brings_notarization, brings_nullification, brings_finalization}
 use Rattle.laws_history.specs.Moments.{enters, proposes, latches, retries, retry_in, decision_in}
-use Rattle.laws_history.proofs.Following.{adds}
+use Rattle.laws_history.proofs.EventFacts.{adds}
 use Rattle.laws_history.proofs.UnchangedHistories.{known_of_round}
 use Rattle.laws_history.proofs.ShownWork.{reply_finalize, decided_further, stalled_further, done_further, first_further, last_further, known_further}
 use Rattle.laws_history.proofs.Worked.{work_of, timed, decides, adds_work}

@@ -1,10 +1,10 @@
 -- What each event adds to a history and to the state, field by field; and so each call and each lifetime.
 pub mod UnchangedHistories
-pub mod Following
-pub mod FollowingHanded
-pub mod FollowingUnchanged
-pub mod FollowingVotes
-pub mod FollowingReplays
+pub mod EventFacts
+pub mod ReceivedEvents
+pub mod UnchangedFacts
+pub mod VoteEvents
+pub mod ReplayEvents
 pub mod DroppedViews
 pub mod Worked
 pub mod work

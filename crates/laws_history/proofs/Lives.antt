@@ -27,12 +27,12 @@ use Rattle.simplex_member.specs.Runs.{StepFacts, Calls, Prunes, Restarts, restar
 use Rattle.laws_history.specs.HistoryFacts.{DeterminesState}
 use Rattle.simplex_record.specs.Start.{Setup, StartFacts, new_state}
 use Rattle.laws_history.specs.HistoryFolds.{finalized_by_events}
-use Rattle.simplex_record.proofs.Allowing.{new_bears}
-use Rattle.simplex_record.proofs.Bearing.{BearsAll}
+use Rattle.simplex_record.proofs.AllowedRecords.{new_bears}
+use Rattle.simplex_record.proofs.HeldEntries.{BearsAll}
 use Rattle.laws_safety.proofs.frames.CallsMake.{call_by_event}
 use Rattle.laws_history.proofs.Events.{event_shown}
 use Rattle.laws_safety.proofs.records.NewLives.{first_none}
-use Rattle.simplex_record.proofs.Remaking.{set_takes}
+use Rattle.simplex_record.proofs.Recoveries.{set_takes}
 use Rattle.simplex_record.proofs.Start.{good_floor}
 
 -- an entry is the artifact whose certificates are their bytes

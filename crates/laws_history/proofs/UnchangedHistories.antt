@@ -20,7 +20,7 @@ use Rattle.simplex_voter.specs.Leaders.{has_leader, with_leader_at, with_leader_
 use Rattle.simplex_voter.specs.Timeouts.{with_timeout, is_contradicted}
 use Rattle.simplex_voter.specs.Certification.{named_also, waits_for, with_waiting_candidate, without_token, with_finalized_view}
 use Rattle.laws_history.specs.HistoryFacts.{verdict_of}
-use Rattle.simplex_record.proofs.Growing.{round_of-put, round_of-same}
+use Rattle.simplex_record.proofs.RoundChanges.{round_of-put, round_of-same}
 use Rattle.simplex_record.proofs.Rounds.{armed_nullify, armed_finalize, latched_nullify, latched_finalize, round_changed}
 
 -- what histories say of a view

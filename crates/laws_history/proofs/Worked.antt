@@ -22,8 +22,8 @@ use Rattle.laws_history.specs.OwnWork.{decides_nullify, decides_finalize}
 use Rattle.laws_history.specs.WorkRequests.{names, sets_certification, sets_verified, asks_to_build, asks_to_verify, asks_for, binds}
 use Rattle.laws_history.specs.HistoryFolds.{or_new}
 use Rattle.laws_history.specs.Moments.{enters, proposes, latches, retries}
-use Rattle.laws_history.proofs.Following.{left_from}
-use Rattle.simplex_record.proofs.Growing.{round_of-put, round_of-same}
+use Rattle.laws_history.proofs.EventFacts.{left_from}
+use Rattle.simplex_record.proofs.RoundChanges.{round_of-put, round_of-same}
 
 -- what histories say of the work on a view
 pub record Worked (K D : Type 0) : Type 0 where

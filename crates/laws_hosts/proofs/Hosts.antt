@@ -12,7 +12,7 @@ use Rattle.simplex_member.specs.declared.member.journal.Stored.{Stored}
 use Rattle.laws_safety.specs.MemberHistory.{HasHistory}
 use Rattle.laws_safety.specs.ObservedTraces.{floor_in, StartsAs}
 use Rattle.laws_safety.specs.Traces.{TraceEvent, Accepts, Signs}
-use Rattle.laws_safety.proofs.executions.Living.{done_lawful}
+use Rattle.laws_safety.proofs.executions.ExecutionSteps.{done_lawful}
 use Rattle.laws_safety.proofs.lists.Splits.{Contains-cons_rest}
 use Rattle.engine_votes.specs.declared.votes.Vote.{Vote}
 use Rattle.engine_outbox.specs.Finalizations.{finals_in}

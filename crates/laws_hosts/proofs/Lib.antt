@@ -1,4 +1,4 @@
-pub mod Counting
+pub mod QuorumVotes
 pub mod CallTraces
 pub mod Stops
 pub mod Hosts

@@ -14,14 +14,14 @@ use Rattle.laws_safety.specs.Executions.{Execution, trace_of, IsExecution}
 use Rattle.laws_safety.specs.Replicas.{Replica, FewFaulty, is_faulty, faults, max_faults, quorum, AtLeastFrom, MayHaveSigned, Backed, IsNetworkOf, OfEachNetwork}
 use Rattle.laws_safety.specs.Replicas as replica
 use Rattle.laws_safety.specs.Traces.{Accepts, Signs}
-use Rattle.laws_safety.proofs.executions.Living.{done_ran}
+use Rattle.laws_safety.proofs.executions.ExecutionSteps.{done_ran}
 use Rattle.engine_votes.specs.declared.votes.Vote.{Vote}
 use Rattle.engine_outbox.specs.declared.output.Output.TheVariants as output
 use Rattle.laws_hosts.specs.Processes.{Process, carried_by}
 use Rattle.laws_hosts.specs.HostNetworks.{Host, Faulty, Honest, is_faulty_host, MayHaveSent, IsCertifiable, IsHonestHost, IsHostNetwork, OfEachHostNetwork}
 use Rattle.laws_hosts.specs.HostAgreement.{IsReportedFinal, OneFinalOfEachView, FinalsUncovered, NotarizedChain, ChainsHoldFinals}
 use Rattle.laws_hosts.proofs.CallTraces.{none_in, QuorumsAreGood}
-use Rattle.laws_hosts.proofs.Counting.{at_least, ArePairs, paired, same_length, pair_at, as_many, same_count}
+use Rattle.laws_hosts.proofs.QuorumVotes.{at_least, ArePairs, paired, same_length, pair_at, as_many, same_count}
 use Rattle.laws_hosts.proofs.Hosts.{HasRun, all_processed}
 
 module _ {S L D K G C : Type 0} (same : D → D → Bool) (elect : Elect L) (bytes_of : C → List ℕ) (is_signature : K → Subject D → G → Type 0)

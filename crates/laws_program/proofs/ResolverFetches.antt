@@ -19,7 +19,7 @@ use Rattle.simplex_program.specs.ResolverLine.{line_words}
 use Rattle.simplex_program.specs.ResolverText.{resolver_reply_text}
 use Rattle.simplex_program.specs.Transcript.{Asked, Member, Resolver, Point, AreAnswered, Replies, reply_line}
 use Rattle.simplex_program.specs.Words.{words_in}
-use Rattle.simplex_program.proofs.Serving.{nothing_appended, appended}
+use Rattle.simplex_program.proofs.ServedLines.{nothing_appended, appended}
 use Rattle.laws_program.specs.ResolverFetches.{ResolverTurn, answered_by, made_in, made_by, AreResolverLines, resolver_replies, ResolverTranscriptsKeepFetches}
 
 abbrev of_parts : ResolverFacts → List ℕ → LawfulResolverFacts

@@ -32,7 +32,7 @@ use Rattle.simplex_program.specs.Voter.{VoterAnswers, IsReplied, IsRestarted, Is
 use Rattle.simplex_program.specs.VoterLine.{voter_words}
 use Rattle.simplex_program.specs.VoterText.{voter_reply_words}
 use Rattle.simplex_program.specs.Words.{words_in}
-use Rattle.simplex_program.proofs.Serving.{nothing_appended, appended}
+use Rattle.simplex_program.proofs.ServedLines.{nothing_appended, appended}
 use Rattle.laws_program.specs.VoterExecutions.{PlainStep, PlainReplyFacts, VoterTurn, IsStepOf, TellsAnswer, only_shows, AreSteps, AreVoterLines, voter_replies, IsTranscribed, IsLawfulOf, VoterTranscriptsAreLawful, restart_in}
 
 false≢true : false ≡ true → ⊥

@@ -6,12 +6,12 @@ pub mod FreshStarts
 pub mod Together
 pub mod Passed
 pub mod Joined
-pub mod Meeting
+pub mod CommonViews
 pub mod Tops
 pub mod Covers
 pub mod Chosen
 pub mod Met
-pub mod Going
+pub mod Continuations
 pub mod Parts
 pub mod Plan
 pub mod Soon

@@ -9,6 +9,6 @@ pub mod Led
 pub mod LedCalls
 pub mod LedLives
 pub mod Ordered
-pub mod Nearing
-pub mod Coming
+pub mod LedEvents
+pub mod Arrivals
 pub mod Explicit

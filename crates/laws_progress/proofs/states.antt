@@ -1,11 +1,11 @@
 -- One state: what each call makes of it on the way to a finalization.
-pub mod Standing
+pub mod AtTermStart
 pub mod Words
 pub mod Calls
 pub mod Scan
-pub mod Building
+pub mod LeaderCalls
 pub mod Sequences
-pub mod Waiting
+pub mod BeforeTermStart
 pub mod Highest
-pub mod Skipping
-pub mod Passing
+pub mod SkippedViews
+pub mod AbandonedTerms

@@ -1,5 +1,5 @@
--- How the worked networks continue, which look stuck: of `Rattle.laws_safety.specs.DividedNetwork`, `LackingNetwork`,
--- `HandoffNetwork`.
+-- How the worked networks continue, which look stuck: of `Rattle.laws_safety.specs.DividedNetwork`,
+-- `MissingCertificatesNetwork`, `HandoffNetwork`.
 use Rattle.std.specs.Prelude.{ℕ, List, nat_eq}
 use Rattle.laws_safety.specs.Continuations.{ContinuesToFinalize}
 use Rattle.laws_safety.specs.Replicas.{Replica}

@@ -1,13 +1,13 @@
 -- The laws of each lifetime, and of each state of a run.
 pub mod WithinLives
-pub mod Lasting
+pub mod RunOrder
 pub mod Conflicts
 pub mod HandedOut
 pub mod AsAsked
 pub mod Examples
 pub mod WithinRuns
-pub mod TimingOut
-pub mod Waiting
+pub mod ViewTimeouts
+pub mod UncertifiedViews
 pub mod Polls
 pub mod LeftViews
 pub mod LeftByEntries

@@ -4,9 +4,9 @@ pub mod Scripts
 pub mod Continuations
 pub mod ScenarioSteps
 pub mod DividedNetwork
-pub mod LackingNetwork
+pub mod MissingNetwork
 pub mod HandoffNetwork
-pub mod ChangingLives
+pub mod DifferentLives
 pub mod AheadNetwork
 pub mod Rivals
 pub mod PlainNetwork

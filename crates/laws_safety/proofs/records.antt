@@ -4,7 +4,7 @@ pub mod ShownVotesByEntries
 pub mod TracesShown
 pub mod RecoveredVotes
 pub mod RecordedVotes
-pub mod Remembering
+pub mod RememberedVotes
 pub mod CallsRemembered
 pub mod RecoveredRecords
 pub mod CutsRemembered

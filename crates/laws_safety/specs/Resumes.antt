@@ -6,7 +6,7 @@ use Rattle.simplex_member.specs.declared.member.resume.ResumeError.TheVariants.{
 use Rattle.simplex_member.specs.Calls.{ReplyFacts, Restarted}
 use Rattle.simplex_member.specs.Journal.{stored_of, whole_restart, has_lost, IsResumed, IsNotResumed}
 use Rattle.simplex_member.specs.MemberFacts.{MemberFacts}
-use Rattle.simplex_member.specs.Pruning.{pruned_member}
+use Rattle.simplex_member.specs.PrunedRecord.{pruned_member}
 use Rattle.simplex_member.specs.Restarts.{cut_member}
 use Rattle.simplex_member.specs.Runs.{StepFacts, Restarts, IsStep, IsRun, IsRefused}
 use Rattle.simplex_record.specs.Start.{StartFacts}

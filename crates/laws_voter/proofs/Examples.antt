@@ -4,7 +4,7 @@ pub mod Votes
 pub mod Terms
 pub mod Parents
 pub mod Windows
-pub mod Timing
+pub mod Moments
 pub mod Hostile
 pub mod Definitions
 pub mod Configurations

@@ -15,7 +15,7 @@ use crate::kinds::{
     FINALIZATION, FINALIZE, NOTARIZATION, NOTARIZE, NULLIFICATION, NULLIFY, VERDICT,
 };
 use crate::parts::{take_proposal, take_round, take_u32};
-use crate::writing::{
+use crate::fields::{
     put_proposal_certificate, put_proposal_vote, put_round_certificate, put_round_vote, put_verdict,
 };
 use bytes::{Bytes, BytesMut};

@@ -12,4 +12,4 @@ pub mod hooks;
 mod kinds;
 mod parts;
 pub mod plain;
-mod writing;
+mod fields;

@@ -8,7 +8,7 @@ ghost use Rattle.simplex_codec.specs.Plain.{plain_signature_bytes, plain_signatu
 use crate::hooks::{DigestCodec, SchemeCodec};
 use crate::kinds::{FINALIZATION, NOTARIZATION, NULLIFICATION};
 use crate::parts::{take_round, take_u32, take_u64};
-use crate::writing::put_subject;
+use crate::fields::put_subject;
 use bytes::{BufMut, BytesMut};
 use simplex_types::types::plain::{
     PlainCertificate, PlainDigest, PlainKey, PlainScheme, PlainSignature,

@@ -43,7 +43,7 @@ use Rattle.engine_planner.specs.Tasks.{call_of}
 use Rattle.engine_planner.proofs.PlanStates.{on_ok}
 use Rattle.simplex_engine.proofs.CertificateVotes.{takes_same, takes_anyway, takes_then, backed_by_none, certified_given}
 use Rattle.simplex_engine.proofs.Bounds.{bounded_still, bounded_further, bounded_counted}
-use Rattle.engine_outbox.proofs.Dropping.{refused_left, dropped_left}
+use Rattle.engine_outbox.proofs.IgnoredCalls.{refused_left, dropped_left}
 use Rattle.engine_votes.proofs.Given.{all_the_same}
 use Rattle.engine_outbox.proofs.Continuity.{goes_on_anyway, made_on}
 

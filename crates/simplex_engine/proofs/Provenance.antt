@@ -18,7 +18,7 @@ use Rattle.simplex_voter.specs.Windows.{min_active}
 use Rattle.simplex_member.specs.Calls as call
 use Rattle.simplex_member.specs.Calls.{CallFacts, told, ReplyFacts}
 use Rattle.simplex_member.specs.MemberFacts.{MemberFacts, IsCall, AnswersAlive, unless_refused}
-use Rattle.simplex_member.specs.Pruning.{pruned_member}
+use Rattle.simplex_member.specs.PrunedRecord.{pruned_member}
 use Rattle.simplex_member.specs.Runs.{StepFacts, Calls, Prunes, Restarts}
 use Rattle.simplex_member.specs.declared.member.calls.Reply.{Reply}
 use Rattle.simplex_member.specs.declared.member.calls.Reply.TheVariants as reply
@@ -36,7 +36,7 @@ use Rattle.engine_fetches.specs.declared.fetches.FetchKind.{FetchKind}
 use Rattle.engine_fetches.specs.Fetches.{opened, same_kind}
 use Rattle.engine_fetches.specs.Repairs.{HasFetches, HasPassed}
 use Rattle.engine_fetches.specs.OutstandingFetches.{wanting}
-use Rattle.engine_fetches.proofs.Opening.{open_wanting}
+use Rattle.engine_fetches.proofs.OpenedFetches.{open_wanting}
 use Rattle.engine_outbox.specs.declared.journaled.Journaled.{Journaled}
 use Rattle.engine_outbox.specs.declared.output.Output.{Output}
 use Rattle.engine_outbox.specs.declared.output.Output.TheVariants as output
@@ -44,7 +44,7 @@ use Rattle.engine_outbox.specs.declared.output.Work.{Work}
 use Rattle.engine_outbox.specs.declared.output.Work.TheVariants as work
 use Rattle.engine_outbox.specs.Journals.{BeginsWith}
 use Rattle.engine_outbox.specs.Outputs.{work_in}
-use Rattle.engine_outbox.proofs.Working.{work_in-append}
+use Rattle.engine_outbox.proofs.QueuedOutputs.{work_in-append}
 use Rattle.engine_planner.specs.declared.plan.Options.{Options}
 use Rattle.engine_planner.specs.declared.plan.Plan.{Plan}
 use Rattle.engine_planner.specs.declared.plan.Step.{Step}
@@ -56,7 +56,7 @@ use Rattle.std.specs.List.{list_any}
 use Rattle.std.specs.Option.{option_map_or}
 use Rattle.std.proofs.lemmas.Bool.Decides.{nat_tests}
 use Rattle.engine_planner.specs.FetchRequests.{asks, ended_by, received_by, is_missing_certificate, is_plain, is_resolve, with_missing_certificate, AreMade, IsStill, KeepsFetching}
-use Rattle.engine_planner.proofs.StillAsking.{asks_beside, asks_where_same, ended_on, keeps_asking, made_on, AsksOn}
+use Rattle.engine_planner.proofs.AskedSteps.{asks_beside, asks_where_same, ended_on, keeps_asking, made_on, AsksOn}
 use Rattle.laws_safety.specs.LifetimeLaws.{WhileAlive}
 use Rattle.engine_outbox.specs.Continuity.{HasRisen}
 use Rattle.engine_outbox.proofs.Continuity.{risen_not}
@@ -68,7 +68,7 @@ use Rattle.engine_outbox.specs.CertificateCalls.{certificate_call}
 use Rattle.engine_planner.specs.Causes.{Cause, Quorum, WorkItem, MissingCertificate, Arrival, Message, reply_causes, of_blocks, of_early, of_fetches, of_step, of_steps, of_work, of_works, planned_causes, of_task}
 use Rattle.engine_planner.specs.PlannedWork.{AreAmong}
 use Rattle.engine_planner.specs.Tasks.{call_of}
-use Rattle.engine_planner.proofs.Giving.{repaired_alone}
+use Rattle.engine_planner.proofs.GivenWork.{repaired_alone}
 use Rattle.engine_planner.proofs.Causes.{among_each, among_last, among_none, closes_some, each_part, fetches_by, in_early, in_steps, opens_one, same_plan, still_blocks, still_fetches}
 use Rattle.engine_planner.proofs.PlannedWork.{among_all, among_both, among_further, among_more, among_still}
 use Rattle.simplex_engine.specs.declared.engine.Engine.{Engine}

@@ -28,7 +28,7 @@ use Rattle.engine_outbox.proofs.Continuity.{risen_not}
 use Rattle.laws_safety.specs.LifetimeLaws.{WhileAlive}
 use Rattle.simplex_engine.specs.MemberViews.{TracksViews}
 use Rattle.engine_outbox.specs.Outputs.{work_in}
-use Rattle.engine_outbox.proofs.Working.{work_in-append}
+use Rattle.engine_outbox.proofs.QueuedOutputs.{work_in-append}
 use Rattle.simplex_engine.specs.ApplicationWork.{work_ahead, IsReportedIn, KeepsApplicationWork, KeepsTaken, HasReportedAll, AllIsReturned}
 use Rattle.engine_planner.specs.declared.task.Task.{Task}
 use Rattle.engine_planner.specs.Tasks.{call_of}

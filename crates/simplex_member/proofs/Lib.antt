@@ -5,11 +5,11 @@ pub mod CallExamples
 pub mod Runs
 pub mod EventsMake
 pub mod CallsKeepSettings
-pub mod Answering
+pub mod CallResults
 pub mod MethodContracts
-pub mod Pruning
+pub mod PrunedRecord
 pub mod PartialFailures
 pub mod Voted
 pub mod HandedOut
-pub mod Opening
-pub mod WaitingValues
+pub mod OpenRequests
+pub mod PendingValues

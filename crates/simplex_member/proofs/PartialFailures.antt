@@ -23,7 +23,7 @@ use Rattle.simplex_member.specs.ReplySignatures.{IsSignedReply}
 use Rattle.simplex_member.specs.declared.member.calls.Reply.TheVariants as reply
 use Rattle.simplex_member.specs.declared.member.refusal.Refusal.{Refusal}
 use Rattle.simplex_member.specs.declared.member.refusal.Refusal.TheVariants as refusal
-use Rattle.simplex_member.proofs.Answering.{call_goes_on, answered_call, refused_call, lost_call, losing}
+use Rattle.simplex_member.proofs.CallResults.{call_goes_on, answered_call, refused_call, lost_call, losing}
 use Rattle.simplex_member.proofs.MethodContracts.{typed}
 
 -- without an answer of the state there is no vote, whoever signs

@@ -9,7 +9,7 @@ use Rattle.simplex_record.specs.Cuts.{may_drop, pruned_entries}
 use Rattle.simplex_member.specs.Journal.{has_lost}
 use Rattle.simplex_member.specs.MemberFacts.{MemberFacts}
 use Rattle.simplex_record.specs.Recovery.{after_kept_entry, recovered_state}
-use Rattle.simplex_member.specs.Pruning.{pruned_member}
+use Rattle.simplex_member.specs.PrunedRecord.{pruned_member}
 use Rattle.simplex_member.specs.Restarts.{retention_grows, cut_member}
 use Rattle.simplex_record.proofs.Examples.{Entry, notarization, nullification, finalization, nullify}
 use Rattle.simplex_record.proofs.RecoveryExamples.{in_turn, settings}

@@ -16,7 +16,7 @@ use Rattle.simplex_member.specs.Calls.{ConstructNotarize, ConstructNullify, Cons
 use Rattle.simplex_member.specs.MemberFacts.{MemberFacts}
 use Rattle.simplex_member.specs.CallSemantics.{nullify_vote, notarize_vote, finalize_vote}
 use Rattle.simplex_member.specs.MethodContracts.{IsAnswered, HasNotarizeVote, HasNullifyVote, HasFinalizeVote}
-use Rattle.simplex_record.proofs.Growing.{round_of-same}
+use Rattle.simplex_record.proofs.RoundChanges.{round_of-same}
 
 -- equal replies have equal votes
 module _ {K D : Type 0} where

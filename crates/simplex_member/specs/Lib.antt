@@ -2,7 +2,7 @@ pub mod Errors
 pub mod Calls
 pub mod CallConditions
 pub mod ReplySignatures
-pub mod WaitingValues
+pub mod PendingValues
 pub mod OutstandingWork
 pub mod CallSemantics
 pub mod MemberFacts
@@ -11,7 +11,7 @@ pub mod Start
 pub mod Restarts
 pub mod Journal
 pub mod RestartedStates
-pub mod Pruning
+pub mod PrunedRecord
 pub mod Runs
 pub mod PartialFailures
 pub mod Events

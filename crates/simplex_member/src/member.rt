@@ -5,14 +5,14 @@ mod calls;
 mod journal;
 mod life;
 mod outstanding_work;
-mod pruning;
+mod prune;
 mod recorded_calls;
 mod refusal;
 mod restart;
 mod resume;
 mod runs;
 mod votes;
-mod waiting;
+mod pending;
 
 pub use calls::{Call, Reply};
 pub use journal::Stored;

@@ -9,7 +9,7 @@ use Rattle.simplex_program.specs.declared.serve_error.ServeError.TheVariants.{No
 use Rattle.simplex_program.specs.Line.{without_feed, ReadsText, IsNextLine}
 use Rattle.simplex_program.specs.Session.{IsNotReplied}
 use Rattle.simplex_program.specs.Transcript.{Asked, Point, AreAnswered, IsNoCall, EndsServing, Advances, Continues}
-use Rattle.simplex_program.proofs.Serving.{keeps_self, one_more}
+use Rattle.simplex_program.proofs.ServedLines.{keeps_self, one_more}
 
 -- lines were answered from a point on, and the next one has this number
 abbrev pub HasServed : Point → Point → ℕ → Type 0

@@ -9,11 +9,11 @@ pub mod UnchangedSettings
 pub mod Start
 pub mod Recovery
 pub mod RecoveryExamples
-pub mod Taking
-pub mod Growing
-pub mod GrowingStates
+pub mod EntrySuffixes
+pub mod RoundChanges
+pub mod StateChanges
 pub mod EntryRules
-pub mod Bearing
-pub mod Allowing
-pub mod Remaking
+pub mod HeldEntries
+pub mod AllowedRecords
+pub mod Recoveries
 pub mod Settings

@@ -13,7 +13,7 @@ use Rattle.simplex_voter.specs.Facts.{StateFacts, Elect}
 use Rattle.simplex_voter.specs.Windows.{is_admitted}
 use Rattle.simplex_voter.specs.Parents.{find_parent}
 use Rattle.simplex_voter.specs.ProposalRequests.{views_within, request_on, request_in, propose_answer}
-use Rattle.simplex_voter.proofs.Scanning.{far_off}
+use Rattle.simplex_voter.proofs.VerifyScan.{far_off}
 
 within_is : (low high v : ℕ) → low ≤ v → v ≤ high → (leb low v && leb v high) ≡ true
 within_is low high v above below = rw (le-leb low v above, le-leb v high below) refl

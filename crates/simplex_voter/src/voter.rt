@@ -17,7 +17,7 @@ mod nullifications;
 mod parents;
 mod proposals;
 mod propose;
-mod pruning;
+mod prune;
 mod ranges;
 mod replay;
 mod rounds;

@@ -3,7 +3,7 @@
 mod encoding;
 mod names;
 mod settings;
-mod signing;
+mod signers;
 mod windows;
 
 ghost use Rattle.std.specs.Prelude.{◌≡◌, ◌<◌, ◌≤◌, ◌^◌, IfOk, Some, None, Option};

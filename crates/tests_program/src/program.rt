@@ -3,7 +3,7 @@
 ghost use Rattle.std.specs.Prelude.{IfOk, IfSome};
 ghost use Rattle.simplex_program.specs.Mode.{IsServed};
 
-mod building;
+mod builds;
 mod lives;
 mod misuses;
 mod offers;
@@ -140,7 +140,7 @@ fn scripts(alloc: Global) -> Result<Vec<Script>, AllocError> {
     let mut scripts = Vec::new(alloc);
     scripts.extend_from_slice(&views::VIEWS)?;
     scripts.extend_from_slice(&proposals::PROPOSALS)?;
-    scripts.extend_from_slice(&building::BUILDING)?;
+    scripts.extend_from_slice(&builds::BUILDS)?;
     scripts.extend_from_slice(&offers::OFFERS)?;
     scripts.extend_from_slice(&timeouts::TIMEOUTS)?;
     scripts.extend_from_slice(&lives::LIVES)?;

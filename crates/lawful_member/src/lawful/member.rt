@@ -80,7 +80,7 @@ impl<S: Scheme<D>, L: Elector<S>, D: Digest> LawfulMember<S, L, D> {
     ghost use Rattle.simplex_member.specs.Runs.{Calls};
     ghost use Rattle.simplex_member.specs.ReplySignatures.{IsSignedReply, signed_reply};
     ghost use Rattle.simplex_record.specs.Recovery.{recover_error};
-    ghost use Rattle.simplex_member.specs.Pruning.{pruned_member, votes_within};
+    ghost use Rattle.simplex_member.specs.PrunedRecord.{pruned_member, votes_within};
     ghost use Rattle.simplex_member.specs.Restarts.{restart_facts, votes_left, IsRestart};
     ghost use Rattle.simplex_record.specs.Start.{set_up, IsErrorDue};
     ghost use Rattle.simplex_member.specs.Start.{started_member};

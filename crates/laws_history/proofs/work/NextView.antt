@@ -16,7 +16,7 @@ use Rattle.simplex_voter.specs.Payloads.{is_elected_early}
 use Rattle.simplex_voter.specs.Windows.{is_notarized, is_open, in_issuance_window}
 use Rattle.laws_history.specs.LeaderHistory.{same_member, elected_leader, leads_after, tracks_after}
 use Rattle.std.proofs.Math.Bool.{and-true, and-false}
-use Rattle.simplex_record.proofs.Growing.{round_of-put, round_of-same}
+use Rattle.simplex_record.proofs.RoundChanges.{round_of-put, round_of-same}
 use Rattle.laws_safety.proofs.votes.NullifyVotes.{tied}
 use Rattle.laws_history.proofs.Worked.{work_of}
 use Rattle.laws_history.proofs.work.Leaders.{OnlyRounds, only_where, with_leader, inherited_only, inherited_work, elected_only, elected_work}

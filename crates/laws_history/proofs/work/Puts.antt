@@ -11,7 +11,7 @@ use Rattle.simplex_record.specs.Events.{Event}
 use Rattle.laws_history.specs.WorkRequests.{names, is_at}
 use Rattle.laws_history.specs.HistoryFolds.{entered_by}
 use Rattle.laws_history.specs.Moments.{enters}
-use Rattle.laws_history.proofs.Following.{left_from}
+use Rattle.laws_history.proofs.EventFacts.{left_from}
 use Rattle.laws_history.proofs.Worked.{work_in, work_of, adds_work, WorkFollows, SaysNoWork, work_put, work_elsewhere}
 
 -- what the work on all views shares

@@ -13,7 +13,7 @@ use Rattle.simplex_member.specs.OutstandingWork.{is_among}
 use Rattle.simplex_record.specs.Events.{Event, Certified}
 use Rattle.laws_history.specs.WorkRequests.{is_at, wakes, names}
 use Rattle.laws_history.specs.Moments.{triggers}
-use Rattle.simplex_record.proofs.Growing.{round_of-put}
+use Rattle.simplex_record.proofs.RoundChanges.{round_of-put}
 use Rattle.laws_history.proofs.UnchangedHistories.{known_of_round, UnchangedKnown, entered_leaves}
 use Rattle.laws_history.proofs.work.Elections.{woken_work}
 use Rattle.laws_history.proofs.work.Puts.{unentered, shared_follows, idle_follows}

@@ -21,7 +21,7 @@ use Rattle.laws_safety.proofs.networks.DividedNetwork.{divided_network}
 use Rattle.laws_progress.specs.NetworkStates.{IsSetUpAs, RunsWith}
 use Rattle.laws_progress.specs.WorkedNetworks.{MayReach, Reaches}
 use Rattle.laws_progress.proofs.instances.Worked.{IsWorked, lives_by, each_lives_so, agree}
-use Rattle.laws_progress.proofs.networks.Going.{no_network_is_stuck}
+use Rattle.laws_progress.proofs.networks.Continuations.{no_network_is_stuck}
 
 abbrev Alive : ℕ → StateFacts ℕ ℕ ℕ → Type 0
 Alive i x = IsSetUpAs 1 4 1 i x × (is_tracked x 6 ≡ false) × (x.current < 6)

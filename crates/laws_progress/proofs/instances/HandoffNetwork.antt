@@ -16,7 +16,7 @@ use Rattle.laws_safety.proofs.networks.HandoffNetwork.{taken_over_network}
 use Rattle.laws_progress.specs.NetworkStates.{IsSetUpAs, RunsWith}
 use Rattle.laws_progress.specs.WorkedNetworks.{MayReach, Reaches}
 use Rattle.laws_progress.proofs.instances.Worked.{IsWorked, lives_by, each_lives_so, agree}
-use Rattle.laws_progress.proofs.networks.Going.{no_network_is_stuck}
+use Rattle.laws_progress.proofs.networks.Continuations.{no_network_is_stuck}
 
 abbrev Alive : ℕ → StateFacts ℕ ℕ ℕ → Type 0
 Alive i x = IsSetUpAs 1 4 2 i x × (is_tracked x 11 ≡ false) × (x.current < 11)

@@ -14,8 +14,8 @@ use Rattle.laws_progress.specs.SharedView.{terms_on}
 use Rattle.laws_progress.proofs.networks.Passed.{there}
 use Rattle.laws_progress.proofs.networks.Soon.{index_on, index_up, starts_are_finalized_soon}
 use Rattle.laws_progress.proofs.runs.Ends.{end_shown}
-use Rattle.laws_progress.proofs.states.Passing.{on_from}
-use Rattle.laws_progress.proofs.states.Skipping.{small_under}
+use Rattle.laws_progress.proofs.states.AbandonedTerms.{on_from}
+use Rattle.laws_progress.proofs.states.SkippedViews.{small_under}
 
 module _ {K L D : Type 0} where
   abbrev AreFaulty : List (Replica K L D) → ℕ → ℕ → Type 0

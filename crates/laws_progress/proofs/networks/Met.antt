@@ -32,12 +32,12 @@ use Rattle.laws_progress.proofs.networks.Chosen.{HighestCurrent, highest_current
 use Rattle.laws_progress.proofs.networks.Covers.{Skips, Covered, covered}
 use Rattle.laws_progress.proofs.networks.Followed.{ReplicasFollow, all_follow, replicas_follow, same_many, was_there, backed_still}
 use Rattle.laws_progress.proofs.networks.Tops.{Highest, either_highest, over_honest, finalized_highest, certified_highest}
-use Rattle.laws_progress.proofs.runs.Coming.{ComesTo, Came, SkipsUpTo, pass_every, stays_there, takes_final, takes_certified}
+use Rattle.laws_progress.proofs.runs.Arrivals.{ComesTo, Came, SkipsUpTo, pass_every, stays_there, takes_final, takes_certified}
 use Rattle.laws_progress.proofs.runs.Ends.{Shown, end_shown}
 use Rattle.laws_progress.proofs.runs.Explicit.{came_stands, explicit_passed}
 use Rattle.laws_progress.proofs.runs.Led.{Led}
 use Rattle.laws_progress.proofs.runs.LedLives.{state_led, judged_are_notarized}
-use Rattle.laws_progress.proofs.runs.Nearing.{Nears}
+use Rattle.laws_progress.proofs.runs.LedEvents.{Nears}
 use Rattle.laws_progress.proofs.runs.Onward.{judged_joined, and_calls, calls_go_on, calls_run, calls_ran, calls_trace}
 
 -- a term start above a view is no lower than the next one

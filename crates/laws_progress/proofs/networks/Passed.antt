@@ -23,16 +23,16 @@ use Rattle.laws_safety.proofs.lists.Splits.{Contains-cases, Contains-cons_rest}
 use Rattle.laws_progress.specs.NetworkStates.{IsSetUpAs, RunsWith, EachRuns}
 use Rattle.laws_progress.specs.ViewPositions.{proposal_in, StandsBefore}
 use Rattle.laws_progress.specs.SharedView.{terms_on, MembersOfOneViewContinue}
-use Rattle.laws_progress.proofs.states.Standing.{StandingMember}
+use Rattle.laws_progress.proofs.states.AtTermStart.{StandingMember}
 use Rattle.laws_progress.proofs.states.Highest.{highest_at}
 use Rattle.laws_progress.proofs.runs.Members.{AllHave, one_has, HearsOnly, follower_hears, leader_hears}
 use Rattle.laws_progress.proofs.runs.Onward.{execution_on}
-use Rattle.laws_progress.proofs.states.Passing.{null_cert, skip_calls, skip_trace, on_from, Elects, IsReady, passes, skip_sequence, skip_calls_are, skip_trace_is}
+use Rattle.laws_progress.proofs.states.AbandonedTerms.{null_cert, skip_calls, skip_trace, on_from, Elects, IsReady, passes, skip_sequence, skip_calls_are, skip_trace_is}
 use Rattle.laws_progress.proofs.runs.Ends.{Shown, end_shown, none_decided}
 use Rattle.laws_progress.proofs.states.Sequences.{Does, Sequence, calls_in, whole_trace, does_of, trace_done, follower_sequence, leader_sequence, follower_done, leader_done}
 use Rattle.laws_progress.proofs.runs.Starts.{replica_of}
 use Rattle.laws_progress.proofs.networks.Together.{AreEnough, ContinuesBy, goes_on_to_finalize}
-use Rattle.laws_progress.proofs.states.Waiting.{Waits}
+use Rattle.laws_progress.proofs.states.BeforeTermStart.{Waits}
 
 same_subject : {D : Type 0} (a c : Subject D) → Accepts a ≡ Accepts c → a ≡ c
 same_subject a c e = cc

@@ -14,9 +14,9 @@ use Rattle.laws_progress.proofs.networks.Parts.{Part, at_member, parts_of, PartF
 use Rattle.laws_progress.specs.ViewPositions.{proposal_in}
 use Rattle.laws_progress.proofs.runs.Members.{one_has}
 use Rattle.laws_progress.proofs.runs.Starts.{replica_of}
-use Rattle.laws_progress.proofs.states.Passing.{gives_up_now, skips_now, skip_sequence}
+use Rattle.laws_progress.proofs.states.AbandonedTerms.{gives_up_now, skips_now, skip_sequence}
 use Rattle.laws_progress.proofs.states.Sequences.{calls_in, whole_trace, trace_done, certifies_now, finalizes_now, verifies_now, builds_now, follower_sequence, leader_sequence}
-use Rattle.laws_progress.proofs.states.Standing.{StandingMember}
+use Rattle.laws_progress.proofs.states.AtTermStart.{StandingMember}
 
 module _ {D : Type 0} (epoch length leader start parent : ℕ) (payload q : D) where
   abbrev replica : ℕ → StandingMember D

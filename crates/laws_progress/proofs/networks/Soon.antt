@@ -23,7 +23,7 @@ use Rattle.laws_progress.specs.MessageExchanges.{IsExchange, Exchanges, IsFinali
 use Rattle.laws_progress.specs.ViewPositions.{StandsBefore, proposal_in}
 use Rattle.laws_progress.specs.SharedView.{terms_on}
 use Rattle.laws_progress.proofs.networks.Followed.{ReplicasFollow, all_follow, follows_so, replicas_follow, was_there}
-use Rattle.laws_progress.proofs.networks.Going.{terms_to}
+use Rattle.laws_progress.proofs.networks.Continuations.{terms_to}
 use Rattle.laws_progress.proofs.networks.Joined.{joined}
 use Rattle.laws_progress.proofs.networks.Replicas.{replicas_same, replicas_joined, same_length, same_faults, honest_still}
 use Rattle.laws_progress.proofs.networks.Met.{HaveMet, have_met, some}
@@ -34,7 +34,7 @@ use Rattle.laws_progress.proofs.networks.Together.{ContinuesBy, followed_to_fina
 use Rattle.laws_progress.proofs.runs.Members.{AllHave, one_has, HearsOnly, follower_hears, leader_hears}
 use Rattle.laws_progress.proofs.runs.Onward.{and_calls, calls_go_on, calls_run, calls_ran, calls_trace}
 use Rattle.laws_progress.proofs.runs.Starts.{replica_of}
-use Rattle.laws_progress.proofs.states.Passing.{gives_up_now, skip_sequence, skip_calls, skip_trace, skip_calls_are, skip_trace_is}
+use Rattle.laws_progress.proofs.states.AbandonedTerms.{gives_up_now, skip_sequence, skip_calls, skip_trace, skip_calls_are, skip_trace_is}
 use Rattle.laws_progress.proofs.states.Sequences.{Sequence, parted, calls_in, whole_trace, trace_done, leader_sequence, follower_sequence}
 
 -- of members that are at one view

@@ -22,8 +22,8 @@ use Rattle.laws_history.specs.OwnWork.{first_certificate_by, hears_of, owns}
 use Rattle.laws_history.specs.HistoryFacts.{verdict_of}
 use Rattle.laws_history.specs.HistoryFolds.{or_new, brings_notarization, brings_finalization, verdict_of_event, entered_by, sets_genesis}
 use Rattle.laws_safety.proofs.frames.EachRound.{pruned_view, prune_alone}
-use Rattle.laws_history.proofs.Following.{FollowsEvent, left_from}
-use Rattle.laws_history.proofs.FollowingReplays.{event_follows}
+use Rattle.laws_history.proofs.EventFacts.{FollowsEvent, left_from}
+use Rattle.laws_history.proofs.ReplayEvents.{event_follows}
 use Rattle.laws_progress.specs.ViewCauses.{IsInEpoch, IsLedTo, First, PastFinalized, PastCertified, PastNullified, HasJudged}
 
 module _ {K L D : Type 0} (epoch : ℕ) (trace : List (TraceEvent D)) (verdicts : List (Bool × Proposal D)) (x : StateFacts K L D) where

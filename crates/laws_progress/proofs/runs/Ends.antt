@@ -10,7 +10,7 @@ use Rattle.laws_safety.specs.Executions.{new_member, Execution, trace_of, Begins
 use Rattle.laws_safety.specs.TermLengths.{KeepTerms}
 use Rattle.laws_safety.proofs.frames.RunsKeep.{HoldsIn, run_induction}
 use Rattle.laws_safety.proofs.lists.Splits.{Contains-cons_rest}
-use Rattle.laws_safety.proofs.lives.TimingOut.{TimesOut, floor_times_out, event_times_out}
+use Rattle.laws_safety.proofs.lives.ViewTimeouts.{TimesOut, floor_times_out, event_times_out}
 use Rattle.laws_safety.proofs.records.NewLives.{Living}
 use Rattle.laws_safety.proofs.records.RunsLawful.{LivesOn, run_lives, start_lives}
 use Rattle.laws_progress.proofs.runs.Owned.{Owns, event_owns, floor_owns}

@@ -17,13 +17,13 @@ use Rattle.simplex_voter.proofs.Gaps.{first_unnullified_view-is, or_right}
 use Rattle.simplex_member.specs.OutstandingWork.{is_among}
 use Rattle.laws_safety.specs.Traces.{TraceEvent}
 use Rattle.laws_history.specs.HistoryFacts.{verdict_of}
-use Rattle.laws_safety.proofs.lives.TimingOut.{TimesOut}
+use Rattle.laws_safety.proofs.lives.ViewTimeouts.{TimesOut}
 use Rattle.laws_safety.proofs.votes.ShownVotes.{ShowsVotesInLife}
 use Rattle.laws_progress.specs.ViewCauses.{HasFinalized, HasCertified, HasJudged}
 use Rattle.laws_progress.specs.ViewPositions.{StandsBefore}
-use Rattle.laws_progress.proofs.runs.Coming.{Came}
+use Rattle.laws_progress.proofs.runs.Arrivals.{Came}
 use Rattle.laws_progress.proofs.runs.Led.{Led}
-use Rattle.laws_progress.proofs.states.Waiting.{explicit_by}
+use Rattle.laws_progress.proofs.states.BeforeTermStart.{explicit_by}
 
 good_judged : (c : Certification) → verdict_of c ≡ Some true → is_certified c ≡ true
 good_judged certification.Ready is = absurd (false≢true (ap is_some is))

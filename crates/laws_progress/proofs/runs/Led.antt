@@ -14,9 +14,9 @@ use Rattle.simplex_voter.proofs.Gaps.{and_parts}
 use Rattle.laws_safety.specs.Traces.{TraceEvent, Accepts, of_floor}
 use Rattle.simplex_record.specs.Events as event
 use Rattle.simplex_record.specs.Events.{Event, IsEvent, after_event}
-use Rattle.laws_safety.proofs.frames.Rising.{event_goes}
+use Rattle.laws_safety.proofs.frames.NoLowerViews.{event_goes}
 use Rattle.laws_safety.proofs.frames.Sound.{event_ahead}
-use Rattle.laws_history.proofs.FollowingReplays.{event_follows}
+use Rattle.laws_history.proofs.ReplayEvents.{event_follows}
 use Rattle.laws_progress.specs.ViewCauses.{HasJudged, IsLedTo, First, PastFinalized, PastCertified, PastNullified}
 use Rattle.laws_progress.proofs.runs.Brought.{BringsAccepted, RoundsLed, brings_nothing, rounds_led, final_after, genesis_still, reached_after}
 

@@ -20,9 +20,9 @@ use Rattle.simplex_record.specs.Cuts.{may_drop, without_last, pruned_entries}
 use Rattle.simplex_record.specs.Entries.{entry_round, entry_view}
 use Rattle.simplex_record.specs.Recovery.{as_artifact, after_replaying, after_entry, after_kept_entry, after_entries, recovered_state, recover_error, with_floor, is_finalization_entry, TakesEntry, TakesEntries}
 use Rattle.simplex_record.specs.Start.{StartFacts, new_state}
-use Rattle.simplex_record.proofs.Allowing.{new_bears}
-use Rattle.simplex_record.proofs.Bearing.{BearsAll}
-use Rattle.simplex_record.proofs.Remaking.{set_takes}
+use Rattle.simplex_record.proofs.AllowedRecords.{new_bears}
+use Rattle.simplex_record.proofs.HeldEntries.{BearsAll}
+use Rattle.simplex_record.proofs.Recoveries.{set_takes}
 use Rattle.simplex_record.proofs.Start.{good_floor}
 use Rattle.simplex_member.specs.CallConditions.{is_allowed, fault_of}
 use Rattle.simplex_member.specs.Calls.{CallFacts, ReplyFacts}
@@ -30,14 +30,14 @@ use Rattle.simplex_member.specs.MemberFacts.{MemberFacts, AnswersAlive, IsCall, 
 use Rattle.simplex_member.specs.CallSemantics.{answer, recorded_by}
 use Rattle.simplex_member.specs.Restarts.{RestartFacts, cut_member, new_lifetime, retention_grows, RecoversByView, IsRestart, IsRestartWhere}
 use Rattle.simplex_member.specs.Runs.{StepFacts, Calls, Prunes, Restarts, restart_reply, IsRun, IsRunFrom}
-use Rattle.simplex_member.specs.Pruning.{stays_within, pruned_member}
+use Rattle.simplex_member.specs.PrunedRecord.{stays_within, pruned_member}
 use Rattle.laws_safety.specs.Traces.{TraceEvent, Accepts, of_floor, trace_of_call, trace_at, trace_of_steps}
 use Rattle.simplex_record.specs.Events as event
 use Rattle.simplex_record.specs.Events.{Event, after_event}
 use Rattle.laws_safety.specs.Lawful.{HasSigned}
 use Rattle.laws_safety.specs.Executions.{new_member, Execution, trace_of, IsExecution}
 use Rattle.laws_safety.specs.TermLengths.{HasTerms, KeepTerms}
-use Rattle.laws_safety.proofs.frames.Rising.{event_goes}
+use Rattle.laws_safety.proofs.frames.NoLowerViews.{event_goes}
 use Rattle.laws_safety.proofs.frames.RunsKeep.{HoldsIn}
 use Rattle.laws_safety.proofs.lists.Filters.{Contains-filtered, same_entries}
 use Rattle.laws_safety.proofs.lists.Signed.{signed_none, signed_cases, only_signed}

@@ -16,7 +16,7 @@ use Rattle.laws_safety.specs.Executions.{Execution, trace_of, IsExecution}
 use Rattle.laws_safety.proofs.lists.Splits.{Contains-cases}
 use Rattle.laws_progress.specs.ViewPositions.{IsFreshStart, CanStandOn, BuildsOn, proposal_in}
 use Rattle.laws_progress.specs.NetworkStates.{IsSetUpAs, RunsWith}
-use Rattle.laws_progress.proofs.states.Standing.{StandingMember, StandsAtView}
+use Rattle.laws_progress.proofs.states.AtTermStart.{StandingMember, StandsAtView}
 use Rattle.laws_progress.proofs.states.Calls.{with_work, nothing_done}
 use Rattle.laws_progress.proofs.runs.Onward.{execution_on}
 use Rattle.laws_progress.proofs.runs.Ends.{Shown, end_shown}

@@ -18,7 +18,7 @@ use Rattle.laws_safety.specs.Executions.{new_member, Execution, trace_of, IsExec
 use Rattle.laws_safety.proofs.agreement.VoteOrder.{Contains-middle}
 use Rattle.laws_safety.proofs.lives.WithinRuns.{run_from_before}
 use Rattle.laws_safety.proofs.lists.Splits.{only_one}
-use Rattle.laws_safety.proofs.records.Remembering.{append_split, none_split}
+use Rattle.laws_safety.proofs.records.RememberedVotes.{append_split, none_split}
 use Rattle.laws_progress.specs.ViewCauses.{IsLedTo, First, PastFinalized, PastCertified, PastNullified, judged_by, judged_in, judged_of}
 use Rattle.laws_progress.proofs.runs.LedLives.{floor_signs_none, nullified_led}
 use Rattle.laws_progress.proofs.runs.Onward.{judged_joined, paired}

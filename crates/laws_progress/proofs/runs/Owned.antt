@@ -9,7 +9,7 @@ use Rattle.simplex_record.specs.Events.{Event, after_event}
 use Rattle.laws_safety.proofs.frames.EachRound.{rounds_or_gone}
 use Rattle.laws_safety.proofs.frames.Fresh.{IsNewState}
 use Rattle.simplex_record.proofs.Paths.{event_path, asked_of_all}
-use Rattle.laws_safety.proofs.frames.Rising.{UnchangedOrHigher, event_goes}
+use Rattle.laws_safety.proofs.frames.NoLowerViews.{UnchangedOrHigher, event_goes}
 use Rattle.simplex_record.proofs.Steps.{RoundStep, Kept}
 
 pub record Owns {K L D : Type 0} (x : StateFacts K L D) : Type 0 where

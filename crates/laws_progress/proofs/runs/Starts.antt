@@ -16,7 +16,7 @@ use Rattle.simplex_member.specs.MemberFacts.{MemberFacts}
 use Rattle.laws_safety.specs.Executions.{Execution}
 use Rattle.laws_progress.specs.ViewPositions.{IsFreshStart, CanStandOn}
 use Rattle.laws_progress.specs.NetworkStates.{IsSetUpAs}
-use Rattle.laws_progress.proofs.states.Standing.{StandingMember, StandsAtView}
+use Rattle.laws_progress.proofs.states.AtTermStart.{StandingMember, StandsAtView}
 use Rattle.laws_progress.proofs.states.Calls.{with_work, nothing_done}
 use Rattle.laws_progress.proofs.runs.Ends.{Shown}
 

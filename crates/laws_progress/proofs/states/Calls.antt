@@ -25,7 +25,7 @@ use Rattle.simplex_member.specs.CallConditions.{is_allowed, fault_of}
 use Rattle.simplex_member.specs.Calls.{CallFacts, Added, Notarize, Finalize, SetProposal, Verified, ConstructNotarize, AddNotarization, Certified, ConstructFinalize, AddFinalization}
 use Rattle.simplex_member.specs.CallSemantics.{answer, after_call}
 use Rattle.simplex_member.specs.OutstandingWork.{OutstandingWork, is_verifying}
-use Rattle.laws_progress.proofs.states.Standing.{StandingMember, StandsAtView, put_here, at_another, next_ready, waits, woken, next_entered, leader_above, window_led}
+use Rattle.laws_progress.proofs.states.AtTermStart.{StandingMember, StandsAtView, put_here, at_another, next_ready, waits, woken, next_entered, leader_above, window_led}
 use Rattle.laws_progress.proofs.states.Words.{built_on, same_self, round_is, tracked_is, starts, no_window, admitted, takes, names_small, binding_holds}
 use Rattle.laws_safety.proofs.lives.Progress.{no_fault_due}
 use Rattle.laws_safety.proofs.votes.ShownVotesByVotes.{not_nullified}

@@ -12,7 +12,7 @@ use Rattle.simplex_voter.specs.Facts.{StateFacts}
 use Rattle.simplex_voter.specs.Parents.{at_view, explicit_below, highest_explicit}
 use Rattle.simplex_voter.specs.Payloads.{certified_payload, explicit_ancestry_payload}
 use Rattle.laws_history.proofs.UnchangedHistories.{from_T}
-use Rattle.laws_progress.proofs.states.Waiting.{explicit_by}
+use Rattle.laws_progress.proofs.states.BeforeTermStart.{explicit_by}
 
 module _ {K L D : Type 0} (x : StateFacts K L D) (p v : ℕ) (d : D) (low : p < v) (here : explicit_ancestry_payload x p ≡ Some d) (none : (w : ℕ) → p < w → explicit_ancestry_payload x w ≡ None) where
   abbrev gives : ℕ × RoundFacts K D → Option (ℕ × D)

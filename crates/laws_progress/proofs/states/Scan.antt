@@ -23,7 +23,7 @@ use Rattle.simplex_voter.proofs.Walked.{find-changed, sorted-changed}
 use Rattle.simplex_member.specs.Calls.{TryVerify}
 use Rattle.simplex_member.specs.OutstandingWork.{OutstandingWork}
 use Rattle.laws_history.proofs.UnchangedHistories.{from_T}
-use Rattle.laws_progress.proofs.states.Standing.{StandingMember, StandsAtView, remade}
+use Rattle.laws_progress.proofs.states.AtTermStart.{StandingMember, StandsAtView, remade}
 use Rattle.laws_progress.proofs.states.Words.{built_on, spans_it, no_gap, admitted, payload_is}
 use Rattle.laws_progress.proofs.states.Calls.{with_work, heard, being_verified, Makes}
 use Rattle.laws_safety.proofs.lives.Progress.{no_fault_due}

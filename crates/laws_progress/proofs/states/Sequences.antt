@@ -16,11 +16,11 @@ use Rattle.simplex_member.specs.OutstandingWork.{is_among, is_verifying}
 use Rattle.simplex_member.specs.Runs.{StepFacts, Calls, IsRun}
 use Rattle.laws_safety.specs.Traces.{TraceEvent, Accepts, Signs, trace_of_call, trace_of_steps}
 use Rattle.laws_safety.proofs.votes.OutstandingWork.{among_noted}
-use Rattle.laws_progress.proofs.states.Standing.{StandingMember, StandsAtView}
+use Rattle.laws_progress.proofs.states.AtTermStart.{StandingMember, StandsAtView}
 use Rattle.laws_progress.proofs.states.Words.{built_on}
 use Rattle.laws_progress.proofs.states.Calls.{with_work, nothing_done, verified, sets_proposal, is_verified, votes, vote_told, is_notarized, notarization_told, is_certified, ends, end_told, takes_finalization, finalization_told}
 use Rattle.laws_progress.proofs.states.Scan.{verify_told, tries_verify}
-use Rattle.laws_progress.proofs.states.Building.{built_at, tries_propose, opens, builds_it}
+use Rattle.laws_progress.proofs.states.LeaderCalls.{built_at, tries_propose, opens, builds_it}
 
 module _ {K L D : Type 0} (same : D → D → Bool) (elect : Elect L) where
   -- the steps run, and this is their trace

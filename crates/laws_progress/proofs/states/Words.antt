@@ -13,7 +13,7 @@ use Rattle.simplex_voter.specs.Gaps.{first_unnullified_view}
 use Rattle.simplex_voter.specs.Parents.{has_valid_parent_span, ancestry_payload_for_child, parent_payload_for, verification_matches}
 use Rattle.simplex_voter.specs.Refusals.{is_too_large, names_too_large, takes_round, is_started}
 use Rattle.simplex_voter.proofs.Gaps.{and_both}
-use Rattle.laws_progress.proofs.states.Standing.{StandingMember, StandsAtView}
+use Rattle.laws_progress.proofs.states.AtTermStart.{StandingMember, StandsAtView}
 
 -- the proposal of the view on the parent
 abbrev pub built_on : {D : Type 0} → StandingMember D → D → Proposal D

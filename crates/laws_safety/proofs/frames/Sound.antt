@@ -20,8 +20,8 @@ use Rattle.laws_safety.proofs.frames.CallsMake.{is_floor}
 use Rattle.laws_safety.proofs.frames.EachRound.{IsGone}
 use Rattle.simplex_record.proofs.Paths.{from_entry, from_first_entry}
 use Rattle.simplex_record.proofs.Steps.{Still, finalization_by}
-use Rattle.laws_safety.proofs.lives.Lasting.{RoundLasts, standing_view, certificates, brings_any, event_lasts}
-use Rattle.laws_safety.proofs.frames.Rising.{event_goes, goes_along, event_finalizes}
+use Rattle.laws_safety.proofs.lives.RunOrder.{RoundLasts, standing_view, certificates, brings_any, event_lasts}
+use Rattle.laws_safety.proofs.frames.NoLowerViews.{event_goes, goes_along, event_finalizes}
 
 -- the current view lies above the last finalized one
 abbrev pub IsAhead : {K L D : Type 0} → StateFacts K L D → Type 0

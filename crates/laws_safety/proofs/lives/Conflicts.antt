@@ -11,8 +11,8 @@ use Rattle.simplex_member.specs.MemberFacts.{MemberFacts, IsCall}
 use Rattle.simplex_member.specs.CallSemantics.{answer, after_call}
 use Rattle.simplex_member.specs.OutstandingWork.{OutstandingWork}
 use Rattle.laws_safety.proofs.lists.Splits.{Contains-cons_rest}
-use Rattle.laws_safety.proofs.frames.Rising.{floor_goes, call_goes}
-use Rattle.laws_safety.proofs.lives.Lasting.{call_lasts}
+use Rattle.laws_safety.proofs.frames.NoLowerViews.{floor_goes, call_goes}
+use Rattle.laws_safety.proofs.lives.RunOrder.{call_lasts}
 use Rattle.simplex_record.proofs.Paths.{tracked_by}
 use Rattle.laws_safety.proofs.lives.WithinLives.{alive_still, alive_joined, each_call}
 

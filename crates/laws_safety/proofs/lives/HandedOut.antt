@@ -16,9 +16,9 @@ use Rattle.laws_safety.specs.LifetimeLaws.{IsLifetime, KindOfCertificate, Notari
 use Rattle.simplex_member.specs.MemberFacts.{MemberFacts, IsCall}
 use Rattle.simplex_member.specs.CallSemantics.{answer, after_call}
 use Rattle.simplex_member.specs.OutstandingWork.{OutstandingWork}
-use Rattle.laws_safety.proofs.lives.Lasting.{is_handed, standing_view, handed, none_comes, brings_kept, event_lasts}
+use Rattle.laws_safety.proofs.lives.RunOrder.{is_handed, standing_view, handed, none_comes, brings_kept, event_lasts}
 use Rattle.laws_safety.proofs.frames.CallsMake.{is_floor, call_by_event}
-use Rattle.laws_safety.proofs.frames.Rising.{floor_goes, event_goes}
+use Rattle.laws_safety.proofs.frames.NoLowerViews.{floor_goes, event_goes}
 use Rattle.laws_safety.proofs.frames.Sound.{nothing_stands}
 use Rattle.simplex_record.specs.Events.{Event, IsEvent, after_event}
 use Rattle.simplex_record.proofs.Rounds.{round_put}

@@ -23,8 +23,8 @@ use Rattle.simplex_record.proofs.CheckState.{from_not_false, unbroken, rest_unbr
 use Rattle.laws_safety.specs.LifetimeLaws.{CurrentTimesOut}
 use Rattle.laws_safety.specs.StateLaws.{settles}
 use Rattle.laws_safety.proofs.frames.CallsMake.{retaken_keeps}
-use Rattle.laws_safety.proofs.frames.Rising.{event_goes}
-use Rattle.laws_safety.proofs.lives.TimingOut.{TimesOut, new_times_out, event_times_out}
+use Rattle.laws_safety.proofs.frames.NoLowerViews.{event_goes}
+use Rattle.laws_safety.proofs.lives.ViewTimeouts.{TimesOut, new_times_out, event_times_out}
 use Rattle.laws_safety.proofs.lives.LeftViews.{LeftUnless, None_settled, left_but, event_left, floor_left, unsettled_timeout}
 use Rattle.laws_safety.proofs.votes.ShownVotesByCalls.{certified_passes}
 

@@ -20,8 +20,8 @@ use Rattle.simplex_record.proofs.Steps as step
 use Rattle.simplex_record.proofs.Steps.{RoundStep, verdict_by, finalize_by}
 use Rattle.laws_safety.specs.StateLaws.{settles, after_events, TimesOutUnlessSettled}
 use Rattle.laws_safety.proofs.frames.EachRound.{IsGone, rounds_or_gone}
-use Rattle.laws_safety.proofs.frames.Rising.{event_goes}
-use Rattle.laws_safety.proofs.lives.TimingOut.{TimesOut, new_times_out, event_times_out, says_timeout}
+use Rattle.laws_safety.proofs.frames.NoLowerViews.{event_goes}
+use Rattle.laws_safety.proofs.lives.ViewTimeouts.{TimesOut, new_times_out, event_times_out, says_timeout}
 use Rattle.laws_safety.proofs.votes.ShownVotesByCalls.{certified_passes}
 
 -- a verdict and a decision of a round were there before, or are the event's

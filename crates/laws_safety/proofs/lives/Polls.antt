@@ -24,7 +24,7 @@ use Rattle.laws_safety.specs.LifetimeLaws.{CurrentTimesOut, PollIsAnswered, Poll
 use Rattle.laws_safety.specs.TermLengths.{HasTerms, KeepTerms}
 use Rattle.laws_safety.proofs.frames.Fresh.{fresh_state}
 use Rattle.laws_safety.proofs.frames.RunsKeep.{HoldsIn, told_keeps, restart_keeps, run_induction}
-use Rattle.laws_safety.proofs.lives.TimingOut.{TimesOut as Timed, floor_times_out, event_times_out, says_timeout}
+use Rattle.laws_safety.proofs.lives.ViewTimeouts.{TimesOut as Timed, floor_times_out, event_times_out, says_timeout}
 use Rattle.laws_safety.proofs.records.RunsLawful.{LivesOn, MemberLives, step_lives, run_lives, start_lives}
 
 -- a view that is certified or decided to be finalized lies below the current one

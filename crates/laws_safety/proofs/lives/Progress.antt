@@ -31,7 +31,7 @@ use Rattle.simplex_record.specs.Events.{Event, after_event}
 use Rattle.laws_safety.specs.Progress.{GoesPast, CanBeLeft}
 use Rattle.laws_safety.specs.TermLengths.{HasTerms, KeepTerms}
 use Rattle.laws_safety.proofs.frames.Fresh.{IsNewState}
-use Rattle.laws_safety.proofs.frames.Rising.{event_goes}
+use Rattle.laws_safety.proofs.frames.NoLowerViews.{event_goes}
 use Rattle.laws_safety.proofs.frames.RunsKeep.{HoldsIn, run_induction}
 use Rattle.laws_safety.proofs.frames.Sound.{IsSound, entered_reaches, event_passes, event_sound, floor_sound}
 

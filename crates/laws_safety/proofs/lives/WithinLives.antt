@@ -9,7 +9,7 @@ use Rattle.laws_safety.specs.LifetimeLaws.{IsLifetime, WhileAlive, NeverFalls}
 use Rattle.simplex_member.specs.MemberFacts.{MemberFacts, IsCall, AnswersAlive, reply_of, left_of}
 use Rattle.simplex_member.specs.CallSemantics.{answer, after_call}
 use Rattle.simplex_member.specs.OutstandingWork.{OutstandingWork}
-use Rattle.laws_safety.proofs.frames.Rising.{never_fell, falls_never, never_falls, call_goes}
+use Rattle.laws_safety.proofs.frames.NoLowerViews.{never_fell, falls_never, never_falls, call_goes}
 
 module _ {K L D : Type 0} where
   -- of one state with itself

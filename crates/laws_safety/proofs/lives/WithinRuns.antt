@@ -21,7 +21,7 @@ use Rattle.laws_safety.proofs.lives.AsAsked.{call_as_asked}
 use Rattle.laws_safety.proofs.lists.Splits.{Contains-cases, only_one}
 use Rattle.laws_safety.proofs.frames.Untracked.{IsClear, call_clear, call_drops}
 use Rattle.simplex_member.proofs.EventsMake.{call_by_any}
-use Rattle.laws_safety.proofs.frames.Rising.{floor_goes, call_goes}
+use Rattle.laws_safety.proofs.frames.NoLowerViews.{floor_goes, call_goes}
 use Rattle.laws_safety.proofs.frames.Sound.{IsSound, event_sound, floor_sound}
 use Rattle.laws_safety.proofs.frames.RunsKeep.{HoldsIn, run_induction}
 use Rattle.laws_safety.proofs.lives.WithinLives.{alive_still, alive_joined, each_call, call_outcome}

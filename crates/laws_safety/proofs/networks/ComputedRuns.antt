@@ -17,7 +17,7 @@ use Rattle.simplex_record.specs.declared.record.error.RecoverError.TheVariants a
 use Rattle.simplex_member.specs.Restarts.{RestartFacts, cut_member, new_lifetime, retention_grows, IsRestart, IsRestartWhere}
 use Rattle.simplex_member.specs.Runs.{StepFacts, Calls, Prunes, Restarts, restart_reply, IsRun, IsRunFrom}
 use Rattle.simplex_record.specs.Start.{new_state}
-use Rattle.simplex_member.specs.Pruning.{pruned_member}
+use Rattle.simplex_member.specs.PrunedRecord.{pruned_member}
 use Rattle.laws_safety.specs.Executions.{new_member, Execution, BeginsAs}
 use Rattle.laws_safety.proofs.lists.Splits.{Contains-cases}
 

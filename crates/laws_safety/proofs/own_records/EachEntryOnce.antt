@@ -20,7 +20,7 @@ use Rattle.simplex_member.specs.CallConditions.{is_allowed, fault_of}
 use Rattle.simplex_member.specs.Calls.{CallFacts, ReplyFacts}
 use Rattle.simplex_member.specs.CallSemantics.{after_call, recorded_by}
 use Rattle.simplex_member.specs.MemberFacts.{MemberFacts, IsCall, AnswersAlive, left_of, without_lifetime}
-use Rattle.simplex_member.specs.Pruning.{stays_within, pruned_member}
+use Rattle.simplex_member.specs.PrunedRecord.{stays_within, pruned_member}
 use Rattle.simplex_member.specs.Restarts.{RestartFacts, IsByView, cut_member, new_lifetime, retention_grows, IsRestart, IsRestartWhere}
 use Rattle.simplex_member.specs.Runs.{StepFacts, Calls, Prunes, Restarts, IsStep, IsRun}
 use Rattle.laws_safety.specs.Executions.{new_member}

@@ -28,7 +28,7 @@ use Rattle.simplex_member.specs.CallSemantics.{nullify_vote, notarize_vote, fina
 use Rattle.simplex_member.specs.OutstandingWork.{OutstandingWork}
 use Rattle.laws_safety.specs.RecordsOnce.{are_of_one_kind, are_alike, RecordsOnce}
 use Rattle.laws_safety.proofs.frames.CallsMake.{call_by_event}
-use Rattle.laws_safety.proofs.frames.Rising.{event_goes, floor_goes}
+use Rattle.laws_safety.proofs.frames.NoLowerViews.{event_goes, floor_goes}
 use Rattle.laws_safety.proofs.frames.Sound.{IsAhead}
 use Rattle.laws_safety.proofs.frames.Untracked.{IsClear, kept_view, event_clear, event_dropped}
 use Rattle.laws_safety.proofs.own_records.Distinct.{distinct_push}

@@ -28,7 +28,7 @@ use Rattle.simplex_record.specs.Recovery.{as_artifact, after_replaying}
 use Rattle.simplex_record.specs.Entries.{entry_view}
 use Rattle.simplex_record.specs.Events as event
 use Rattle.simplex_record.specs.Events.{Event, IsEvent}
-use Rattle.simplex_record.proofs.Growing.{notarization_stands}
+use Rattle.simplex_record.proofs.RoundChanges.{notarization_stands}
 use Rattle.simplex_record.proofs.Paths.{from_notarized, to_prepared}
 use Rattle.simplex_record.proofs.Rounds.{round_put}
 use Rattle.simplex_record.proofs.Steps.{Still}

@@ -21,7 +21,7 @@ use Rattle.simplex_record.specs.Recovery.{recover_error, recovered_state}
 use Rattle.simplex_member.specs.Restarts.{RestartFacts, IsByView, cut_member, new_lifetime, retention_grows, RecoversByView, IsRestart, IsRestartWhere}
 use Rattle.simplex_member.specs.Runs.{StepFacts, Calls, Prunes, Restarts, restart_reply, IsRun}
 use Rattle.simplex_record.specs.Start.{StartFacts, new_state}
-use Rattle.simplex_member.specs.Pruning.{pruned_member}
+use Rattle.simplex_member.specs.PrunedRecord.{pruned_member}
 use Rattle.laws_safety.specs.Executions.{new_member}
 use Rattle.laws_safety.specs.Traces.{TraceEvent, Signs, passed_certificates, of_floor, signed_in, accepted_by, trace_of_call, trace_at, trace_of_steps}
 use Rattle.laws_safety.specs.ExactVotes.{ExactAt, proposal_at}

@@ -18,7 +18,7 @@ use Rattle.laws_safety.specs.Lawful.{HasSigned, SignsAfter, IsLawful}
 use Rattle.laws_safety.proofs.lists.Signed.{signed_left}
 use Rattle.laws_safety.proofs.lists.Filters.{filter_split, filter_middle, Contains-filter, Contains-filtered, filtered_passes, same_entries}
 use Rattle.laws_safety.proofs.records.TracesShown.{Remembers}
-use Rattle.laws_safety.proofs.records.Remembering.{append_split, none_split}
+use Rattle.laws_safety.proofs.records.RememberedVotes.{append_split, none_split}
 use Rattle.laws_safety.proofs.own_records.EntriesFit.{HoldTogether}
 use Rattle.laws_safety.proofs.agreement.VoteOrder.{Order, Same, First, Second, in_order, Contains-middle}
 use Rattle.laws_safety.proofs.lists.Splits.{only_one}

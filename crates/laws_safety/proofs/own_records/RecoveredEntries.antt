@@ -22,7 +22,7 @@ use Rattle.simplex_record.proofs.Paths.{AskedFrom, from_raised, put}
 use Rattle.simplex_record.proofs.Steps as step
 use Rattle.simplex_record.proofs.Steps.{Path, Still, along}
 use Rattle.laws_safety.proofs.frames.Fresh.{IsNewState}
-use Rattle.laws_safety.proofs.frames.Rising.{event_goes, event_finalizes}
+use Rattle.laws_safety.proofs.frames.NoLowerViews.{event_goes, event_finalizes}
 use Rattle.laws_safety.proofs.frames.Sound.{IsSound, event_sound, floor_sound}
 use Rattle.laws_safety.proofs.frames.Untracked.{IsClear, step_out, clear_along}
 use Rattle.laws_safety.proofs.lists.Splits.{Contains-cases}

@@ -22,7 +22,7 @@ use Rattle.laws_safety.proofs.own_records.EntriesFit.{RisesFrom, rises_from}
 use Rattle.simplex_record.specs.Events as event
 use Rattle.simplex_record.specs.Events.{Event, IsEvent, after_event, finalized_by_event}
 use Rattle.simplex_record.proofs.Rounds.{round_put}
-use Rattle.laws_safety.proofs.frames.Rising.{event_goes, event_finalizes}
+use Rattle.laws_safety.proofs.frames.NoLowerViews.{event_goes, event_finalizes}
 use Rattle.simplex_record.proofs.Steps.{notarization_by, verdict_by}
 use Rattle.laws_safety.proofs.own_records.Verdicts.{ShowsVerdicts, judged_so, event_shows}
 

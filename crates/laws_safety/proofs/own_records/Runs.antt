@@ -33,7 +33,7 @@ use Rattle.laws_safety.proofs.own_records.RecoveredVerdicts.{recovered_shows}
 use Rattle.laws_safety.proofs.records.RunsLawful.{MemberLives, between_of, cut_between, call_lives_on, prune_lives_on, restart_lives_on, start_lives}
 use Rattle.laws_safety.proofs.records.PrunedRecords.{shown_tracked, tracked_stays}
 use Rattle.laws_safety.proofs.lists.Filters.{Contains-filtered, same_entries}
-use Rattle.simplex_member.specs.Pruning.{stays_within, pruned_member}
+use Rattle.simplex_member.specs.PrunedRecord.{stays_within, pruned_member}
 use Rattle.laws_safety.proofs.own_records.VerdictsByCalls.{call_told}
 use Rattle.laws_safety.proofs.own_records.ShownVerdicts.{TellsVerdicts, shows_more}
 use Rattle.laws_safety.proofs.own_records.SmallViews.{AreSmall}

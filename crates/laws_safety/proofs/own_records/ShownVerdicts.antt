@@ -24,7 +24,7 @@ use Rattle.laws_safety.proofs.own_records.Recorded.{OwnRecord, AreQuiet, quiet_n
 use Rattle.laws_safety.proofs.frames.CallsOnWork.{is_work}
 use Rattle.simplex_record.specs.Events as event
 use Rattle.simplex_record.specs.Events.{Event, IsEvent, after_event}
-use Rattle.laws_safety.proofs.lives.Lasting.{brings_kept}
+use Rattle.laws_safety.proofs.lives.RunOrder.{brings_kept}
 use Rattle.simplex_record.proofs.Steps.{notarization_by, verdict_by}
 use Rattle.laws_safety.proofs.own_records.Verdicts.{ShowsVerdicts, given_so, event_shows, verdict_stands}
 use Rattle.laws_safety.proofs.lists.Splits.{only_one}

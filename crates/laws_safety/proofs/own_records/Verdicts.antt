@@ -15,7 +15,7 @@ use Rattle.simplex_record.specs.Events.{Event, IsEvent, after_event, is_prune}
 use Rattle.laws_safety.proofs.frames.EachRound.{IsGone, rounds_along, rounds_or_gone}
 use Rattle.simplex_record.proofs.Rounds.{round_put}
 use Rattle.simplex_record.proofs.Paths.{event_path, asked_of_all, from_judged}
-use Rattle.laws_safety.proofs.frames.Rising.{event_goes, floor_goes}
+use Rattle.laws_safety.proofs.frames.NoLowerViews.{event_goes, floor_goes}
 use Rattle.simplex_record.proofs.Steps as step
 use Rattle.simplex_record.proofs.Steps.{RoundStep, notarization_by, verdict_by}
 

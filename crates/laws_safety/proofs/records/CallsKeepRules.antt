@@ -24,7 +24,7 @@ use Rattle.laws_safety.proofs.records.RecordedVotes.{Marked, marked_more, quiet_
 use Rattle.laws_safety.proofs.frames.CallsMake.{AreSilent, work_silent, call_by_event}
 use Rattle.laws_safety.proofs.votes.ShownVotes.{ShowsVotesInLife}
 use Rattle.laws_safety.proofs.votes.ShownVotesBySteps.{silent_suits, stays_on}
-use Rattle.laws_safety.proofs.records.Remembering.{RecordGrows, remembers_more, single_split}
+use Rattle.laws_safety.proofs.records.RememberedVotes.{RecordGrows, remembers_more, single_split}
 use Rattle.laws_safety.proofs.records.EntryTraces.{notarize_cast_stays}
 use Rattle.laws_safety.proofs.frames.InOrder.{order_call}
 use Rattle.laws_safety.proofs.votes.NotarizeVotesShown.{NotesStand}

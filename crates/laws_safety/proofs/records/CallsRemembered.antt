@@ -33,7 +33,7 @@ use Rattle.laws_safety.proofs.records.RecordedVotes.{Marked, marked_more, event_
 use Rattle.simplex_record.proofs.Steps.{verdict_by, nullify_by}
 use Rattle.simplex_record.specs.Events as event
 use Rattle.simplex_record.specs.Events.{Event, after_event}
-use Rattle.laws_safety.proofs.records.Remembering.{remembers_more, grows_nothing, grows_verdict, grows_certificate, grows_again, grows_nullify, grows_finalize}
+use Rattle.laws_safety.proofs.records.RememberedVotes.{remembers_more, grows_nothing, grows_verdict, grows_certificate, grows_again, grows_nullify, grows_finalize}
 
 -- the record remembers the trace, and what the state's facts show
 pub record RemembersAndShows {K L D : Type 0} (trace : List (TraceEvent D)) (kept : ℕ) (entries : List (ArtifactFacts D)) (x : StateFacts K L D) : Type 0 where

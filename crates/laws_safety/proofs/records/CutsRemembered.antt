@@ -18,7 +18,7 @@ use Rattle.laws_safety.specs.Traces.{TraceEvent, Accepts, of_floor}
 use Rattle.laws_safety.proofs.agreement.VoteOrder.{Contains-middle}
 use Rattle.laws_safety.proofs.lists.Filters.{filter_split, filter_middle, Contains-filter, Contains-filtered, filtered_passes, same_entries}
 use Rattle.laws_safety.proofs.records.TracesShown.{Remembers}
-use Rattle.laws_safety.proofs.records.Remembering.{remembers_more, grows_certificate}
+use Rattle.laws_safety.proofs.records.RememberedVotes.{remembers_more, grows_certificate}
 
 -- a view whose entries don't stay is below the bound
 pub falls_below : (stays : ℕ → Bool) (bound : ℕ) → ((v : ℕ) → bound ≤ v → stays v ≡ true) → (v : ℕ) → stays v ≡ false → v < bound

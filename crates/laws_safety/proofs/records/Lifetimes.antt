@@ -16,7 +16,7 @@ use Rattle.laws_safety.proofs.lists.Splits.{Contains-cases, Contains-cons_rest}
 use Rattle.laws_safety.proofs.agreement.VoteOrder.{Contains-split, Contains-middle}
 use Rattle.laws_safety.proofs.lists.Filters.{Contains-filter}
 use Rattle.laws_safety.proofs.records.TracesShown.{Remembers}
-use Rattle.laws_safety.proofs.records.Remembering.{append_split}
+use Rattle.laws_safety.proofs.records.RememberedVotes.{append_split}
 use Rattle.laws_safety.proofs.records.CutsRemembered.{left_remembers, bounded_remembers}
 use Rattle.laws_safety.proofs.votes.NotarizeVotesShown.{RemembersNotes}
 use Rattle.laws_safety.proofs.records.NotarizeVotesRemembered.{notes_left, notes_bounded}

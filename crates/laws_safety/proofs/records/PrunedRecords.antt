@@ -8,7 +8,7 @@ use Rattle.simplex_voter.specs.Facts.{StateFacts, round_at, round_of, round_numb
 use Rattle.simplex_record.specs.Cuts.{finalized_in}
 use Rattle.simplex_record.specs.Entries.{entry_view}
 use Rattle.simplex_member.specs.MemberFacts.{MemberFacts}
-use Rattle.simplex_member.specs.Pruning.{tracks, stays_within, pruned_member}
+use Rattle.simplex_member.specs.PrunedRecord.{tracks, stays_within, pruned_member}
 use Rattle.laws_safety.specs.Traces.{TraceEvent}
 use Rattle.laws_safety.proofs.lists.Filters.{Contains-filter}
 use Rattle.laws_safety.proofs.records.Lifetimes.{Between, bounded_between}

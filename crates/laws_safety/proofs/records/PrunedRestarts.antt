@@ -6,7 +6,7 @@ use Rattle.simplex_types.specs.Certificates.{Finalized, ArtifactFacts, Accepted}
 use Rattle.simplex_record.specs.Cuts.{finalized_in, pruned_entries}
 use Rattle.simplex_record.specs.Entries.{entry_view}
 use Rattle.simplex_member.specs.MemberFacts.{MemberFacts}
-use Rattle.simplex_member.specs.Pruning.{tracks, stays_within}
+use Rattle.simplex_member.specs.PrunedRecord.{tracks, stays_within}
 use Rattle.simplex_member.specs.Restarts.{closed_at}
 use Rattle.laws_safety.specs.Resumes.{IsPrunedAsAtRestart}
 use Rattle.laws_safety.proofs.lists.Filters.{Contains-filter, Contains-filtered}

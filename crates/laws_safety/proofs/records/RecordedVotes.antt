@@ -10,7 +10,7 @@ use Rattle.simplex_voter.specs.Facts.{StateFacts, Elect, round_at, round_of, rou
 use Rattle.simplex_record.specs.Events.{Event, after_event, is_prune}
 use Rattle.laws_safety.proofs.frames.EachRound.{IsGone, rounds_or_gone}
 use Rattle.simplex_record.proofs.Paths.{event_path, asked_of_all}
-use Rattle.laws_safety.proofs.frames.Rising.{event_goes}
+use Rattle.laws_safety.proofs.frames.NoLowerViews.{event_goes}
 use Rattle.simplex_record.proofs.Rounds.{armed_nullify, latched_nullify, aborted_certified, awaited_nullify}
 use Rattle.simplex_record.proofs.Steps as step
 use Rattle.simplex_record.proofs.Steps.{RoundStep, verdict_by, nullify_by}

@@ -21,7 +21,7 @@ use Rattle.simplex_record.specs.Entries.{entry_view}
 use Rattle.simplex_member.specs.OutstandingWork.{no_outstanding_work}
 use Rattle.simplex_record.specs.Recovery.{after_replaying, after_entry, after_kept_entry, after_entries, recovered_state}
 use Rattle.laws_safety.specs.Traces.{TraceEvent, Accepts}
-use Rattle.laws_safety.proofs.frames.Rising.{finalization_passes}
+use Rattle.laws_safety.proofs.frames.NoLowerViews.{finalization_passes}
 use Rattle.laws_safety.proofs.lists.Splits.{Contains-cases, Contains-cons_rest}
 use Rattle.simplex_record.proofs.Rounds.{round_put}
 use Rattle.laws_safety.proofs.votes.UnchangedProposals.{UnchangedProposalsFrom, IsNoProposalWork, calm_along, event_calm, leaves}

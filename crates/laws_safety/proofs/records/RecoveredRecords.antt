@@ -13,7 +13,7 @@ use Rattle.simplex_record.specs.Events as event
 use Rattle.simplex_record.specs.Events.{Event, after_event}
 use Rattle.laws_safety.proofs.records.RecordedVotes.{Marked, event_marked, quiet_marked}
 use Rattle.laws_safety.proofs.records.ShownVotesByEntries.{taken_if, taken_keeps}
-use Rattle.laws_safety.proofs.frames.Rising.{event_goes}
+use Rattle.laws_safety.proofs.frames.NoLowerViews.{event_goes}
 use Rattle.laws_safety.proofs.lists.Splits.{Contains-cons_rest}
 use Rattle.simplex_record.proofs.Steps.{verdict_by, nullify_by}
 

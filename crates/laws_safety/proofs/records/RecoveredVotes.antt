@@ -19,7 +19,7 @@ use Rattle.laws_safety.proofs.lists.Splits.{Contains-cases}
 use Rattle.laws_safety.proofs.votes.ShownVotes.{ShowsVotesInLife}
 use Rattle.laws_safety.proofs.votes.ShownVotesAtStart.{start_stays, floor_unsigned}
 use Rattle.laws_safety.proofs.frames.CallsMake.{all_keep}
-use Rattle.laws_safety.proofs.frames.Rising.{event_goes, finalization_passes}
+use Rattle.laws_safety.proofs.frames.NoLowerViews.{event_goes, finalization_passes}
 use Rattle.simplex_record.specs.Events as event
 use Rattle.laws_safety.proofs.records.TracesShown.{Remembers, AreRecorded, entries_trace, entry_of, trace_event_of, of_accept, all_stay, stays_over}
 

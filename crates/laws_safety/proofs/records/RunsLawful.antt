@@ -26,13 +26,13 @@ use Rattle.laws_safety.specs.TermLengths.{HasTerms, KeepTerms}
 use Rattle.simplex_member.specs.Runs.{StepFacts, Calls, Prunes, Restarts, restart_reply, IsStep, IsRun, IsRunFrom}
 use Rattle.simplex_record.specs.Start.{StartFacts, new_state}
 use Rattle.laws_safety.proofs.agreement.Lawful.{lawful_start}
-use Rattle.laws_safety.proofs.records.Remembering.{none_split}
+use Rattle.laws_safety.proofs.records.RememberedVotes.{none_split}
 use Rattle.laws_safety.proofs.records.Lifetimes.{Between, dropped_between, pruned_between}
 use Rattle.laws_safety.proofs.records.NewLives.{Living, living_between, all_of_epoch, first_none, new_life_lives}
 use Rattle.laws_safety.proofs.records.NotarizeVotesRemembered.{nothing_noted}
 use Rattle.laws_safety.proofs.records.CallsKeepRules.{call_lives}
 use Rattle.laws_safety.proofs.records.PrunedRecords.{pruned_ended, pruned_living}
-use Rattle.simplex_member.specs.Pruning.{pruned_member}
+use Rattle.simplex_member.specs.PrunedRecord.{pruned_member}
 
 -- a member's record remembers its trace, and while it has not failed its state shows it
 abbrev pub LivesOn : {K L D : Type 0} → ℕ → List (TraceEvent D) → ℕ → ℕ → List (ArtifactFacts D) → OutstandingWork K D → Option (StateFacts K L D) → Type 0

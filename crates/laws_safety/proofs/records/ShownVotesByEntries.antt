@@ -21,7 +21,7 @@ use Rattle.simplex_record.specs.Events.{Event, after_event}
 use Rattle.laws_safety.proofs.frames.CallsMake.{retaken_keeps}
 use Rattle.laws_safety.proofs.votes.NullifyVotes.{noted_new}
 use Rattle.laws_safety.proofs.records.EntryTraces.{entry_trace, MayRetake, notarize_cast_stays, nullify_cast_stays, finalize_cast_stays, passed_over}
-use Rattle.laws_safety.proofs.frames.Rising.{event_goes}
+use Rattle.laws_safety.proofs.frames.NoLowerViews.{event_goes}
 use Rattle.simplex_record.proofs.Rounds.{round_put, tracked_put}
 use Rattle.laws_safety.proofs.votes.ShownVotes.{ShowsVotesInLife, stands_later}
 use Rattle.laws_safety.proofs.votes.ShownVotesByCalls.{certified_passes, certified_suits, notarization_stays, nullification_stays, finalization_stays}

@@ -27,7 +27,7 @@ use Rattle.simplex_record.proofs.Paths.{event_path, asked_of_all}
 use Rattle.simplex_record.proofs.Steps.{Step, Covers, Notes, Prunes, along, nullify_by}
 use Rattle.laws_safety.specs.StateLaws.{after_events, AllowsEach, AboveGenesis}
 use Rattle.laws_safety.proofs.frames.Sound.{IsAhead, event_ahead}
-use Rattle.laws_safety.proofs.lives.TimingOut.{new_times_out}
+use Rattle.laws_safety.proofs.lives.ViewTimeouts.{new_times_out}
 
 module _ {K L D : Type 0} (x : StateFacts K L D) where
   -- a round that is taken lies above genesis

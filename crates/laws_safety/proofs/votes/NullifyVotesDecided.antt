@@ -29,7 +29,7 @@ use Rattle.simplex_record.proofs.Steps as step
 use Rattle.simplex_record.proofs.Steps.{RoundStep, Step, Path, Notes, Prunes, along, nullify_by}
 use Rattle.laws_safety.specs.StateLaws.{after_events, AllowsEach}
 use Rattle.laws_safety.proofs.frames.EachRound.{rounds_along, pruned_round, pruned_view, prune_alone}
-use Rattle.laws_safety.proofs.frames.Rising.{event_goes}
+use Rattle.laws_safety.proofs.frames.NoLowerViews.{event_goes}
 use Rattle.laws_safety.proofs.votes.OutstandingWork.{among_noted}
 
 -- the two ways round of looking a view up

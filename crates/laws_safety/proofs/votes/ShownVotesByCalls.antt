@@ -10,7 +10,7 @@ use Rattle.laws_safety.specs.Traces.{TraceEvent, Accepts}
 use Rattle.simplex_record.specs.Events as event
 use Rattle.simplex_record.specs.Events.{Event, after_event}
 use Rattle.simplex_record.proofs.Paths.{to_woken}
-use Rattle.laws_safety.proofs.frames.Rising.{goes_along}
+use Rattle.laws_safety.proofs.frames.NoLowerViews.{goes_along}
 use Rattle.laws_safety.proofs.frames.Sound.{entered_reaches}
 use Rattle.laws_safety.proofs.votes.ShownVotes.{ShowsVotesInLife, latest, stays_accepted}
 use Rattle.laws_safety.proofs.votes.ShownVotesBySteps.{Suits, plain_suits, stays_on}

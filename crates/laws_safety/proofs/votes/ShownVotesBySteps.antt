@@ -22,7 +22,7 @@ use Rattle.simplex_record.proofs.Paths.{event_path, asked_of_all}
 use Rattle.laws_safety.proofs.votes.ShownVotes.{RoundShowsVotes, ShowsVotes, HasFinal, ShowsVotesInLife, round_later, stands_later, stands_put}
 use Rattle.laws_safety.proofs.votes.ShownVotesInRounds.{HoldsUncontested, holds_new, holds_old, holds_own, holds_voted, fresh_stands}
 use Rattle.laws_safety.proofs.frames.CallsMake.{is_floor}
-use Rattle.laws_safety.proofs.frames.Rising.{event_goes}
+use Rattle.laws_safety.proofs.frames.NoLowerViews.{event_goes}
 use Rattle.laws_safety.proofs.frames.Sound.{IsAhead, event_ahead}
 use Rattle.simplex_record.proofs.Steps as step
 use Rattle.simplex_record.proofs.Steps.{RoundStep, Step, Puts, Notes, Raises, Scans, Prunes, along, IsSilent, notarization_by, verdict_by, nullify_by, finalize_by}

@@ -20,7 +20,7 @@ use Rattle.simplex_record.proofs.Steps as step
 use Rattle.simplex_record.proofs.Steps.{RoundStep, Step, Path, Covers, Prunes, along, note_by, proposal_by, is_answer}
 use Rattle.simplex_record.proofs.Paths.{AskedFrom, event_path}
 use Rattle.laws_safety.proofs.frames.EachRound.{step_round}
-use Rattle.laws_safety.proofs.frames.Rising.{UnchangedOrHigher, goes_still, step_goes}
+use Rattle.laws_safety.proofs.frames.NoLowerViews.{UnchangedOrHigher, goes_still, step_goes}
 use Rattle.laws_safety.proofs.frames.Untracked.{step_out}
 use Rattle.laws_safety.proofs.votes.UnchangedRounds.{UnchangedProposal, calm, calm_joined, calm_alike, calm_led, calm_decided, slot_in_round, certificate_calm, voted_calm}
 

@@ -22,8 +22,8 @@ use Rattle.simplex_member.specs.CallConditions.{is_allowed, fault_of}
 use Rattle.simplex_member.specs.Calls.{CallFacts, AddNotarization, AddNullification, AddFinalization, Certified, TryVerify, CertifyCandidates, ReplyFacts, Judged, Standing as ToldStanding, Refused, NotAllowed, told}
 use Rattle.simplex_member.specs.CallSemantics.{answer, after_call, recorded_by, if_new}
 use Rattle.simplex_member.specs.MemberFacts.{MemberFacts, IsCall, AnswersAlive, with_call, unless_refused, unless_retained}
-use Rattle.simplex_member.specs.Pruning.{stays_within, pruned_member, tracks}
-use Rattle.laws_safety.proofs.frames.Rising.{call_goes}
+use Rattle.simplex_member.specs.PrunedRecord.{stays_within, pruned_member, tracks}
+use Rattle.laws_safety.proofs.frames.NoLowerViews.{call_goes}
 use Rattle.simplex_engine.specs.FetchHeights.{highest_received}
 use Rattle.simplex_engine.proofs.Bounds.{next_monotone}
 use Rattle.simplex_engine.proofs.Tests.{not_or}

@@ -7,7 +7,7 @@ use Rattle.simplex_types.specs.Certificates.{ProposalFacts}
 use Rattle.simplex_voter.specs.Facts.{StateFacts, Elect}
 use Rattle.simplex_member.specs.Calls.{CallFacts, told}
 use Rattle.simplex_member.specs.MemberFacts.{MemberFacts, IsCall, AnswersAlive}
-use Rattle.simplex_member.specs.Pruning.{pruned_member}
+use Rattle.simplex_member.specs.PrunedRecord.{pruned_member}
 use Rattle.simplex_member.specs.Runs.{StepFacts, Calls, Prunes, Restarts}
 use Rattle.simplex_member.specs.declared.member.calls.Reply.{Reply}
 use Rattle.laws_safety.specs.Executions.{new_member, Execution}
@@ -15,10 +15,10 @@ use Rattle.laws_safety.specs.TermLengths.{HasTerms, KeepTerms}
 use Rattle.laws_safety.specs.LifetimeLaws.{Notarization}
 use Rattle.laws_safety.specs.MemberHistory.{HasHistory}
 use Rattle.laws_safety.specs.Traces.{TraceEvent, of_floor, trace_at, trace_of_steps}
-use Rattle.laws_safety.proofs.executions.Living.{call_done, prune_done}
+use Rattle.laws_safety.proofs.executions.ExecutionSteps.{call_done, prune_done}
 use Rattle.laws_safety.proofs.frames.RunsKeep.{HoldsIn, run_induction}
 use Rattle.laws_safety.proofs.frames.Sound.{IsSound, event_sound, floor_sound}
-use Rattle.laws_safety.proofs.lives.Waiting.{IsWaiting, event_waits, floor_waits}
+use Rattle.laws_safety.proofs.lives.UncertifiedViews.{IsWaiting, event_waits, floor_waits}
 use Rattle.laws_safety.proofs.own_records.Runs.{TellsOn, run_own, start_own}
 use Rattle.laws_safety.proofs.own_records.Verdicts.{ShowsVerdicts}
 use Rattle.laws_safety.proofs.records.RunsLawful.{keep_terms}

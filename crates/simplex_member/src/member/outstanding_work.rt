@@ -5,7 +5,7 @@ ghost use Rattle.std.specs.Option.{option_copied};
 ghost use Rattle.std.specs.FinMap as map;
 ghost use Rattle.simplex_types.specs.declared.types.fault.Fault.TheVariants.{OutOfMemory};
 
-use super::waiting::Waiting;
+use super::pending::Pending;
 use simplex_types::types::{Context, Digest, Fault, Proposal, View, Viewable};
 use simplex_view_maps::tracked::Tracked;
 use simplex_voter::voter::{ProposalRequest, Verify};
@@ -15,8 +15,8 @@ use std::marker::Model;
 /// The requests, verifications and offers of a lifetime that wait for their answer, by view.
 #[derive(Drop)]
 pub struct OutstandingWork<D, P: Copy> {
-    contexts: Waiting<Context<D, P>>,
-    verifying: Waiting<()>,
+    contexts: Pending<Context<D, P>>,
+    verifying: Pending<()>,
     offered: Tracked<()>,
 }
 
@@ -46,8 +46,8 @@ impl<D: Digest, P: Copy> OutstandingWork<D, P> {
         ensures { result.open_now ≡ no_outstanding_work }
     {
         OutstandingWork {
-            contexts: Waiting::new(alloc),
-            verifying: Waiting::new(alloc),
+            contexts: Pending::new(alloc),
+            verifying: Pending::new(alloc),
             offered: Tracked::new(alloc),
         }
     }

@@ -1,7 +1,7 @@
 //! The state of a resolver, and its calls.
 
 mod certificates;
-mod serving;
+mod served;
 mod verdicts;
 
 ghost use Rattle.std.specs.Prelude.{◌≡◌, ◌^◌, ◌<◌, ◌≤◌, IfOk, OnOk, IfErr, true, false};

@@ -14,7 +14,7 @@ use Rattle.ffi_member.specs.contracts.view_types.FlatEntries.{the_row as A}
 use Rattle.ffi_member.specs.declared.view_types.FlatEntries.{FlatEntries}
 use Rattle.ffi_member.proofs.view_types.FlatEntries.TheLaws as answer
 use Rattle.ffi_exports.specs.HandleContents.{fact_formula, held_at}
-use Rattle.ffi_member.specs.Pruning.{IsPruned}
+use Rattle.ffi_member.specs.PrunedRecord.{IsPruned}
 
 abbrev stayed : Stays f.ended.signature.params f.ended.kept
 stayed = (stay_dropped _ yes, tt)

@@ -1,6 +1,6 @@
 -- How the contract of `scan` follows: the whole frames so far are counted, each has some bytes, so their number fits.
 use Rattle.std.proofs.Common.{arith}
-use Rattle.ffi_member.proofs.Framing.{scanned_least, scanned_more}
+use Rattle.ffi_member.proofs.Frames.{scanned_least, scanned_more}
 use Rattle.ffi_member.proofs.journal.scan.Goals as goal
 
 pub overflow_add-entries : goal.overflow_add-entries

@@ -1,7 +1,7 @@
 -- How the contract of `write_entries` follows: one entry more is one frame more, and fits it.
 use Rattle.std.proofs.Common.{◌≡◌, ◌<◌, length, get_or, arith}
 use Rattle.std.proofs.lemmas.Grind.{common_steps}
-use Rattle.ffi_member.proofs.Framing.{fit_more, framed_more}
+use Rattle.ffi_member.proofs.Frames.{fit_more, framed_more}
 use Rattle.ffi_member.proofs.journal.write_entries.Goals as goal
 
 pub loop-entry-preserved : goal.loop-entry-preserved

@@ -1,5 +1,5 @@
 -- of all matters a timeout's alone lets a view be nullified, and replies alone give it
-use Rattle.laws_engine.proofs.Nullifying.{nullified_once_due}
+use Rattle.laws_engine.proofs.TimeoutCauses.{nullified_once_due}
 use Rattle.laws_engine.proofs.laws.nullifies_once_due.Goals as goal
 
 pub returns : goal.returns

@@ -1,5 +1,5 @@
 -- The loop of `write_line`: a front of the bytes that is written, and the rest that is left.
-use Rattle.simplex_program.proofs.Serving.{IsWritten}
+use Rattle.simplex_program.proofs.ServedLines.{IsWritten}
 use Rattle.simplex_program.proofs.line_writer.write_line.Given as goal
 
 abbrev pub invariant-loop-try : goal.invariant-loop-try

@@ -1,7 +1,7 @@
 -- That the effects are carried out, and no wanted view is left out by them.
 use Rattle.std.proofs.Common.{◌∙◌, ap, refl, sym, subst}
 use Rattle.engine_fetches.specs.OutstandingFetches.{after_effects, FetchesTheOutstanding, OpensNoOther}
-use Rattle.engine_fetches.proofs.Opening.{opens_after}
+use Rattle.engine_fetches.proofs.OpenedFetches.{opens_after}
 use Rattle.engine_fetches.proofs.Repairs.{is_repaired}
 use Rattle.engine_fetches.proofs.OutstandingFetches.{asks_after}
 use Rattle.engine_fetches.proofs.repair.Repair.certified.Goals as goal

@@ -3,7 +3,7 @@ use Rattle.std.proofs.Common.{◌≡◌, ◌≤◌, ◌∙◌, None, filter, ref
 use Rattle.std.specs.Prelude.{nat_le}
 use Rattle.engine_fetches.specs.Fetches.{due_at}
 use Rattle.engine_fetches.specs.OutstandingFetches.{is_missing, FetchesTheOutstanding, FetchesTheMissing}
-use Rattle.engine_fetches.proofs.Passing.{none_due}
+use Rattle.engine_fetches.proofs.Remainders.{none_due}
 use Rattle.engine_fetches.proofs.OutstandingFetches.{asks_lacking}
 use Rattle.engine_fetches.proofs.repair.Repair.drop_served.Goals as goal
 

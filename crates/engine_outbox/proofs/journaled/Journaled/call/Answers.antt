@@ -7,8 +7,8 @@ use Rattle.laws_safety.specs.ObservedTraces.{votes_in, taken_by}
 use Rattle.engine_outbox.specs.SubjectActions.{IsActionOn}
 use Rattle.engine_outbox.specs.Finalizations.{finals_by, raised_to, ReportsRising}
 use Rattle.engine_outbox.proofs.SubjectActions.{call_on}
-use Rattle.engine_outbox.proofs.Dropping.{refused_left, dropped_left}
-use Rattle.engine_outbox.proofs.Finalizing.{told_by_call, final_none}
+use Rattle.engine_outbox.proofs.IgnoredCalls.{refused_left, dropped_left}
+use Rattle.engine_outbox.proofs.FinalOutputs.{told_by_call, final_none}
 use Rattle.engine_outbox.proofs.Finalizations.{tells_none}
 use Rattle.engine_outbox.proofs.Torn.{call_grows}
 use Rattle.engine_outbox.proofs.TracedOutputs.{traced_call, reply_signed}

@@ -2,7 +2,7 @@
 use Rattle.std.proofs.Common.{◌≡◌, ◌∙◌, Result, Ok, Err, ap}
 use Rattle.std.specs.Prelude.{OnOk}
 use Rattle.simplex_member.specs.MemberFacts.{MemberFacts}
-use Rattle.simplex_member.specs.Pruning.{pruned_member}
+use Rattle.simplex_member.specs.PrunedRecord.{pruned_member}
 use Rattle.engine_outbox.proofs.Continuity.{goes_further}
 use Rattle.engine_outbox.proofs.journaled.Journaled.prune_record.Goals as goal
 

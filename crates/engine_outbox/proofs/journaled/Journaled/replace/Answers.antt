@@ -4,7 +4,7 @@ use Rattle.laws_safety.specs.LifetimeLaws.{WhileAlive}
 use Rattle.std.specs.Prelude.{IfSome}
 use Rattle.simplex_member.specs.Journal.{stored_of}
 use Rattle.simplex_member.specs.MemberFacts.{MemberFacts}
-use Rattle.simplex_member.specs.Pruning.{pruned_member, stays_within}
+use Rattle.simplex_member.specs.PrunedRecord.{pruned_member, stays_within}
 use Rattle.simplex_record.specs.Entries.{entries_of, entry_view}
 use Rattle.engine_outbox.proofs.HostStops.{signed_left}
 use Rattle.engine_outbox.specs.HostStops.{WereSigned, votes_recorded}
@@ -17,7 +17,7 @@ use Rattle.engine_outbox.proofs.Continuity.{risen_not}
 use Rattle.engine_outbox.specs.RecordReach.{lowest_of}
 use Rattle.engine_outbox.proofs.Kept.{Keeps, replaced, replaced_tells, still_leaving, ended, counted}
 use Rattle.engine_outbox.proofs.RecordReach.{reaches_whole}
-use Rattle.engine_outbox.proofs.Working.{replaced_no_work, stayed_no_work}
+use Rattle.engine_outbox.proofs.QueuedOutputs.{replaced_no_work, stayed_no_work}
 use Rattle.engine_outbox.proofs.Signatures.{pruned_replaced, pruned_signed, signed_stayed}
 use Rattle.engine_outbox.specs.Signatures.{SignsBy}
 use Rattle.engine_outbox.proofs.journaled.Journaled.replace.Goals as goal

@@ -7,7 +7,7 @@ use Rattle.engine_outbox.specs.Journals.{journal_of}
 use Rattle.engine_outbox.specs.RecordReach.{lowest_of}
 use Rattle.engine_outbox.proofs.Journals.{is_record}
 use Rattle.engine_outbox.proofs.RecordReach.{reaches_all}
-use Rattle.engine_outbox.proofs.Working.{stayed_no_work, stored_no_work}
+use Rattle.engine_outbox.proofs.QueuedOutputs.{stayed_no_work, stored_no_work}
 use Rattle.engine_outbox.proofs.Signatures.{same_stored, same_stayed}
 use Rattle.engine_outbox.proofs.journaled.Journaled.store.Goals as goal
 

@@ -4,7 +4,7 @@ use Rattle.engine_outbox.proofs.Finalizations.{stayed_tells}
 use Rattle.engine_outbox.proofs.TracedOutputs.{traced_stayed}
 use Rattle.engine_outbox.proofs.Continuity.{goes_further}
 use Rattle.engine_outbox.proofs.Kept.{does_no_more, kept_as_it_was}
-use Rattle.engine_outbox.proofs.Working.{stayed_no_work}
+use Rattle.engine_outbox.proofs.QueuedOutputs.{stayed_no_work}
 use Rattle.engine_outbox.proofs.Signatures.{same_stayed}
 use Rattle.engine_outbox.proofs.journaled.Journaled.submit.Goals as goal
 

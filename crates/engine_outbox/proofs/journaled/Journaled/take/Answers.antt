@@ -13,14 +13,14 @@ use Rattle.engine_outbox.specs.SubjectActions.{IsActionOn, final_by}
 use Rattle.engine_outbox.specs.Finalizations.{finals_by, ReportsRising}
 use Rattle.engine_outbox.specs.Outboxes.{IsTold}
 use Rattle.engine_outbox.proofs.SubjectActions.{call_on}
-use Rattle.engine_outbox.proofs.Dropping.{refused_left}
-use Rattle.engine_outbox.proofs.Finalizing.{told_by_call, final_events}
+use Rattle.engine_outbox.proofs.IgnoredCalls.{refused_left}
+use Rattle.engine_outbox.proofs.FinalOutputs.{told_by_call, final_events}
 use Rattle.engine_outbox.proofs.Finalizations.{told_tells}
 use Rattle.engine_outbox.proofs.Torn.{call_grows}
 use Rattle.engine_outbox.proofs.TracedOutputs.{traced_call, reply_signed}
 use Rattle.engine_outbox.proofs.Continuity.{call_risen}
 use Rattle.engine_outbox.proofs.Kept.{called}
-use Rattle.engine_outbox.proofs.Working.{told_no_work}
+use Rattle.engine_outbox.proofs.QueuedOutputs.{told_no_work}
 use Rattle.engine_outbox.proofs.Signatures.{called_signed, call_signs, call_signed}
 use Rattle.engine_outbox.proofs.journaled.Journaled.take.Goals as goal
 

@@ -1,5 +1,5 @@
 use Rattle.std.proofs.Common.{◌<◌, length, arith}
-use Rattle.engine_outbox.proofs.Copying.{copies_more}
+use Rattle.engine_outbox.proofs.CopiedEntries.{copies_more}
 use Rattle.engine_outbox.proofs.outbox.votes.copies.Goals as goal
 
 pub loop-entry-preserved : goal.loop-entry-preserved

@@ -1,5 +1,5 @@
 use Rattle.std.proofs.Common.{◌<◌, length, arith}
-use Rattle.engine_outbox.proofs.Copying.{newest_step}
+use Rattle.engine_outbox.proofs.CopiedEntries.{newest_step}
 use Rattle.engine_outbox.proofs.outbox.votes.newest_nullify.Goals as goal
 
 pub loop-entry-preserved : goal.loop-entry-preserved

@@ -1,5 +1,5 @@
 use Rattle.std.proofs.Common.{◌<◌, ◌≤◌, length, arith}
-use Rattle.engine_outbox.proofs.Copying.{votes_step, votes_end}
+use Rattle.engine_outbox.proofs.CopiedEntries.{votes_step, votes_end}
 use Rattle.engine_outbox.proofs.outbox.votes.votes_of.Goals as goal
 
 pub loop-entry-preserved : goal.loop-entry-preserved

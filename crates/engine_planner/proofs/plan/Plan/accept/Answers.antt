@@ -3,7 +3,7 @@ use Rattle.std.proofs.Common.{◌∙◌, ap, sym, subst}
 use Rattle.std.specs.Prelude.{◌==◌}
 use Rattle.engine_planner.specs.Consequences.{IsTakenInAbove}
 use Rattle.engine_planner.specs.PlanStates.{HasPlanned, touching, watching}
-use Rattle.engine_planner.proofs.Accepting.{taken_in}
+use Rattle.engine_planner.proofs.AcceptedCertificates.{taken_in}
 use Rattle.engine_planner.proofs.plan.Plan.accept.Goals as goal
 
 pub returns : goal.returns

@@ -1,6 +1,6 @@
 -- What is left was stored, and is not of a view below.
 use Rattle.engine_votes.proofs.Given.{forgotten_given}
-use Rattle.engine_votes.proofs.Forgetting.{forgotten_other, forgotten_from}
+use Rattle.engine_votes.proofs.KeptVotes.{forgotten_other, forgotten_from}
 use Rattle.engine_votes.proofs.batcher.Batcher.forget.Goals as goal
 
 pub returns-clause-given : goal.returns-clause-given

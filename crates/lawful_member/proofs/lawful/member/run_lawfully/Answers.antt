@@ -3,7 +3,7 @@ use Rattle.std.proofs.Common.{subst}
 use Rattle.laws_safety.specs.MemberHistory.{execution_of}
 use Rattle.laws_safety.specs.Lawful.{IsLawful}
 use Rattle.laws_safety.proofs.agreement.Exactly.{run_exact}
-use Rattle.laws_safety.proofs.executions.Living.{if_ok_on}
+use Rattle.laws_safety.proofs.executions.ExecutionSteps.{if_ok_on}
 use Rattle.laws_safety.proofs.records.RunsLawful.{execution_lawful}
 use Rattle.laws_safety.proofs.executions.Shown.{execution_shown, lives_as}
 use Rattle.lawful_member.proofs.lawful.member.run_lawfully.Goals as goal

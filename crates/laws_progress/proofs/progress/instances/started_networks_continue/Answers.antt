@@ -1,7 +1,7 @@
 -- the networks are computed
 use Rattle.std.proofs.Common.{refl}
 use Rattle.laws_progress.proofs.instances.FreshNetwork as first
-use Rattle.laws_progress.proofs.instances.WaitingNetwork as second
+use Rattle.laws_progress.proofs.instances.AbandonedFirstView as second
 use Rattle.laws_progress.proofs.progress.instances.started_networks_continue.Goals as goal
 
 pub returns-clause-first : goal.returns-clause-first

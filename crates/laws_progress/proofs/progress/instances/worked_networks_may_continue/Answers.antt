@@ -2,7 +2,7 @@
 use Rattle.laws_progress.proofs.instances.DividedNetwork.{divided_may_go_on, divided_reaches}
 use Rattle.laws_progress.proofs.instances.InTurn.{divided_in_turn}
 use Rattle.laws_progress.proofs.instances.HandoffNetwork.{taken_over_may_go_on, taken_over_reaches}
-use Rattle.laws_progress.proofs.instances.LackingNetwork.{lacking_may_go_on, lacking_reaches}
+use Rattle.laws_progress.proofs.instances.MissingNetwork.{lacking_may_go_on, lacking_reaches}
 use Rattle.laws_progress.proofs.progress.instances.worked_networks_may_continue.Goals as goal
 
 pub returns-clause-divided : goal.returns-clause-divided

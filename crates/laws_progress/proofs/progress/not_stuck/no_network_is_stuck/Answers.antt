@@ -1,5 +1,5 @@
 -- they meet, and members in one view can finalize
-use Rattle.laws_progress.proofs.networks.Going.{no_network_is_stuck}
+use Rattle.laws_progress.proofs.networks.Continuations.{no_network_is_stuck}
 use Rattle.laws_progress.proofs.networks.Met.{networks_meet}
 use Rattle.laws_progress.proofs.progress.not_stuck.no_network_is_stuck.Goals as goal
 

@@ -1,6 +1,6 @@
 -- by the calls of each member, and since the honest ones alone make each certificate
 use Rattle.laws_progress.proofs.networks.FreshStarts.{fresh_starts_are_finalized}
-use Rattle.laws_progress.proofs.networks.Meeting.{who_meets_goes_on}
+use Rattle.laws_progress.proofs.networks.CommonViews.{who_meets_goes_on}
 use Rattle.laws_progress.proofs.networks.Passed.{together_they_go_on}
 use Rattle.laws_progress.proofs.progress.starts.fresh_starts_are_finalized.Goals as goal
 

@@ -1,6 +1,6 @@
 -- How the contract of `gaps_are_closed` follows: the network of four and its continuation are computed.
 use Rattle.std.proofs.Common.{refl}
-use Rattle.laws_safety.proofs.networks.LackingNetwork.{lacking_network, lacking_goes_on, none_skipped, none_notarized}
+use Rattle.laws_safety.proofs.networks.MissingNetwork.{lacking_network, lacking_goes_on, none_skipped, none_notarized}
 use Rattle.laws_safety.proofs.laws.continuations.gaps_are_closed.Goals as goal
 
 pub returns-clause-network : goal.returns-clause-network

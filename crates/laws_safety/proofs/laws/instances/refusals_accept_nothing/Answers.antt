@@ -1,6 +1,6 @@
 -- How the contract of `refusals_accept_nothing` follows: the run of refused calls is computed.
 use Rattle.std.proofs.Common.{refl}
-use Rattle.laws_safety.proofs.networks.ChangingLives.{refusing_ran, refusing_network}
+use Rattle.laws_safety.proofs.networks.DifferentLives.{refusing_ran, refusing_network}
 use Rattle.laws_safety.proofs.laws.instances.refusals_accept_nothing.Goals as goal
 
 pub returns-clause-ran : goal.returns-clause-ran

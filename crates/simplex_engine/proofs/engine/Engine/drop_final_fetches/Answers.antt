@@ -8,7 +8,7 @@ use Rattle.std.specs.Option.{option_map_or}
 use Rattle.std.specs.Prelude.{nat_le, OnOk}
 use Rattle.engine_fetches.specs.OutstandingFetches.{holds}
 use Rattle.engine_planner.specs.FetchRequests.{KeepsFetching}
-use Rattle.engine_planner.proofs.StillAsking.{lets_go_asks}
+use Rattle.engine_planner.proofs.AskedSteps.{lets_go_asks}
 use Rattle.simplex_engine.proofs.engine.Engine.drop_final_fetches.Goals as goal
 
 pub returns-in-Some-clause-planned : goal.returns-in-Some-clause-planned

@@ -6,8 +6,8 @@ use Rattle.engine_planner.proofs.PlannedWork.{among_both, among_further, among_s
 use Rattle.engine_planner.proofs.Consequences.{followed_plans}
 use Rattle.simplex_engine.proofs.BuildBounds.{come_same}
 use Rattle.engine_planner.specs.Tasks.{call_of}
-use Rattle.engine_planner.proofs.Giving.{followed_by}
-use Rattle.engine_planner.proofs.StillAsking.{asks_over, asks_then, followed_asks}
+use Rattle.engine_planner.proofs.GivenWork.{followed_by}
+use Rattle.engine_planner.proofs.AskedSteps.{asks_over, asks_then, followed_asks}
 use Rattle.simplex_engine.specs.Provenance.{is_final}
 use Rattle.simplex_engine.proofs.engine.Engine.follow.Goals as goal
 

@@ -4,10 +4,10 @@ use Rattle.engine_planner.proofs.Consequences.{certificate_followed}
 use Rattle.std.proofs.Common.{refl}
 use Rattle.simplex_engine.proofs.CertificateVotes.{takes_same}
 use Rattle.simplex_engine.proofs.BuildBounds.{come_same}
-use Rattle.engine_planner.proofs.Giving.{certificate_on}
+use Rattle.engine_planner.proofs.GivenWork.{certificate_on}
 use Rattle.simplex_engine.proofs.Provenance.{fails}
 use Rattle.simplex_engine.proofs.ReplyWork.{planned_ahead, planned_certificate}
-use Rattle.engine_planner.proofs.StillAsking.{asks_over, asks_then, certificate_asks}
+use Rattle.engine_planner.proofs.AskedSteps.{asks_over, asks_then, certificate_asks}
 use Rattle.simplex_engine.specs.Provenance.{is_final}
 use Rattle.simplex_engine.proofs.engine.Engine.follow_certificate.Goals as goal
 

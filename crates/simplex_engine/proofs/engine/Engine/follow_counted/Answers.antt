@@ -7,7 +7,7 @@ use Rattle.engine_planner.specs.Causes.{WorkItem}
 use Rattle.engine_planner.proofs.Causes.{among_last, planned_more}
 use Rattle.simplex_engine.specs.Provenance.{pending_causes, is_final, of_counted, IsCausedWith}
 use Rattle.simplex_engine.proofs.Provenance.{comes_same, comes_still, counted_lacks_none, hand_with}
-use Rattle.engine_planner.proofs.StillAsking.{asks_behind, asks_beside}
+use Rattle.engine_planner.proofs.AskedSteps.{asks_behind, asks_beside}
 use Rattle.simplex_engine.proofs.engine.Engine.follow_counted.Goals as goal
 
 pub returns-in-Equivocated-clause-due_work : goal.returns-in-Equivocated-clause-due_work

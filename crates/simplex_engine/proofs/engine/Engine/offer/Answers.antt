@@ -18,7 +18,7 @@ use Rattle.engine_planner.proofs.PlanStates.{on_ok}
 use Rattle.simplex_engine.specs.Provenance.{pending_causes, is_final}
 use Rattle.simplex_engine.proofs.Provenance.{comes_same, hand_with, kept_early}
 use Rattle.engine_planner.specs.FetchRequests.{asks}
-use Rattle.engine_planner.proofs.StillAsking.{asks_beside, keeps_asking}
+use Rattle.engine_planner.proofs.AskedSteps.{asks_beside, keeps_asking}
 use Rattle.simplex_engine.proofs.engine.Engine.offer.Goals as goal
 
 pub returns-then-admits_proposal : goal.returns-then-admits_proposal

@@ -6,7 +6,7 @@ use Rattle.engine_planner.specs.PlanStates.{watching}
 use Rattle.engine_planner.proofs.Causes.{planned_alone}
 use Rattle.simplex_engine.proofs.Provenance.{fails}
 use Rattle.engine_planner.specs.FetchRequests.{never}
-use Rattle.engine_planner.proofs.StillAsking.{as_watched, asks_behind, asks_where_same}
+use Rattle.engine_planner.proofs.AskedSteps.{as_watched, asks_behind, asks_where_same}
 use Rattle.simplex_engine.proofs.engine.Engine.plan_due_votes.Goals as goal
 
 pub returns-in_ok-touch-in-Some-clause-planned : goal.returns-in_ok-touch-in-Some-clause-planned

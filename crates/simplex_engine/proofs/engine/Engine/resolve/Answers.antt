@@ -2,7 +2,7 @@
 use Rattle.std.proofs.Common.{Ok}
 use Rattle.engine_planner.proofs.PlannedWork.{plans_opened}
 use Rattle.simplex_engine.proofs.Provenance.{fails, resolved}
-use Rattle.engine_planner.proofs.StillAsking.{resolves_asks}
+use Rattle.engine_planner.proofs.AskedSteps.{resolves_asks}
 use Rattle.simplex_engine.proofs.engine.Engine.resolve.Goals as goal
 
 pub returns-clause-planned : goal.returns-clause-planned

@@ -12,7 +12,7 @@ use Rattle.simplex_engine.proofs.OwnSteps.{alone_further, alone_with}
 use Rattle.simplex_engine.proofs.Tells.{tells_further, tells_planned}
 use Rattle.engine_outbox.specs.Outputs.{work_in}
 use Rattle.simplex_engine.proofs.Provenance.{comes_on, comes_same, hand_alone, risen_facts}
-use Rattle.engine_planner.proofs.StillAsking.{asks_over}
+use Rattle.engine_planner.proofs.AskedSteps.{asks_over}
 use Rattle.simplex_engine.proofs.ReplyWork.{on_ok_all}
 use Rattle.simplex_engine.proofs.engine.Engine.run_and_ask.Goals as goal
 

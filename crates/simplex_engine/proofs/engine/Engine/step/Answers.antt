@@ -7,10 +7,10 @@ use Rattle.engine_planner.proofs.StepSelection.{taken_keeps}
 use Rattle.engine_outbox.proofs.Continuity.{stays}
 use Rattle.simplex_engine.proofs.Tells.{tells_planned, tells_taken}
 use Rattle.engine_planner.specs.Causes.{of_steps, planned_causes}
-use Rattle.engine_planner.proofs.Giving.{taken_alone}
+use Rattle.engine_planner.proofs.GivenWork.{taken_alone}
 use Rattle.engine_planner.proofs.PlanStates.{on_ok}
 use Rattle.simplex_engine.proofs.Provenance.{asks_none, comes_same, comes_taken, hand_alone, taken_hand}
-use Rattle.engine_planner.proofs.StillAsking.{taken_asks, AsksOn}
+use Rattle.engine_planner.proofs.AskedSteps.{taken_asks, AsksOn}
 use Rattle.simplex_engine.proofs.engine.Engine.step.Goals as goal
 
 pub returns-in_err-step-clause-alone : goal.returns-in_err-step-clause-alone

@@ -13,7 +13,7 @@ use Rattle.engine_planner.specs.Causes.{MissingCertificate, of_step}
 use Rattle.simplex_engine.specs.Provenance.{IsCausedWith}
 use Rattle.simplex_engine.specs.Steps.{IsStepTaken}
 use Rattle.simplex_engine.proofs.Provenance.{comes_same, hand_with}
-use Rattle.engine_planner.proofs.StillAsking.{asks_over}
+use Rattle.engine_planner.proofs.AskedSteps.{asks_over}
 use Rattle.simplex_engine.proofs.engine.Engine.take_step.Goals as goal
 
 pub returns-in-Ask : goal.returns-in-Ask

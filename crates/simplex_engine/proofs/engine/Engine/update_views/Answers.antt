@@ -2,10 +2,10 @@
 use Rattle.std.proofs.Common.{◌≡◌, ◌∙◌, ap, refl, subst, [], true}
 use Rattle.std.specs.Prelude.{IfSome, nat_le}
 use Rattle.engine_planner.proofs.ViewChanges.{seen_keeps, seen_views}
-use Rattle.engine_planner.proofs.Giving.{seen_alone}
+use Rattle.engine_planner.proofs.GivenWork.{seen_alone}
 use Rattle.std.specs.Option.{option_map_or}
 use Rattle.engine_planner.specs.FetchRequests.{KeepsFetching}
-use Rattle.engine_planner.proofs.StillAsking.{seen_asks}
+use Rattle.engine_planner.proofs.AskedSteps.{seen_asks}
 use Rattle.simplex_engine.proofs.engine.Engine.update_views.Goals as goal
 
 pub returns-in_default : goal.returns-in_default

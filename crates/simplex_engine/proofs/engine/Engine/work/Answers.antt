@@ -8,7 +8,7 @@ use Rattle.engine_planner.proofs.PlanStates.{on_ok, on_ok_both}
 use Rattle.engine_planner.specs.Causes.{planned_causes}
 use Rattle.simplex_engine.proofs.Provenance.{comes_later, comes_same, forgets_no_lack, hand_alone}
 use Rattle.engine_planner.specs.FetchRequests.{asks}
-use Rattle.engine_planner.proofs.StillAsking.{keeps_asking}
+use Rattle.engine_planner.proofs.AskedSteps.{keeps_asking}
 use Rattle.simplex_engine.specs.Provenance.{is_final}
 use Rattle.simplex_engine.proofs.engine.Engine.work.Goals as goal
 

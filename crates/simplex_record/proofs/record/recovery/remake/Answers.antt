@@ -6,8 +6,8 @@ use Rattle.simplex_record.specs.Entries.{entries_of}
 use Rattle.simplex_record.specs.Recovery.{after_entries}
 use Rattle.simplex_record.specs.Start.{set_up}
 use Rattle.simplex_record.proofs.UnchangedSettings.{floor_goes}
-use Rattle.simplex_record.proofs.Allowing.{new_bears}
-use Rattle.simplex_record.proofs.Remaking.{broken_due, none_broken, refused_alike, accepted_in_time, set_in_time, recovered_goes_on, recovered_is, set_takes}
+use Rattle.simplex_record.proofs.AllowedRecords.{new_bears}
+use Rattle.simplex_record.proofs.Recoveries.{broken_due, none_broken, refused_alike, accepted_in_time, set_in_time, recovered_goes_on, recovered_is, set_takes}
 use Rattle.simplex_record.proofs.record.recovery.remake.Goals as goal
 
 pub returns-in_err-check_record-clause-refused : goal.returns-in_err-check_record-clause-refused

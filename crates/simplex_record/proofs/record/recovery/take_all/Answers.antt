@@ -1,6 +1,6 @@
 -- How the contract of `take_all` follows: the entries that are left lead from the state of now to the one of all.
 use Rattle.std.proofs.Common.{drop, ◌+◌}
-use Rattle.simplex_record.proofs.Taking.{taking_next, taking_at}
+use Rattle.simplex_record.proofs.EntrySuffixes.{taking_next, taking_at}
 use Rattle.simplex_record.proofs.record.recovery.take_all.Goals as goal
 
 pub loop-artifact-preserved : goal.loop-artifact-preserved

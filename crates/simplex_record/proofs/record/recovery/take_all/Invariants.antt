@@ -1,6 +1,6 @@
 -- The loop of `take_all`: the remaining entries lead to the whole.
 use Rattle.std.proofs.Common.{drop}
-use Rattle.simplex_record.proofs.Taking.{Taking}
+use Rattle.simplex_record.proofs.EntrySuffixes.{Taking}
 use Rattle.simplex_record.proofs.record.recovery.take_all.Given as goal
 
 abbrev pub invariant-loop-artifact : goal.invariant-loop-artifact

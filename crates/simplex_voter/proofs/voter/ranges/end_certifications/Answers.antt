@@ -4,7 +4,7 @@ use Rattle.std.specs.FinMap as map
 use Rattle.simplex_view_maps.proofs.Gaps.{gt_no, gt_yes}
 use Rattle.simplex_voter.specs.Certification.{without_token}
 use Rattle.simplex_voter.proofs.Walked.{at_first, at_none, walked_on, walked_step, walked_entries}
-use Rattle.simplex_voter.proofs.Raising.{ends_begin}
+use Rattle.simplex_voter.proofs.RaisedFinal.{ends_begin}
 use Rattle.simplex_voter.proofs.voter.ranges.end_certifications.Goals as goal
 
 pub loop-entry-init : goal.loop-entry-init

@@ -4,7 +4,7 @@ use Rattle.simplex_member.specs.Calls.{told, asked}
 use Rattle.simplex_member.specs.Runs.{Calls}
 use Rattle.laws_safety.specs.ObservedTraces.{votes_in, taken_by}
 use Rattle.laws_safety.proofs.agreement.Exactly.{step_exact}
-use Rattle.laws_safety.proofs.executions.Living.{call_done}
+use Rattle.laws_safety.proofs.executions.ExecutionSteps.{call_done}
 use Rattle.laws_safety.proofs.executions.Shown.{made_shown}
 use Rattle.lawful_member.proofs.Stored.{stored_stays}
 use Rattle.lawful_member.proofs.lawful.member.LawfulMember.call.Goals as goal

@@ -1,5 +1,5 @@
 -- How the contract of `keeps_the_laws` follows: what the member has done is a run, and runs are lawful.
-use Rattle.laws_safety.proofs.executions.Living.{done_lawful, done_ran}
+use Rattle.laws_safety.proofs.executions.ExecutionSteps.{done_lawful, done_ran}
 use Rattle.laws_safety.proofs.own_records.OwnEntries.{done_entries_once}
 use Rattle.lawful_member.proofs.lawful.member.LawfulMember.keeps_the_laws.Goals as goal
 

@@ -1,5 +1,5 @@
 -- what a member has done stays after its record is pruned
-use Rattle.laws_safety.proofs.executions.Living.{prune_done}
+use Rattle.laws_safety.proofs.executions.ExecutionSteps.{prune_done}
 use Rattle.lawful_member.proofs.lawful.member.LawfulMember.prune_record.Goals as goal
 
 pub returns-clause-pruned : goal.returns-clause-pruned

@@ -1,7 +1,7 @@
 -- from what `Member::restart` ensures
 use Rattle.simplex_member.specs.Restarts.{restart_facts}
 use Rattle.laws_safety.specs.ObservedTraces.{begun_by}
-use Rattle.laws_safety.proofs.executions.Living.{restart_done}
+use Rattle.laws_safety.proofs.executions.ExecutionSteps.{restart_done}
 use Rattle.laws_safety.proofs.executions.Shown.{begins_as, restart_shown}
 use Rattle.lawful_member.proofs.lawful.member.LawfulMember.restart.Goals as goal
 

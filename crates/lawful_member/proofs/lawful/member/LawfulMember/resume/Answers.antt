@@ -5,7 +5,7 @@ use Rattle.simplex_member.specs.Journal.{whole_restart}
 use Rattle.simplex_record.specs.Start.{start_facts}
 use Rattle.simplex_member.specs.declared.member.restart.Restart.{Restart}
 use Rattle.laws_safety.specs.ObservedTraces.{floor_in}
-use Rattle.laws_safety.proofs.executions.Living.{restart_done}
+use Rattle.laws_safety.proofs.executions.ExecutionSteps.{restart_done}
 use Rattle.laws_safety.proofs.records.Resumes.{resumed_restart}
 use Rattle.laws_safety.proofs.executions.Shown.{begins_as, restart_shown}
 use Rattle.lawful_member.proofs.lawful.member.LawfulMember.resume.Goals as goal

@@ -1,7 +1,7 @@
 -- from what `Member::start` ensures
 use Rattle.simplex_record.specs.Start.{start_facts}
 use Rattle.laws_safety.specs.ObservedTraces.{floor_in}
-use Rattle.laws_safety.proofs.executions.Living.{start_done}
+use Rattle.laws_safety.proofs.executions.ExecutionSteps.{start_done}
 use Rattle.laws_safety.proofs.executions.Shown.{begins_as, start_shown}
 use Rattle.lawful_member.proofs.lawful.member.LawfulMember.start.Goals as goal
 

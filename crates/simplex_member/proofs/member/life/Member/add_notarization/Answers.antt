@@ -6,7 +6,7 @@ use Rattle.simplex_voter.specs.Refusals.{names_too_large}
 use Rattle.simplex_record.specs.Entries.{entries_of}
 use Rattle.simplex_member.specs.Calls.{Added, AddNotarization}
 use Rattle.simplex_member.specs.MemberFacts.{MemberFacts, living, open_while}
-use Rattle.simplex_member.proofs.Answering.{wanting_call}
+use Rattle.simplex_member.proofs.CallResults.{wanting_call}
 use Rattle.simplex_member.proofs.PartialFailures.{part_goes_on, part_of_state, part_made, ended_so, new_recorded, state_ends, told_answered, told_kept}
 use Rattle.simplex_member.proofs.member.life.Member.add_notarization.Goals as goal
 

@@ -7,7 +7,7 @@ use Rattle.simplex_types.specs.Terms.{next_term_start}
 use Rattle.simplex_record.specs.Entries.{entries_of}
 use Rattle.simplex_member.specs.Calls.{AddedNullification, AddNullification}
 use Rattle.simplex_member.specs.MemberFacts.{MemberFacts, living, open_while}
-use Rattle.simplex_member.proofs.Answering.{wanting_call}
+use Rattle.simplex_member.proofs.CallResults.{wanting_call}
 use Rattle.simplex_member.proofs.PartialFailures.{part_goes_on, part_of_state, part_made, ended_so, new_recorded, state_ends, told_answered, told_kept}
 use Rattle.simplex_member.proofs.member.life.Member.add_nullification.Goals as goal
 

@@ -5,7 +5,7 @@ use Rattle.simplex_types.specs.Certificates.{notarization_facts}
 use Rattle.simplex_record.specs.Entries.{entries_of}
 use Rattle.simplex_member.specs.Calls.{Certified, Judged}
 use Rattle.simplex_member.specs.MemberFacts.{MemberFacts, living, open_while}
-use Rattle.simplex_member.proofs.Answering.{wanting_call}
+use Rattle.simplex_member.proofs.CallResults.{wanting_call}
 use Rattle.simplex_member.proofs.PartialFailures.{part_goes_on, part_made, ended_so, told_answered, told_kept}
 use Rattle.simplex_member.proofs.member.life.Member.certified.Goals as goal
 

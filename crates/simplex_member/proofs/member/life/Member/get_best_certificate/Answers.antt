@@ -3,7 +3,7 @@ use Rattle.std.proofs.Common.{ap, false, refl, sym}
 use Rattle.simplex_record.specs.Entries.{entries_of}
 use Rattle.simplex_member.specs.Calls.{GetBestCertificate, Returned}
 use Rattle.simplex_member.specs.MemberFacts.{MemberFacts, living, open_while}
-use Rattle.simplex_member.proofs.Answering.{answered_unrecorded}
+use Rattle.simplex_member.proofs.CallResults.{answered_unrecorded}
 use Rattle.simplex_member.proofs.member.life.Member.get_best_certificate.Goals as goal
 
 pub returns-clause-answered : goal.returns-clause-answered

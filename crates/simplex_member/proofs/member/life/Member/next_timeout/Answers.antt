@@ -3,7 +3,7 @@ use Rattle.std.proofs.Common.{false, refl, sym, ap, ◌∙◌, Some}
 use Rattle.simplex_record.specs.Entries.{entries_of}
 use Rattle.simplex_member.specs.Calls.{NextTimeout, TimesOut}
 use Rattle.simplex_member.specs.MemberFacts.{MemberFacts, living, open_while}
-use Rattle.simplex_member.proofs.Answering.{call_goes_on, call_of_answer, answered_unrecorded, refused_call, refused_only, answered_only}
+use Rattle.simplex_member.proofs.CallResults.{call_goes_on, call_of_answer, answered_unrecorded, refused_call, refused_only, answered_only}
 use Rattle.simplex_member.proofs.PartialFailures.{told_answered, told_kept}
 use Rattle.simplex_member.proofs.member.life.Member.next_timeout.Goals.{in-Ok, in-Err}
 use Rattle.simplex_member.proofs.member.life.Member.next_timeout.Goals as goal

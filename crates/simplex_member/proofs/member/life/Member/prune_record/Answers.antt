@@ -3,7 +3,7 @@ use Rattle.std.proofs.Common.{sym, ◌∙◌}
 use Rattle.simplex_record.specs.Entries.{entries_of}
 use Rattle.simplex_record.proofs.Cuts.{length_entries}
 use Rattle.simplex_member.specs.MemberFacts.{MemberFacts, living, open_while}
-use Rattle.simplex_member.proofs.Pruning.{closed_so}
+use Rattle.simplex_member.proofs.PrunedRecord.{closed_so}
 use Rattle.simplex_member.proofs.member.life.Member.prune_record.Goals as goal
 
 pub returns-clause-pruned : goal.returns-clause-pruned

@@ -3,7 +3,7 @@ use Rattle.std.proofs.Common.{ap, false, refl, sym}
 use Rattle.simplex_record.specs.Entries.{entries_of}
 use Rattle.simplex_member.specs.Calls.{TryVerify, Standing}
 use Rattle.simplex_member.specs.MemberFacts.{MemberFacts, living, open_while}
-use Rattle.simplex_member.proofs.Answering.{call_goes_on, answered_unrecorded, call_of_answer}
+use Rattle.simplex_member.proofs.CallResults.{call_goes_on, answered_unrecorded, call_of_answer}
 use Rattle.simplex_member.proofs.member.life.Member.try_verify.Goals as goal
 
 pub invariant_of-self-2 : goal.invariant_of-self-2

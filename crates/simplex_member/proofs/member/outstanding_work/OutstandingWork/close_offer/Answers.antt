@@ -1,6 +1,6 @@
 -- How the contract of `close_offer` follows: the offers that are left are those of other views.
 use Rattle.std.proofs.Common.{refl}
-use Rattle.simplex_member.proofs.Opening.{keys-others}
+use Rattle.simplex_member.proofs.OpenRequests.{keys-others}
 use Rattle.simplex_member.proofs.member.outstanding_work.OutstandingWork.close_offer.Goals as goal
 
 pub returns-clause-closed : goal.returns-clause-closed

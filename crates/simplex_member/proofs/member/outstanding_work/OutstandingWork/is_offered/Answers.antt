@@ -1,7 +1,7 @@
 -- How the contract of `is_offered` follows: a look-up finds a view exactly if it is among the offers.
 use Rattle.std.proofs.Common.{sym, ap, ◌∙◌, is_some}
 use Rattle.simplex_voter.proofs.RoundsKept.{copied_some}
-use Rattle.simplex_member.proofs.Opening.{among-keys}
+use Rattle.simplex_member.proofs.OpenRequests.{among-keys}
 use Rattle.simplex_member.proofs.member.outstanding_work.OutstandingWork.is_offered.Goals as goal
 
 pub returns : goal.returns

@@ -1,7 +1,7 @@
 -- How the contract of `end_certifications` follows: no certification is under way below the bound, so the walk from there ends them all.
 use Rattle.std.proofs.Common.{refl}
 use Rattle.simplex_voter.proofs.Changed.{quiet_below}
-use Rattle.simplex_voter.proofs.Raising.{ended_kept}
+use Rattle.simplex_voter.proofs.RaisedFinal.{ended_kept}
 use Rattle.simplex_voter.proofs.voter.rounds.Rounds.end_certifications.Goals as goal
 
 pub invariant_of-self : goal.invariant_of-self

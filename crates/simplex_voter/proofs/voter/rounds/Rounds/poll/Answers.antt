@@ -4,7 +4,7 @@ use Rattle.std.specs.Prelude.{option_and_then}
 use Rattle.simplex_round.specs.Round.{with_retry, round_timeout}
 use Rattle.simplex_voter.proofs.Shown.{on_ok}
 use Rattle.simplex_voter.proofs.RoundChanges.{polled_alike}
-use Rattle.simplex_voter.proofs.Polling.{late_is, late_untracked, poll_refused}
+use Rattle.simplex_voter.proofs.FirstPoll.{late_is, late_untracked, poll_refused}
 use Rattle.simplex_voter.proofs.Changed.{found_at, lent, kept_changed, changed_there, untouched}
 use Rattle.simplex_voter.proofs.voter.rounds.Rounds.poll.Goals as goal
 

@@ -2,8 +2,8 @@
 use Rattle.std.proofs.Common.{ap, ◌∙◌}
 use Rattle.simplex_types.specs.Certificates.{finalization_facts}
 use Rattle.simplex_voter.specs.Leaders.{with_window_leaders}
-use Rattle.simplex_voter.proofs.Accepting.{finalization_stays_added, finalized_again, finalized_first}
-use Rattle.simplex_voter.proofs.Sliding.{same_setup_joins}
+use Rattle.simplex_voter.proofs.AcceptedProposals.{finalization_stays_added, finalized_again, finalized_first}
+use Rattle.simplex_voter.proofs.CarriedLeaders.{same_setup_joins}
 use Rattle.simplex_voter.proofs.voter.state.State.accept_finalization.Goals as goal
 
 pub returns-then-not-added-clause-added : goal.returns-then-not-added-clause-added

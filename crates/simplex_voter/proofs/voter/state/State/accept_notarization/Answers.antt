@@ -1,8 +1,8 @@
 -- How the contract of `accept_notarization` follows: a second notarization of a view adds nothing, a first one waits for certification.
 use Rattle.std.proofs.Common.{◌∙◌}
 use Rattle.simplex_types.specs.Certificates.{notarization_facts}
-use Rattle.simplex_voter.proofs.Accepting.{notarization_stays_added, notarized_again, notarized_first}
-use Rattle.simplex_voter.proofs.Sliding.{same_setup_joins}
+use Rattle.simplex_voter.proofs.AcceptedProposals.{notarization_stays_added, notarized_again, notarized_first}
+use Rattle.simplex_voter.proofs.CarriedLeaders.{same_setup_joins}
 use Rattle.simplex_voter.proofs.voter.state.State.accept_notarization.Goals as goal
 
 pub returns-then-not-added-clause-added : goal.returns-then-not-added-clause-added

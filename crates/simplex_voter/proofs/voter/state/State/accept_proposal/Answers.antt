@@ -4,7 +4,7 @@ use Rattle.simplex_voter.specs.Facts.{round_of}
 use Rattle.simplex_voter.specs.Verification.{is_new_proposal}
 use Rattle.simplex_voter.proofs.Kept.{if_ok}
 use Rattle.simplex_voter.proofs.Proposals.{round_of-prepared}
-use Rattle.simplex_voter.proofs.Sliding.{same_setup_joins}
+use Rattle.simplex_voter.proofs.CarriedLeaders.{same_setup_joins}
 use Rattle.simplex_voter.proofs.voter.state.State.accept_proposal.Goals as goal
 
 pub returns-clause-answer : goal.returns-clause-answer

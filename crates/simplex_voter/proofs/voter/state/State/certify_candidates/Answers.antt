@@ -1,7 +1,7 @@
 -- How the contract of `certify_candidates` follows: the views that wait are the candidates, and are forgotten once offered; running out of memory fails it.
 use Rattle.std.proofs.Common.{refl, ap, sym}
 use Rattle.simplex_voter.proofs.Faults.{failed_here}
-use Rattle.simplex_voter.proofs.Waiting.{candidates_shown, forgotten_shown}
+use Rattle.simplex_voter.proofs.UncertifiedViews.{candidates_shown, forgotten_shown}
 use Rattle.simplex_voter.proofs.voter.state.State.certify_candidates.Goals as goal
 
 pub returns-in-Ok-clause-answer : goal.returns-in-Ok-clause-answer

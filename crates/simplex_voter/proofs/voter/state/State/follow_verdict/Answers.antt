@@ -1,7 +1,7 @@
 -- How the contract of `follow_verdict` follows: a notarized view has a next one with deadlines; a true verdict enters it, a false one times the view out.
 use Rattle.simplex_types.specs.declared.reasons.TimeoutReason.TheVariants.{FailedCertification}
-use Rattle.simplex_voter.proofs.Judging.{next_enterable, next_countable, setup_judged, setup_triggered, deadlines_judged, verdict_refused, verdict_kept}
-use Rattle.simplex_voter.proofs.Sliding.{same_setup_joins}
+use Rattle.simplex_voter.proofs.VerdictEffects.{next_enterable, next_countable, setup_judged, setup_triggered, deadlines_judged, verdict_refused, verdict_kept}
+use Rattle.simplex_voter.proofs.CarriedLeaders.{same_setup_joins}
 use Rattle.simplex_voter.proofs.voter.state.State.follow_verdict.Goals as goal
 
 pub enter_view-requires-clause-in_range : goal.enter_view-requires-clause-in_range

@@ -4,7 +4,7 @@ use Rattle.std.specs.List.{filter_map}
 use Rattle.simplex_view_maps.proofs.Gaps.{lt_yes}
 use Rattle.simplex_voter.specs.ProposalRequests.{views_within, request_in}
 use Rattle.simplex_voter.proofs.Ahead.{near_given, start_given}
-use Rattle.simplex_voter.proofs.Building.{answer_given, request_ready}
+use Rattle.simplex_voter.proofs.BuildRequests.{answer_given, request_ready}
 use Rattle.simplex_voter.proofs.voter.state.State.next_request.Goals as goal
 
 pub views_within-requires : goal.views_within-requires

@@ -1,6 +1,6 @@
 -- How the contract of `next_timeout` follows: the moment is noted and the round polled, as the definition has them at once.
 use Rattle.simplex_voter.specs.Timeouts.{round_with_retry}
-use Rattle.simplex_voter.proofs.Polling.{noted_after}
+use Rattle.simplex_voter.proofs.FirstPoll.{noted_after}
 use Rattle.simplex_voter.proofs.voter.state.State.next_timeout.Goals as goal
 
 pub returns-clause-after : goal.returns-clause-after

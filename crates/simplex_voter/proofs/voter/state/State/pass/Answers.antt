@@ -1,6 +1,6 @@
 -- How the contract of `pass` follows: the moment and the raise leave the deadlines those of the set-up, so the next view is entered with them.
 use Rattle.std.proofs.Common.{Some}
-use Rattle.simplex_voter.proofs.Sliding.{same_setup_joins}
+use Rattle.simplex_voter.proofs.CarriedLeaders.{same_setup_joins}
 use Rattle.simplex_voter.proofs.ViewEntry.{setup_raised, deadlines_raised, passed}
 use Rattle.simplex_voter.proofs.voter.state.State.pass.Goals as goal
 

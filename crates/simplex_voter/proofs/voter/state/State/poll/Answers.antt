@@ -3,7 +3,7 @@ use Rattle.std.proofs.Common.{refl, ap, sym, ◌∙◌}
 use Rattle.simplex_voter.specs.Rounds.{has_round, find_round}
 use Rattle.simplex_voter.specs.Timeouts.{has_skip_budget}
 use Rattle.simplex_voter.proofs.Shown.{on_ok, on_err, by_rounds, where_true, kept_with_rounds}
-use Rattle.simplex_voter.proofs.Polling.{answered, answer_shown}
+use Rattle.simplex_voter.proofs.FirstPoll.{answered, answer_shown}
 use Rattle.simplex_voter.proofs.voter.state.State.poll.Goals as goal
 
 pub invariant_of-self : goal.invariant_of-self

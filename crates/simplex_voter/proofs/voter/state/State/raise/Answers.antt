@@ -1,7 +1,7 @@
 -- How the contract of `raise` follows: a view above the last finalized one becomes it, and ends what waits or is under way up to it.
 use Rattle.std.proofs.Common.{refl, ap, sym, length, ◌∙◌}
 use Rattle.simplex_voter.proofs.Shown.{not_le}
-use Rattle.simplex_voter.proofs.Raising.{raised_by}
+use Rattle.simplex_voter.proofs.RaisedFinal.{raised_by}
 use Rattle.simplex_voter.proofs.voter.state.State.raise.Goals as goal
 
 pub invariant_of-self : goal.invariant_of-self

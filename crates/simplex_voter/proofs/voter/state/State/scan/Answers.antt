@@ -1,6 +1,6 @@
 -- How the contract of `scan` follows: the views below the next one are passed without an answer, so the first answer is the scan's.
 use Rattle.std.proofs.Common.{is_some, ap, sym, subst, arith}
-use Rattle.simplex_voter.proofs.Scanning.{IsScanned, scan_starts, first_there, visited_on, visited_after, visited_answer, goes_onward, onward_within, ended_after, ended_answer}
+use Rattle.simplex_voter.proofs.VerifyScan.{IsScanned, scan_starts, first_there, visited_on, visited_after, visited_answer, goes_onward, onward_within, ended_after, ended_answer}
 use Rattle.simplex_voter.proofs.voter.state.State.scan.Goals as goal
 
 pub loop-view-init : goal.loop-view-init

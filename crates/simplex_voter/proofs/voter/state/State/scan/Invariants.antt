@@ -4,7 +4,7 @@ use Rattle.std.specs.Prelude.{min}
 use Rattle.std.specs.Ordering.{nat_cmp}
 use Rattle.std.specs.FinMap.Entries.{is_sorted}
 use Rattle.simplex_types.specs.Terms.{next_term_start}
-use Rattle.simplex_voter.proofs.Scanning.{IsScanned}
+use Rattle.simplex_voter.proofs.VerifyScan.{IsScanned}
 use Rattle.simplex_voter.proofs.voter.state.State.scan.Given as goal
 
 abbrev pub invariant-loop-view : goal.invariant-loop-view

@@ -1,6 +1,6 @@
 -- How the contract of `slide_optimistic_frontier` follows: each view takes the leader of the one before, and the rest leads on to the whole slide.
 use Rattle.std.proofs.Common.{◌∙◌, arith}
-use Rattle.simplex_voter.proofs.Sliding.{is_below, slid_next, same_setup_joins}
+use Rattle.simplex_voter.proofs.CarriedLeaders.{is_below, slid_next, same_setup_joins}
 use Rattle.simplex_voter.proofs.voter.state.State.slide_optimistic_frontier.Goals as goal
 
 pub loop-last-preserved : goal.loop-last-preserved

@@ -4,7 +4,7 @@ use Rattle.simplex_types.specs.Terms.{IsVotable}
 use Rattle.simplex_types.specs.Certificates.{ProposalFacts, finalization_facts}
 use Rattle.simplex_voter.specs.Facts.{StateFacts}
 use Rattle.simplex_voter.specs.Acceptance.{after_add_finalization, with_finalization_broadcast}
-use Rattle.simplex_voter.proofs.Sliding.{same_setup_joins}
+use Rattle.simplex_voter.proofs.CarriedLeaders.{same_setup_joins}
 use Rattle.simplex_voter.proofs.voter.state.State.start_above.Goals as goal
 
 -- the copy is of the same view, and what was stored before is what is known of it

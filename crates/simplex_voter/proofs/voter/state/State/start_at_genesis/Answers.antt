@@ -1,6 +1,6 @@
 -- How the contract of `start_at_genesis` follows: view 1 is entered at the moment with the set-up's deadlines.
 use Rattle.simplex_voter.proofs.ViewEntry.{genesis_setup, genesis_deadlines, genesis_started}
-use Rattle.simplex_voter.proofs.Sliding.{same_setup_joins}
+use Rattle.simplex_voter.proofs.CarriedLeaders.{same_setup_joins}
 use Rattle.simplex_voter.proofs.voter.state.State.start_at_genesis.Goals as goal
 
 pub enter_view-requires-clause-deadlines : goal.enter_view-requires-clause-deadlines

@@ -1,5 +1,5 @@
 -- How the contract of `take_artifact` follows: restoring the round and the sets keeps the setup.
-use Rattle.simplex_voter.proofs.Sliding.{same_setup_joins}
+use Rattle.simplex_voter.proofs.CarriedLeaders.{same_setup_joins}
 use Rattle.simplex_voter.proofs.voter.state.State.take_artifact.Goals as goal
 
 pub returns-in_err-restore_sets-clause-setup : goal.returns-in_err-restore_sets-clause-setup

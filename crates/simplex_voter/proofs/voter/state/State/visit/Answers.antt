@@ -1,5 +1,5 @@
 -- How the contract of `visit` follows: each standing of a proposal changes the view as the definition of the scan does.
-use Rattle.simplex_voter.proofs.Scanning.{passed_by, left_lacks, left_ready}
+use Rattle.simplex_voter.proofs.VerifyScan.{passed_by, left_lacks, left_ready}
 use Rattle.simplex_voter.proofs.voter.state.State.visit.Goals as goal
 
 pub returns-in_err-leader-clause-left : goal.returns-in_err-leader-clause-left
