@@ -21,14 +21,16 @@ module _ {X : Type 0} (p q : X → Bool) where
       first : p x ≡ true → ⊥
       first e = grind (arith, nat_tests, none, e)
 
-      by_test : (stands xs ≡ false → stands (filter q xs) ≡ false) → (t : Bool) → p x ≡ t → (u : Bool) → q x ≡ u → stands (cond u (x ∷ filter q xs) (filter q xs)) ≡ false
+      by_test : (stands xs ≡ false → stands (filter q xs) ≡ false) → (t : Bool) → p x ≡ t → (u : Bool) → q x ≡ u
+          → stands (cond u (x ∷ filter q xs) (filter q xs)) ≡ false
       by_test left true e u f = absurd (first e)
       by_test left false e true f = more e (left (rest e))
       by_test left false e false f = left (rest e)
 
   -- where none passed a test, none that is left does
   pub none_due : (xs : List X) → position p xs ≡ None → position p (filter q xs) ≡ None
-  none_due xs none = ap (λ t. cond t (Some (position_or_len p (filter q xs))) None) (none_left xs (by_test (stands xs) refl none))
+  none_due xs none = ap (λ t. cond t (Some (position_or_len p (filter q xs))) None)
+      (none_left xs (by_test (stands xs) refl none))
     where
       by_test : (t : Bool) → stands xs ≡ t → cond t (Some (position_or_len p xs)) None ≡ None → stands xs ≡ false
       by_test false e is = e

@@ -7,9 +7,11 @@ use Rattle.engine_fetches.specs.declared.repair.Repair.{Repair}
 use Rattle.engine_fetches.specs.Repairs.{IsRepaired}
 use Rattle.engine_fetches.specs.OutstandingFetches.{after_effects}
 
-pub is_repaired : (moment : ℕ) (call : Call) (old new : Repair) (es : List Effect) → IsMade call old.resolver es new.resolver
+pub is_repaired : (moment : ℕ) (call : Call) (old new : Repair) (es : List Effect)
+    → IsMade call old.resolver es new.resolver
     → new.fetches.wanted.items ≡ after_effects moment es old.fetches.wanted.items
-    → (new.fetches.peers ≡ old.fetches.peers) × (new.fetches.retry ≡ old.fetches.retry) → new.passed ≡ old.passed → new.is_behind ≡ old.is_behind
+    → (new.fetches.peers ≡ old.fetches.peers) × (new.fetches.retry ≡ old.fetches.retry) → new.passed ≡ old.passed
+    → new.is_behind ≡ old.is_behind
     → IsRepaired moment call old new
 is_repaired moment call old new es made fetched same passed behind = record {
   made = subst (λ all. IsMade call old.resolver all new.resolver) made.answered made;

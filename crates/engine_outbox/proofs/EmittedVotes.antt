@@ -38,20 +38,26 @@ module _ {D G : Type 0} where
   to_vote signed = vote_as signed.vote signed.signature
 
   -- fewer votes are among all
-  pub among_all : (test : SignedVote D G → Bool) (all : List (SignedVote D G)) (vote : Vote D G) → Contains (flat_map to_vote (filter test all)) vote → Contains (flat_map to_vote all) vote
+  pub among_all : (test : SignedVote D G → Bool) (all : List (SignedVote D G)) (vote : Vote D G)
+      → Contains (flat_map to_vote (filter test all)) vote → Contains (flat_map to_vote all) vote
   among_all test [] vote has = has
   among_all test (signed ∷ rest) vote has =
-      (elim (test signed) as (λ b. Contains (flat_map to_vote (cond b (signed ∷ filter test rest) (filter test rest))) vote → Contains (flat_map to_vote (signed ∷ rest)) vote) [
+      (elim (test signed) as (λ b. Contains (flat_map to_vote (cond b (signed ∷ filter test rest) (filter test rest)))
+      vote → Contains (flat_map to_vote (signed ∷ rest)) vote) [
         | true ↦ λ has. elim (Contains-append_cases (to_vote signed) (flat_map to_vote (filter test rest)) vote has) [
           | inl here ↦ Contains-append_left (to_vote signed) (flat_map to_vote rest) vote here
-          | inr later ↦ Contains-append_right (to_vote signed) (flat_map to_vote rest) vote (among_all test rest vote later)
+          | inr later ↦ Contains-append_right (to_vote signed) (flat_map to_vote rest) vote
+              (among_all test rest vote later)
         ]
-        | false ↦ λ has. Contains-append_right (to_vote signed) (flat_map to_vote rest) vote (among_all test rest vote has)
+        | false ↦ λ has. Contains-append_right (to_vote signed) (flat_map to_vote rest) vote
+            (among_all test rest vote has)
       ]) has
 
-  pub flat_append : (xs ys : List (SignedVote D G)) → flat_map to_vote (xs ++ ys) ≡ flat_map to_vote xs ++ flat_map to_vote ys
+  pub flat_append : (xs ys : List (SignedVote D G))
+      → flat_map to_vote (xs ++ ys) ≡ flat_map to_vote xs ++ flat_map to_vote ys
   flat_append [] ys = refl
-  flat_append (x ∷ xs) ys = ap (λ vs. to_vote x ++ vs) (flat_append xs ys) ∙ sym (append_assoc (to_vote x) (flat_map to_vote xs) (flat_map to_vote ys))
+  flat_append (x ∷ xs) ys = ap (λ vs. to_vote x ++ vs) (flat_append xs ys)
+      ∙ sym (append_assoc (to_vote x) (flat_map to_vote xs) (flat_map to_vote ys))
 
 module _ {S D K G C : Type 0} where
   one_signed : (a : Artifact S D K G C) → option_to_list (vote_in a) ≡ flat_map to_vote (signed_vote a)
@@ -63,25 +69,31 @@ module _ {S D K G C : Type 0} where
   one_signed (artifact.Finalization f) = refl
   one_signed (artifact.Certification round success) = refl
 
-  pub all_signed : (entries : List (Artifact S D K G C)) → votes_of_entries entries ≡ flat_map to_vote (votes_of entries)
+  pub all_signed : (entries : List (Artifact S D K G C))
+      → votes_of_entries entries ≡ flat_map to_vote (votes_of entries)
   all_signed [] = refl
   all_signed (e ∷ rest) =
-      ap (λ vs. vs ++ votes_of_entries rest) (one_signed e) ∙ ap (λ vs. flat_map to_vote (signed_vote e) ++ vs) (all_signed rest)
+      ap (λ vs. vs ++ votes_of_entries rest) (one_signed e)
+      ∙ ap (λ vs. flat_map to_vote (signed_vote e) ++ vs) (all_signed rest)
       ∙ sym (flat_append (signed_vote e) (votes_of rest))
 
   -- of a record that is pruned no vote is new
-  pub none_is_new : (test : SignedVote D G → Bool) (old new : List (Artifact S D K G C)) → votes_of new ≡ filter test (votes_of old)
+  pub none_is_new : (test : SignedVote D G → Bool) (old new : List (Artifact S D K G C))
+      → votes_of new ≡ filter test (votes_of old)
       → (vote : Vote D G) → Contains (votes_of_entries new) vote → Contains (votes_of_entries old) vote
   none_is_new test old new left vote has =
       subst (λ vs. Contains vs vote) (sym (all_signed old))
-      (among_all test (votes_of old) vote (subst (λ vs. Contains vs vote) (all_signed new ∙ ap (flat_map to_vote) left) has))
+      (among_all test (votes_of old) vote
+      (subst (λ vs. Contains vs vote) (all_signed new ∙ ap (flat_map to_vote) left) has))
 
 -- ---- what a journal holds was stored
 
 module _ {S D J K G C : Type 0} where
   among_written : (journal : Journal S D J K G C) (outs : List (Output S D J K G C)) (vote : Vote D G)
-      → Contains (votes_of_entries (written_all journal outs).entries) vote → Contains (votes_of_entries (journal.entries ++ stored_in outs)) vote
-  among_written journal [] vote has = subst (λ es. Contains (votes_of_entries es) vote) (sym (append-nil journal.entries)) has
+      → Contains (votes_of_entries (written_all journal outs).entries) vote
+      → Contains (votes_of_entries (journal.entries ++ stored_in outs)) vote
+  among_written journal [] vote has = subst (λ es. Contains (votes_of_entries es) vote)
+      (sym (append-nil journal.entries)) has
   among_written journal (output.Store entries ∷ rest) vote has =
       subst (λ es. Contains (votes_of_entries es) vote) (append_assoc journal.entries entries.items (stored_in rest))
       (among_written (record journal { entries = journal.entries ++ entries.items }) rest vote has)
@@ -94,7 +106,8 @@ module _ {S D J K G C : Type 0} where
   among_written journal (output.Work w ∷ rest) vote has = among_written journal rest vote has
   among_written journal (output.Finalized p ∷ rest) vote has = among_written journal rest vote has
 
-  pub was_stored : (outs : List (Output S D J K G C)) (vote : Vote D G) → Contains (votes_of_entries (journal_of outs).entries) vote → Contains (votes_of_entries (stored_in outs)) vote
+  pub was_stored : (outs : List (Output S D J K G C)) (vote : Vote D G)
+      → Contains (votes_of_entries (journal_of outs).entries) vote → Contains (votes_of_entries (stored_in outs)) vote
   was_stored outs vote has = among_written empty_journal outs vote has
 
 -- ---- one output after the other
@@ -102,15 +115,18 @@ module _ {S D J K G C : Type 0} where
 module _ {S D J K G C : Type 0} where
   -- after others, where each vote that these outputs store leaves among them, or was stored before
   pub leave_behind : (outs more : List (Output S D J K G C))
-      → ((vote : Vote D G) → Contains (votes_of_entries (stored_in more)) vote → Contains (votes_of_entries (stored_in outs)) vote ⊎ Contains more (output.Vote vote))
+      → ((vote : Vote D G) → Contains (votes_of_entries (stored_in more)) vote
+      → Contains (votes_of_entries (stored_in outs)) vote ⊎ Contains more (output.Vote vote))
       → AllAreReturned more → AllAreReturned outs → AllAreReturned (outs ++ more)
   leave_behind [] more each alone before = alone
   leave_behind (first ∷ rest) more each alone before = λ vote has.
       elim (Contains-append_cases (votes_of_entries (stored_in rest)) (votes_of_entries (stored_in more)) vote
-      (subst (λ vs. Contains vs vote) (ap votes_of_entries (stored_in-append rest more) ∙ votes_in-append (stored_in rest) (stored_in more)) has)) [
+      (subst (λ vs. Contains vs vote)
+      (ap votes_of_entries (stored_in-append rest more) ∙ votes_in-append (stored_in rest) (stored_in more)) has)) [
         | inl early ↦ settled vote (before vote early)
         | inr late ↦ elim (each vote late) [
-          | inl stored ↦ elim (Contains-append_cases (votes_of_entries (entries_in first)) (votes_of_entries (stored_in rest)) vote
+          | inl stored ↦
+              elim (Contains-append_cases (votes_of_entries (entries_in first)) (votes_of_entries (stored_in rest)) vote
               (subst (λ vs. Contains vs vote) (votes_in-append (entries_in first) (stored_in rest)) stored)) [
                 | inl begun ↦ inl begun
                 | inr early ↦ settled vote (before vote early)
@@ -119,59 +135,76 @@ module _ {S D J K G C : Type 0} where
         ]
       ]
     where
-      settled : (vote : Vote D G) → Contains (votes_of_entries (entries_in first)) vote ⊎ Contains rest (output.Vote vote)
+      settled : (vote : Vote D G) → Contains (votes_of_entries (entries_in first)) vote
+          ⊎ Contains rest (output.Vote vote)
           → Contains (votes_of_entries (entries_in first)) vote ⊎ Contains (rest ++ more) (output.Vote vote)
       settled vote (inl begun) = inl begun
       settled vote (inr leaves) = inr (Contains-append_left rest more (output.Vote vote) leaves)
 
   -- one output that stores nothing
-  pub leave_plain : (outs : List (Output S D J K G C)) (out : Output S D J K G C) → entries_in out ≡ [] → AllAreReturned outs → AllAreReturned (outs ++ out ∷ [])
+  pub leave_plain : (outs : List (Output S D J K G C)) (out : Output S D J K G C) → entries_in out ≡ []
+      → AllAreReturned outs → AllAreReturned (outs ++ out ∷ [])
   leave_plain outs out plain before =
-      leave_behind outs (out ∷ []) (λ vote has. none_in vote (subst (λ es. Contains (votes_of_entries es) vote) (append-nil (entries_in out) ∙ plain) has))
+      leave_behind outs (out ∷ []) (λ vote has.
+      none_in vote (subst (λ es. Contains (votes_of_entries es) vote) (append-nil (entries_in out) ∙ plain) has))
       (λ vote has. none_in vote has) before
 
   -- entries, and after them the votes among them
-  pub leave_stored : (outs : List (Output S D J K G C)) (entries : Vec (Artifact S D K G C) Global) → AllAreReturned outs → AllAreReturned (outs ++ storing entries)
+  pub leave_stored : (outs : List (Output S D J K G C)) (entries : Vec (Artifact S D K G C) Global)
+      → AllAreReturned outs → AllAreReturned (outs ++ storing entries)
   leave_stored outs entries before =
       leave_behind outs (storing entries)
-      (λ vote has. inr (later vote (still_mapped (votes_of_entries entries.items) vote (subst (λ es. Contains (votes_of_entries es) vote) (stored_by J entries) has))))
-      (λ vote has. none_in vote (subst (λ es. Contains (votes_of_entries es) vote) (none_stored (votes_of_entries entries.items)) has)) before
+      (λ vote has. inr (later vote (still_mapped (votes_of_entries entries.items) vote
+      (subst (λ es. Contains (votes_of_entries es) vote) (stored_by J entries) has))))
+      (λ vote has. none_in vote
+      (subst (λ es. Contains (votes_of_entries es) vote) (none_stored (votes_of_entries entries.items)) has)) before
     where
       none_stored : (votes : List (Vote D G)) → stored_in {S = S} {J = J} {K = K} {C = C} (map output.Vote votes) ≡ []
       none_stored [] = refl
       none_stored (v ∷ vs) = none_stored vs
 
-      still_mapped : (votes : List (Vote D G)) (vote : Vote D G) → Contains votes vote → Contains {X = Output S D J K G C} (map output.Vote votes) (output.Vote vote)
+      still_mapped : (votes : List (Vote D G)) (vote : Vote D G) → Contains votes vote
+          → Contains {X = Output S D J K G C} (map output.Vote votes) (output.Vote vote)
       still_mapped [] vote has = none_in vote has
       still_mapped (v ∷ vs) vote has = elim (Contains-cases v vs vote has) [
         | inl here ↦ in_front (output.Vote v) (map output.Vote vs) (output.Vote vote) (ap output.Vote here)
         | inr rest ↦ one_later (output.Vote v) (map output.Vote vs) (output.Vote vote) (still_mapped vs vote rest)
       ]
 
-      later : (vote : Vote D G) → Contains {X = Output S D J K G C} (map output.Vote (votes_of_entries entries.items)) (output.Vote vote) → Contains {X = Output S D J K G C} (storing entries) (output.Vote vote)
-      later vote has = one_later (output.Store entries) (map output.Vote (votes_of_entries entries.items)) (output.Vote vote) has
+      later : (vote : Vote D G) → Contains {X = Output S D J K G C} (map output.Vote (votes_of_entries entries.items))
+          (output.Vote vote) → Contains {X = Output S D J K G C} (storing entries) (output.Vote vote)
+      later vote has = one_later (output.Store entries) (map output.Vote (votes_of_entries entries.items))
+          (output.Vote vote) has
 
   -- a record, in place of all entries, none of whose votes is new
   pub leave_replaced : (outs : List (Output S D J K G C)) (entries : Vec (Artifact S D K G C) Global) (beside : J)
-      → ((vote : Vote D G) → Contains (votes_of_entries entries.items) vote → Contains (votes_of_entries (stored_in outs)) vote)
+      → ((vote : Vote D G) → Contains (votes_of_entries entries.items) vote
+      → Contains (votes_of_entries (stored_in outs)) vote)
       → AllAreReturned outs → AllAreReturned (outs ++ output.Replace entries beside ∷ [])
   leave_replaced outs entries beside old before =
-      leave_behind outs (output.Replace entries beside ∷ []) (λ vote has. inl (old vote (subst (λ es. Contains (votes_of_entries es) vote) (append-nil entries.items) has)))
+      leave_behind outs (output.Replace entries beside ∷ [])
+      (λ vote has.
+      inl (old vote (subst (λ es. Contains (votes_of_entries es) vote) (append-nil entries.items) has)))
       (λ vote has. none_in vote has) before
 
   -- a lifetime begins with one
-  pub leave_begun : (entries : Vec (Artifact S D K G C) Global) (beside : J) → AllAreReturned {S = S} {K = K} (output.Replace entries beside ∷ [])
+  pub leave_begun : (entries : Vec (Artifact S D K G C) Global) (beside : J)
+      → AllAreReturned {S = S} {K = K} (output.Replace entries beside ∷ [])
   leave_begun entries beside = λ vote has. none_in vote has
 
-  leave_told_where : (given : List (Output S D J K G C)) (old new : Outbox S D J K G C) (p : Proposal D) (is_above : Bool) → IsPassedIf is_above p old new
+  leave_told_where : (given : List (Output S D J K G C)) (old new : Outbox S D J K G C) (p : Proposal D)
+      (is_above : Bool) → IsPassedIf is_above p old new
       → AllAreReturned (given ++ old.queue.items) → AllAreReturned (given ++ new.queue.items)
   leave_told_where given old new p true is before =
-      subst AllAreReturned (sym (ap (λ q. given ++ q) is.0 ∙ sym (append_assoc given old.queue.items (output.Finalized p ∷ []))))
+      subst AllAreReturned
+      (sym (ap (λ q. given ++ q) is.0 ∙ sym (append_assoc given old.queue.items (output.Finalized p ∷ []))))
       (leave_plain (given ++ old.queue.items) (output.Finalized p) refl before)
   leave_told_where given old new p false is before = subst (λ q. AllAreReturned (given ++ q)) (sym is.0) before
 
   -- a proposal that is final, where one is reported
-  pub leave_told : (given : List (Output S D J K G C)) (old new : Outbox S D J K G C) (finalized : Option (Proposal D)) → IsTold finalized old new
+  pub leave_told : (given : List (Output S D J K G C)) (old new : Outbox S D J K G C) (finalized : Option (Proposal D))
+      → IsTold finalized old new
       → AllAreReturned (given ++ old.queue.items) → AllAreReturned (given ++ new.queue.items)
   leave_told given old new None is before = subst (λ q. AllAreReturned (given ++ q)) (sym is.0) before
-  leave_told given old new (Some p) is before = leave_told_where given old new p (nat_lt old.told p.round.view) is before
+  leave_told given old new (Some p) is before =
+      leave_told_where given old new p (nat_lt old.told p.round.view) is before

@@ -48,46 +48,61 @@ module _ {K L D : Type 0} (x : StateFacts K L D) (view : ℕ) (reason : TimeoutR
   latched = with_latch (round_of x view) now reason
 
   -- the round is put in its place
-  stands_still : can_trigger x view reason ≡ true → has_no_latch (round_of x view).decision ≡ false → (other : ℕ) → find nat_cmp other (put nat_cmp view latched x.rounds) ≡ find nat_cmp other x.rounds
+  stands_still : can_trigger x view reason ≡ true → has_no_latch (round_of x view).decision ≡ false → (other : ℕ)
+      → find nat_cmp other (put nat_cmp view latched x.rounds) ≡ find nat_cmp other x.rounds
   stands_still can waits other =
-      find-put nat_cmp nat_cmp_total other view latched x.rounds ∙ ap (λ b. cond b (Some latched) (find nat_cmp other x.rounds)) (is_eq-nat_cmp other view) ∙ by_view (eqb other view) refl
+      find-put nat_cmp nat_cmp_total other view latched x.rounds
+      ∙ ap (λ b. cond b (Some latched) (find nat_cmp other x.rounds)) (is_eq-nat_cmp other view)
+      ∙ by_view (eqb other view) refl
     where
       same_round : Some latched ≡ find nat_cmp view x.rounds
       same_round =
-          ap (λ d. Some (record (round_of x view) { decision = d })) (unlatched (round_of x view).decision (now, reason) waits)
-          ∙ sym (is_there (round_at x view) (new_round x.me x.members (round_number x view)) (second_part _ (is_some (round_at x view)) _ can))
+          ap (λ d. Some (record (round_of x view) { decision = d }))
+          (unlatched (round_of x view).decision (now, reason) waits)
+          ∙ sym (is_there (round_at x view) (new_round x.me x.members (round_number x view))
+          (second_part _ (is_some (round_at x view)) _ can))
 
-      by_view : (t : Bool) → eqb other view ≡ t → cond t (Some latched) (find nat_cmp other x.rounds) ≡ find nat_cmp other x.rounds
+      by_view : (t : Bool) → eqb other view ≡ t
+          → cond t (Some latched) (find nat_cmp other x.rounds) ≡ find nat_cmp other x.rounds
       by_view false apart = refl
       by_view true at = same_round ∙ ap (λ v. find nat_cmp v x.rounds) (sym (eqb-true other view at))
 
   trigger_noted : trigger_answer x view reason ≡ false → HasNoted now x (after_trigger_timeout x view reason now)
   trigger_noted says = by_test (can_trigger x view reason) refl says
     where
-      by_test : (b : Bool) → can_trigger x view reason ≡ b → (b && has_no_latch (round_of x view).decision) ≡ false → HasNoted now x (cond b (with_round (at_moment x now) view latched) (at_moment x now))
+      by_test : (b : Bool) → can_trigger x view reason ≡ b → (b && has_no_latch (round_of x view).decision) ≡ false
+          → HasNoted now x (cond b (with_round (at_moment x now) view latched) (at_moment x now))
       by_test false can says = record { rounds = λ other. refl; same = refl }
       by_test true can says = record { rounds = stands_still can says; same = refl }
 
 -- a verdict on a view that is not tracked
 
-none_judged : (K : Type 0) {D : Type 0} (success : Bool) (o : Option (ProposalFacts D)) → says_nothing {K = K} (Judged success o) ≡ true → o ≡ None
+none_judged : (K : Type 0) {D : Type 0} (success : Bool) (o : Option (ProposalFacts D))
+    → says_nothing {K = K} (Judged success o) ≡ true → o ≡ None
 none_judged K success None says = refl
 none_judged K success (Some c) says = absurd (false≢true says)
 
 untracked : {K D : Type 0} (success : Bool) (o : Option (RoundFacts K D))
-    → option_map_or (λ r. is_some r.notarization && not (is_judged (not success) r.certification)) o true ≡ true → option_and_then (λ r. r.notarization) o ≡ None → o ≡ None
+    → option_map_or (λ r. is_some r.notarization && not (is_judged (not success) r.certification)) o true ≡ true
+    → option_and_then (λ r. r.notarization) o ≡ None → o ≡ None
 untracked success None takes none = refl
-untracked success (Some r) takes none = absurd (false≢true (sym (ap is_some none) ∙ (and_parts (is_some r.notarization) (not (is_judged (not success) r.certification)) takes).0))
+untracked success (Some r) takes none = absurd
+    (false≢true (sym (ap is_some none)
+    ∙ (and_parts (is_some r.notarization) (not (is_judged (not success) r.certification)) takes).0))
 
-module _ {K L D : Type 0} (same : D → D → Bool) (elect : Elect L) (x : StateFacts K L D) (m : MemberFacts K L D) (view : ℕ) (success : Bool) (now : ℕ) where
+module _ {K L D : Type 0} (same : D → D → Bool) (elect : Elect L) (x : StateFacts K L D) (m : MemberFacts K L D)
+    (view : ℕ) (success : Bool) (now : ℕ) where
   abbrev left_where : Option (RoundFacts K D) → MemberFacts K L D
   left_where o = record m {
     life = Some (cond (is_some o) (verdict_taken elect (at_moment x now) view success now) (at_moment x now));
     outstanding_work = without_offer m.outstanding_work view;
-    entries = m.entries ++ if_new (option_map_or (λ r. not (is_judged true r.certification) && not (is_judged false r.certification)) o false) (Verdict (round_number x view) success);
+    entries = m.entries ++ if_new (option_map_or
+        (λ r. not (is_judged true r.certification) && not (is_judged false r.certification)) o false)
+        (Verdict (round_number x view) success);
   }
 
-  verdict_noted : (left : MemberFacts K L D) → m.life ≡ Some x → is_allowed x m.outstanding_work (Certified view success now) ≡ true → certified_answer x view ≡ None
+  verdict_noted : (left : MemberFacts K L D) → m.life ≡ Some x
+      → is_allowed x m.outstanding_work (Certified view success now) ≡ true → certified_answer x view ≡ None
       → left ≡ with_call same elect x m (Certified view success now) → IsNoted now (without_offer_at view m) left
   verdict_noted left alive allowed none leaves =
       let out = untracked success (round_at x view) (and_parts (is_started x) _ allowed).1 none in
@@ -97,7 +112,11 @@ module _ {K L D : Type 0} (same : D → D → Bool) (elect : Elect L) (x : State
         alive = alive;
         noted = record { rounds = λ other. refl; same = refl };
         same = leaves ∙ ap left_where out
-            ∙ ap (λ entries. record m { life = Some (at_moment x now); outstanding_work = without_offer m.outstanding_work view; entries = entries }) (append-nil m.entries);
+            ∙ ap (λ entries. record m {
+              life = Some (at_moment x now);
+              outstanding_work = without_offer m.outstanding_work view;
+              entries = entries;
+            }) (append-nil m.entries);
       }
 
 -- all calls
@@ -109,51 +128,68 @@ module _ {K L D : Type 0} where
   same_left _ m left is = is
 
 module _ {K L D : Type 0} (same : D → D → Bool) (elect : Elect L) where
-  answer_stands : (x : StateFacts K L D) (o : OutstandingWork K D) (call : CallFacts D) → is_refused (answer same elect x o call) ≡ false
+  answer_stands : (x : StateFacts K L D) (o : OutstandingWork K D) (call : CallFacts D)
+      → is_refused (answer same elect x o call) ≡ false
   answer_stands x o TryPropose = refl
   answer_stands x o _ = refl
 
   -- a refused call
-  pub refused_left : (m left : MemberFacts K L D) (call : CallFacts D) (told : ReplyFacts K D) → IsCall same elect m call told left → is_refused told ≡ true → left ≡ m
+  pub refused_left : (m left : MemberFacts K L D) (call : CallFacts D) (told : ReplyFacts K D)
+      → IsCall same elect m call told left → is_refused told ≡ true → left ≡ m
   unfolding IsCall
   refused_left m left call told is_call refused = by_life m.life is_call
     where
-      by_test : (x : StateFacts K L D) (b : Bool) (due : Option Fault) → told ≡ cond b (unless_refused due (answer same elect x m.outstanding_work call)) NotAllowed → left ≡ cond b (unless_retained due m (with_call same elect x m call)) m → left ≡ m
+      by_test : (x : StateFacts K L D) (b : Bool) (due : Option Fault)
+          → told ≡ cond b (unless_refused due (answer same elect x m.outstanding_work call)) NotAllowed
+          → left ≡ cond b (unless_retained due m (with_call same elect x m call)) m → left ≡ m
       by_test x false due tells leaves = leaves
       by_test x true (Some due) tells leaves = leaves
-      by_test x true None tells leaves = absurd (false≢true (sym (ap is_refused tells ∙ answer_stands x m.outstanding_work call) ∙ refused))
+      by_test x true None tells leaves = absurd
+          (false≢true (sym (ap is_refused tells ∙ answer_stands x m.outstanding_work call) ∙ refused))
 
       by_life : (life : Option (StateFacts K L D)) → AnswersAlive same elect life m call told left → left ≡ m
       by_life None (tells, leaves) = leaves
-      by_life (Some x) (inl (tells, leaves)) = by_test x (is_allowed x m.outstanding_work call) (fault_of x call) tells leaves
+      by_life (Some x) (inl (tells, leaves)) =
+          by_test x (is_allowed x m.outstanding_work call) (fault_of x call) tells leaves
       by_life (Some x) (inr (_, tells, _)) = absurd (false≢true (sym (ap is_refused tells) ∙ refused))
 
-  answered_left : (x : StateFacts K L D) (m left : MemberFacts K L D) (call : CallFacts D) (told : ReplyFacts K D) → m.life ≡ Some x → is_allowed x m.outstanding_work call ≡ true
-      → told ≡ answer same elect x m.outstanding_work call → left ≡ with_call same elect x m call → says_nothing told ≡ true → IsLeftByCall call m left
+  answered_left : (x : StateFacts K L D) (m left : MemberFacts K L D) (call : CallFacts D) (told : ReplyFacts K D)
+      → m.life ≡ Some x → is_allowed x m.outstanding_work call ≡ true
+      → told ≡ answer same elect x m.outstanding_work call → left ≡ with_call same elect x m call
+      → says_nothing told ≡ true → IsLeftByCall call m left
   answered_left x m left (TriggerTimeout view reason now) told alive allowed tells leaves says =
       inr (record {
         before = x;
         after = after_trigger_timeout x view reason now;
         alive = alive;
-        noted = trigger_noted x view reason now (not_true (trigger_answer x view reason) (sym (ap says_nothing tells) ∙ says));
-        same = leaves ∙ ap (λ entries. record m { life = Some (after_trigger_timeout x view reason now); entries = entries }) (append-nil m.entries);
+        noted = trigger_noted x view reason now
+            (not_true (trigger_answer x view reason) (sym (ap says_nothing tells) ∙ says));
+        same = leaves ∙ ap (λ entries. record m
+            { life = Some (after_trigger_timeout x view reason now); entries = entries }) (append-nil m.entries);
       })
   answered_left x m left (Certified view success now) told alive allowed tells leaves says =
-      inr (verdict_noted same elect x m view success now left alive allowed (none_judged K success (certified_answer x view) (sym (ap says_nothing tells) ∙ says)) leaves)
-  answered_left x m left _ told alive allowed tells leaves says = absurd (false≢true (sym (ap says_nothing tells) ∙ says))
+      inr (verdict_noted same elect x m view success now left alive allowed
+      (none_judged K success (certified_answer x view) (sym (ap says_nothing tells) ∙ says)) leaves)
+  answered_left x m left _ told alive allowed tells leaves says =
+      absurd (false≢true (sym (ap says_nothing tells) ∙ says))
 
   -- an ignored call
-  pub dropped_left : (m left : MemberFacts K L D) (call : CallFacts D) (told : ReplyFacts K D) → IsCall same elect m call told left → says_nothing told ≡ true → IsLeftByCall call m left
+  pub dropped_left : (m left : MemberFacts K L D) (call : CallFacts D) (told : ReplyFacts K D)
+      → IsCall same elect m call told left → says_nothing told ≡ true → IsLeftByCall call m left
   unfolding IsCall
   dropped_left m left call told is_call says = by_life m.life refl is_call
     where
-      by_test : (x : StateFacts K L D) → m.life ≡ Some x → (b : Bool) (due : Option Fault) → is_allowed x m.outstanding_work call ≡ b → told ≡ cond b (unless_refused due (answer same elect x m.outstanding_work call)) NotAllowed
+      by_test : (x : StateFacts K L D) → m.life ≡ Some x → (b : Bool) (due : Option Fault)
+          → is_allowed x m.outstanding_work call ≡ b
+          → told ≡ cond b (unless_refused due (answer same elect x m.outstanding_work call)) NotAllowed
           → left ≡ cond b (unless_retained due m (with_call same elect x m call)) m → IsLeftByCall call m left
       by_test x alive false due allowed tells leaves = same_left call m left leaves
       by_test x alive true (Some due) allowed tells leaves = same_left call m left leaves
       by_test x alive true None allowed tells leaves = answered_left x m left call told alive allowed tells leaves says
 
-      by_life : (life : Option (StateFacts K L D)) → m.life ≡ life → AnswersAlive same elect life m call told left → IsLeftByCall call m left
+      by_life : (life : Option (StateFacts K L D)) → m.life ≡ life → AnswersAlive same elect life m call told left
+          → IsLeftByCall call m left
       by_life None gone (tells, leaves) = same_left call m left leaves
-      by_life (Some x) alive (inl (tells, leaves)) = by_test x alive (is_allowed x m.outstanding_work call) (fault_of x call) refl tells leaves
+      by_life (Some x) alive (inl (tells, leaves)) =
+          by_test x alive (is_allowed x m.outstanding_work call) (fault_of x call) refl tells leaves
       by_life (Some x) alive (inr (_, tells, _)) = absurd (false≢true (sym (ap says_nothing tells) ∙ says))

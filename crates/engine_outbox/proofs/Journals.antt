@@ -23,20 +23,25 @@ use Rattle.engine_outbox.specs.Outputs.{storing}
 use Rattle.engine_outbox.specs.Journals.{Journal, empty_journal, written, written_all, journal_of, IsRecordOf, IsBeginningOf}
 
 module _ {S D J K G C : Type 0} where
-  written-append : (journal : Journal S D J K G C) (xs ys : List (Output S D J K G C)) → written_all journal (xs ++ ys) ≡ written_all (written_all journal xs) ys
+  written-append : (journal : Journal S D J K G C) (xs ys : List (Output S D J K G C))
+      → written_all journal (xs ++ ys) ≡ written_all (written_all journal xs) ys
   written-append journal [] ys = refl
   written-append journal (x ∷ xs) ys = written-append (written journal x) xs ys
 
   -- a journal takes no votes
-  votes_unwritten : (journal : Journal S D J K G C) (votes : List (Vote D G)) → written_all journal (map output.Vote votes) ≡ journal
+  votes_unwritten : (journal : Journal S D J K G C) (votes : List (Vote D G))
+      → written_all journal (map output.Vote votes) ≡ journal
   votes_unwritten journal [] = refl
   votes_unwritten journal (v ∷ vs) = votes_unwritten journal vs
 
   -- after others
-  pub behind_others : (outs more : List (Output S D J K G C)) → journal_of (outs ++ more) ≡ written_all (journal_of outs) more
+  pub behind_others : (outs more : List (Output S D J K G C))
+      → journal_of (outs ++ more) ≡ written_all (journal_of outs) more
   behind_others outs more = written-append empty_journal outs more
 
-  pub stored_behind : (outs : List (Output S D J K G C)) (entries : Vec (Artifact S D K G C) Global) → journal_of (outs ++ storing entries) ≡ record { entries = (journal_of outs).entries ++ entries.items; beside = (journal_of outs).beside }
+  pub stored_behind : (outs : List (Output S D J K G C)) (entries : Vec (Artifact S D K G C) Global)
+      → journal_of (outs ++ storing entries) ≡ record
+      { entries = (journal_of outs).entries ++ entries.items; beside = (journal_of outs).beside }
   stored_behind outs entries =
       behind_others outs (storing entries)
       ∙ votes_unwritten (written (journal_of outs) (output.Store entries)) (votes_of_entries entries.items)
@@ -60,7 +65,8 @@ module _ {S D K G C : Type 0} (bytes_of : C → List ℕ) where
   signed_so (artifact.Certification round success) = refl
 
   -- copies have the same votes
-  pub copied_votes : (entries copies : List (Artifact S D K G C)) → AreCopies bytes_of entries copies → votes_of copies ≡ votes_of entries
+  pub copied_votes : (entries copies : List (Artifact S D K G C)) → AreCopies bytes_of entries copies
+      → votes_of copies ≡ votes_of entries
   copied_votes [] [] are = refl
   copied_votes [] (c ∷ cs) are = cc
   copied_votes (e ∷ es) [] are = cc
@@ -69,11 +75,14 @@ module _ {S D K G C : Type 0} (bytes_of : C → List ℕ) where
       let same_signature : signature_in c ≡ signature_in e = cc in
       let rest_facts : map (artifact_facts bytes_of) cs ≡ map (artifact_facts bytes_of) es = cc in
       let rest_signatures : map signature_in cs ≡ map signature_in es = cc in
-      let head : signed_vote c ≡ signed_vote e = signed_so c ∙ ap (λ f. signed_as f (signature_in c)) same_facts ∙ ap (λ g. signed_as (artifact_facts bytes_of e) g) same_signature ∙ sym (signed_so e) in
-      ap (λ v. v ++ votes_of cs) head ∙ ap (λ vs. signed_vote e ++ vs) (copied_votes es cs (rest_facts, rest_signatures))
+      let head : signed_vote c ≡ signed_vote e = signed_so c ∙ ap (λ f. signed_as f (signature_in c)) same_facts
+      ∙ ap (λ g. signed_as (artifact_facts bytes_of e) g) same_signature ∙ sym (signed_so e) in
+      ap (λ v. v ++ votes_of cs) head ∙ ap (λ vs. signed_vote e ++ vs)
+      (copied_votes es cs (rest_facts, rest_signatures))
 
   -- as many entries are votes
-  pub votes_counted : (items : List (Artifact S D K G C)) → length (filter is_vote (entries_of bytes_of items)) ≡ length (votes_of items)
+  pub votes_counted : (items : List (Artifact S D K G C))
+      → length (filter is_vote (entries_of bytes_of items)) ≡ length (votes_of items)
   votes_counted [] = refl
   votes_counted (artifact.Notarize v ∷ items) = ap suc (votes_counted items)
   votes_counted (artifact.Nullify v ∷ items) = ap suc (votes_counted items)
@@ -83,12 +92,15 @@ module _ {S D K G C : Type 0} (bytes_of : C → List ℕ) where
   votes_counted (artifact.Finalization f ∷ items) = votes_counted items
   votes_counted (artifact.Certification round success ∷ items) = votes_counted items
 
-module _ {S L D K G C : Type 0} (bytes_of : C → List ℕ) (m : SignedMember K L D G) (count : ℕ) (journal : Journal S D Stored K G C) (begun : IsBeginningOf bytes_of m count journal) where
+module _ {S L D K G C : Type 0} (bytes_of : C → List ℕ) (m : SignedMember K L D G) (count : ℕ)
+    (journal : Journal S D Stored K G C) (begun : IsBeginningOf bytes_of m count journal) where
   abbrev held : List (ArtifactFacts D)
   held = entries_of bytes_of journal.entries
 
   -- a member whose record has grown
-  abbrev pub still_begun : (next : SignedMember K L D G) (more : List (ArtifactFacts D)) (votes : List (SignedVote D G)) → next.facts.entries ≡ m.facts.entries ++ more → next.votes ≡ m.votes ++ votes → stored_of next.facts ≡ stored_of m.facts → IsBeginningOf bytes_of next count journal
+  abbrev pub still_begun : (next : SignedMember K L D G) (more : List (ArtifactFacts D)) (votes : List (SignedVote D G))
+      → next.facts.entries ≡ m.facts.entries ++ more → next.votes ≡ m.votes ++ votes
+      → stored_of next.facts ≡ stored_of m.facts → IsBeginningOf bytes_of next count journal
   still_begun next more votes grown voted same = record {
     rest = begun.rest ++ more;
     votes_left = begun.votes_left ++ votes;
@@ -102,10 +114,12 @@ module _ {S L D K G C : Type 0} (bytes_of : C → List ℕ) (m : SignedMember K 
   same_count = sym begun.count_is ∙ sym (length-map journal.entries (artifact_facts bytes_of))
 
   pub entries_left : drop count m.facts.entries ≡ begun.rest
-  entries_left = ap (λ n. drop n m.facts.entries) same_count ∙ ap (drop (length held)) begun.entries ∙ drop-append_seam held begun.rest
+  entries_left = ap (λ n. drop n m.facts.entries) same_count ∙ ap (drop (length held)) begun.entries
+      ∙ drop-append_seam held begun.rest
 
   pub entries_held : take count m.facts.entries ≡ held
-  entries_held = ap (λ n. take n m.facts.entries) same_count ∙ ap (take (length held)) begun.entries ∙ take-append_seam held begun.rest
+  entries_held = ap (λ n. take n m.facts.entries) same_count ∙ ap (take (length held)) begun.entries
+      ∙ take-append_seam held begun.rest
 
   pub votes_behind : votes_since count m ≡ begun.votes_left
   votes_behind =
@@ -115,40 +129,52 @@ module _ {S L D K G C : Type 0} (bytes_of : C → List ℕ) (m : SignedMember K 
       ∙ drop-append_seam (votes_of journal.entries) begun.votes_left
 
   -- with all that is after it is the record
-  pub with_all_behind : (copies : List (Artifact S D K G C)) → entries_of bytes_of copies ≡ drop count m.facts.entries → votes_of copies ≡ votes_since count m
+  pub with_all_behind : (copies : List (Artifact S D K G C)) → entries_of bytes_of copies ≡ drop count m.facts.entries
+      → votes_of copies ≡ votes_since count m
       → IsRecordOf bytes_of m (record { entries = journal.entries ++ copies; beside = journal.beside })
   with_all_behind copies copied voted = record {
-    entries = map-append (artifact_facts bytes_of) journal.entries copies ∙ ap (λ es. held ++ es) (copied ∙ entries_left) ∙ sym begun.entries;
-    votes = flat_map-append signed_vote journal.entries copies ∙ ap (λ vs. votes_of journal.entries ++ vs) (voted ∙ votes_behind) ∙ sym begun.votes;
+    entries = map-append (artifact_facts bytes_of) journal.entries copies
+        ∙ ap (λ es. held ++ es) (copied ∙ entries_left) ∙ sym begun.entries;
+    votes = flat_map-append signed_vote journal.entries copies
+        ∙ ap (λ vs. votes_of journal.entries ++ vs) (voted ∙ votes_behind) ∙ sym begun.votes;
     beside = begun.beside;
   }
 
-  module _ (all : List (Artifact S D K G C)) (all_entries : entries_of bytes_of all ≡ m.facts.entries) (all_votes : votes_of all ≡ m.votes) where
+  module _ (all : List (Artifact S D K G C)) (all_entries : entries_of bytes_of all ≡ m.facts.entries)
+      (all_votes : votes_of all ≡ m.votes) where
     -- as many of the later ones are votes
     pub votes_behind_counted : length (filter is_vote begun.rest) ≡ length begun.votes_left
     votes_behind_counted =
         let held_votes = votes_counted bytes_of journal.entries in
-        let all_counted : length (filter is_vote held) + length (filter is_vote begun.rest) ≡ length (votes_of journal.entries) + length begun.votes_left =
+        let all_counted : length (filter is_vote held) + length (filter is_vote begun.rest) ≡ length
+        (votes_of journal.entries) + length begun.votes_left =
         sym (length-append (filter is_vote held) (filter is_vote begun.rest))
-        ∙ ap length (sym (filter-append is_vote held begun.rest)) ∙ ap (λ es. length (filter is_vote es)) (sym begun.entries ∙ sym all_entries)
-        ∙ votes_counted bytes_of all ∙ ap length (all_votes ∙ begun.votes) ∙ length-append (votes_of journal.entries) begun.votes_left in
+        ∙ ap length (sym (filter-append is_vote held begun.rest))
+        ∙ ap (λ es. length (filter is_vote es)) (sym begun.entries ∙ sym all_entries)
+        ∙ votes_counted bytes_of all ∙ ap length (all_votes ∙ begun.votes)
+        ∙ length-append (votes_of journal.entries) begun.votes_left in
         omega (arith, held_votes, all_counted)
 
     -- the later ones were stored too
-    pub stored_too : (copies : List (Artifact S D K G C)) → entries_of bytes_of copies ≡ drop count m.facts.entries → votes_of copies ≡ votes_since count m
-        → IsBeginningOf bytes_of m (length all) (record { entries = journal.entries ++ copies; beside = journal.beside })
+    pub stored_too : (copies : List (Artifact S D K G C)) → entries_of bytes_of copies ≡ drop count m.facts.entries
+        → votes_of copies ≡ votes_since count m
+        → IsBeginningOf bytes_of m (length all)
+        (record { entries = journal.entries ++ copies; beside = journal.beside })
     stored_too copies copied voted =
         let entries : m.facts.entries ≡ entries_of bytes_of (journal.entries ++ copies) =
-        begun.entries ∙ ap (λ es. held ++ es) (sym (copied ∙ entries_left)) ∙ sym (map-append (artifact_facts bytes_of) journal.entries copies) in
+        begun.entries ∙ ap (λ es. held ++ es) (sym (copied ∙ entries_left))
+        ∙ sym (map-append (artifact_facts bytes_of) journal.entries copies) in
         record {
           rest = [];
           votes_left = [];
           entries = entries ∙ sym (append-nil (entries_of bytes_of (journal.entries ++ copies)));
           votes =
-              begun.votes ∙ ap (λ vs. votes_of journal.entries ++ vs) (sym (voted ∙ votes_behind)) ∙ sym (flat_map-append signed_vote journal.entries copies)
+              begun.votes ∙ ap (λ vs. votes_of journal.entries ++ vs) (sym (voted ∙ votes_behind))
+              ∙ sym (flat_map-append signed_vote journal.entries copies)
               ∙ sym (append-nil (votes_of (journal.entries ++ copies)));
           count_is =
-              sym (length-map (journal.entries ++ copies) (artifact_facts bytes_of)) ∙ ap length (sym (all_entries ∙ entries)) ∙ length-map all (artifact_facts bytes_of);
+              sym (length-map (journal.entries ++ copies) (artifact_facts bytes_of))
+              ∙ ap length (sym (all_entries ∙ entries)) ∙ length-map all (artifact_facts bytes_of);
           beside = begun.beside;
         }
 
@@ -158,11 +184,15 @@ module _ {S L D K G C : Type 0} (bytes_of : C → List ℕ) (m : SignedMember K 
         let no_rest : begun.rest ≡ [] = sym entries_left ∙ drop_all count m.facts.entries whole in
         let entries : held ≡ m.facts.entries = sym (begun.entries ∙ ap (λ es. held ++ es) no_rest ∙ append-nil held) in
         let counted : length m.votes ≡ length (votes_of journal.entries) =
-        ap length (sym all_votes) ∙ sym (votes_counted bytes_of all) ∙ ap (λ es. length (filter is_vote es)) (all_entries ∙ sym entries) ∙ votes_counted bytes_of journal.entries in
-        let no_votes : begun.votes_left ≡ [] = empty_behind (votes_of journal.entries) begun.votes_left (ap length (sym begun.votes) ∙ counted) in
+        ap length (sym all_votes) ∙ sym (votes_counted bytes_of all)
+        ∙ ap (λ es. length (filter is_vote es)) (all_entries ∙ sym entries)
+        ∙ votes_counted bytes_of journal.entries in
+        let no_votes : begun.votes_left ≡ [] = empty_behind (votes_of journal.entries) begun.votes_left
+        (ap length (sym begun.votes) ∙ counted) in
         record {
           entries = entries;
-          votes = sym (begun.votes ∙ ap (λ vs. votes_of journal.entries ++ vs) no_votes ∙ append-nil (votes_of journal.entries));
+          votes = sym (begun.votes ∙ ap (λ vs. votes_of journal.entries ++ vs) no_votes
+              ∙ append-nil (votes_of journal.entries));
           beside = begun.beside;
         }
       where
@@ -171,7 +201,9 @@ module _ {S L D K G C : Type 0} (bytes_of : C → List ℕ) (m : SignedMember K 
         empty_behind xs (y ∷ ys) e = absurd (omega (arith, length-append xs (y ∷ ys), e))
 
 -- a record that is stored whole
-pub stored_whole : {S L D K G C : Type 0} (bytes_of : C → List ℕ) (m : SignedMember K L D G) (all copies : List (Artifact S D K G C)) → entries_of bytes_of all ≡ m.facts.entries → votes_of all ≡ m.votes → AreCopies bytes_of all copies
+pub stored_whole : {S L D K G C : Type 0} (bytes_of : C → List ℕ) (m : SignedMember K L D G)
+    (all copies : List (Artifact S D K G C)) → entries_of bytes_of all ≡ m.facts.entries → votes_of all ≡ m.votes
+    → AreCopies bytes_of all copies
     → IsBeginningOf bytes_of m (length all) (record { entries = copies; beside = Some (stored_of m.facts) })
 stored_whole bytes_of m all copies all_entries all_votes are =
     record {
@@ -179,6 +211,7 @@ stored_whole bytes_of m all copies all_entries all_votes are =
       votes_left = [];
       entries = sym (are.0 ∙ all_entries) ∙ sym (append-nil (entries_of bytes_of copies));
       votes = sym (copied_votes bytes_of all copies are ∙ all_votes) ∙ sym (append-nil (votes_of copies));
-      count_is = sym (length-map copies (artifact_facts bytes_of)) ∙ ap length are.0 ∙ length-map all (artifact_facts bytes_of);
+      count_is = sym (length-map copies (artifact_facts bytes_of)) ∙ ap length are.0
+          ∙ length-map all (artifact_facts bytes_of);
       beside = refl;
     }

@@ -15,21 +15,25 @@ module _ {S D J K G C : Type 0} where
   pub queues_further : {a b c : Outbox S D J K G C} → QueuesMore a b → QueuesMore b c → QueuesMore a c
   queues_further {a = a} first second = record {
     more = first.more ++ second.more;
-    queue_is = second.queue_is ∙ ap (λ queue. queue ++ second.more) first.queue_is ∙ append_assoc a.queue.items first.more second.more;
+    queue_is = second.queue_is ∙ ap (λ queue. queue ++ second.more) first.queue_is
+        ∙ append_assoc a.queue.items first.more second.more;
   }
 
-  pub become_more : {more : List (Output S D J K G C)} {repeat : Option (Vote D G)} {old new : Outbox S D J K G C} → HasBecome more repeat old new → QueuesMore old new
+  pub become_more : {more : List (Output S D J K G C)} {repeat : Option (Vote D G)} {old new : Outbox S D J K G C}
+      → HasBecome more repeat old new → QueuesMore old new
   become_more {more = more} is = record { more = more; queue_is = is.queue }
 
   pub stayed_more : (old new : Outbox S D J K G C) → HasStayed old new → QueuesMore old new
   stayed_more old new is = record { more = []; queue_is = is.0 ∙ sym (append-nil old.queue.items) }
 
-  pub repeated_more : (view : ℕ) (repeat : Option (Vote D G)) (old new : Outbox S D J K G C) (sent : Bool) → IsRepeated view repeat sent old new → QueuesMore old new
+  pub repeated_more : (view : ℕ) (repeat : Option (Vote D G)) (old new : Outbox S D J K G C) (sent : Bool)
+      → IsRepeated view repeat sent old new → QueuesMore old new
   repeated_more view (Some vote) old new true is = become_more is.1
   repeated_more view (Some vote) old new false is = stayed_more old new is.1
   repeated_more view None old new sent is = stayed_more old new is.1
 
-  pub told_more : (finalized : Option (Proposal D)) (old new : Outbox S D J K G C) → IsTold finalized old new → QueuesMore old new
+  pub told_more : (finalized : Option (Proposal D)) (old new : Outbox S D J K G C) → IsTold finalized old new
+      → QueuesMore old new
   told_more None old new is = stayed_more old new is
   told_more (Some proposal) old new is = by_view (nat_lt old.told proposal.round.view) is
     where

@@ -26,20 +26,27 @@ module _ {S D J K G C : Type 0} where
   work_in-append (output.Finalized _ ∷ outs) more = work_in-append outs more
   work_in-append (output.Work it ∷ outs) more = ap (λ works. it ∷ works) (work_in-append outs more)
 
-  queued_no_work : (more : List (Output S D J K G C)) (old new : Outbox S D J K G C) → work_in more ≡ [] → new.queue.items ≡ old.queue.items ++ more → QueuesNoWork old new
+  queued_no_work : (more : List (Output S D J K G C)) (old new : Outbox S D J K G C) → work_in more ≡ []
+      → new.queue.items ≡ old.queue.items ++ more → QueuesNoWork old new
   queued_no_work more old new none is =
-      ap work_in is ∙ work_in-append old.queue.items more ∙ ap (λ works. work_in old.queue.items ++ works) none ∙ append-nil (work_in old.queue.items)
+      ap work_in is ∙ work_in-append old.queue.items more ∙ ap (λ works. work_in old.queue.items ++ works) none
+      ∙ append-nil (work_in old.queue.items)
 
   pub stayed_no_work : (old new : Outbox S D J K G C) → HasStayed old new → QueuesNoWork old new
   stayed_no_work old new is = ap work_in is.0
 
-  pub stored_no_work : (bytes_of : C → List ℕ) (fresh : List (Artifact S D K G C)) (old new : Outbox S D J K G C) → IsStored bytes_of fresh old new → QueuesNoWork old new
-  stored_no_work bytes_of fresh old new is = queued_no_work (storing is.0) old new (votes_no_work S J K C (votes_of_entries is.0.items)) is.2.queue
+  pub stored_no_work : (bytes_of : C → List ℕ) (fresh : List (Artifact S D K G C)) (old new : Outbox S D J K G C)
+      → IsStored bytes_of fresh old new → QueuesNoWork old new
+  stored_no_work bytes_of fresh old new is =
+      queued_no_work (storing is.0) old new (votes_no_work S J K C (votes_of_entries is.0.items)) is.2.queue
 
-  pub replaced_no_work : (bytes_of : C → List ℕ) (all : List (Artifact S D K G C)) (beside : J) (old new : Outbox S D J K G C) → IsReplaced bytes_of all beside old new → QueuesNoWork old new
-  replaced_no_work bytes_of all beside old new is = queued_no_work (output.Replace is.0 beside ∷ []) old new refl is.2.queue
+  pub replaced_no_work : (bytes_of : C → List ℕ) (all : List (Artifact S D K G C)) (beside : J)
+      (old new : Outbox S D J K G C) → IsReplaced bytes_of all beside old new → QueuesNoWork old new
+  replaced_no_work bytes_of all beside old new is =
+      queued_no_work (output.Replace is.0 beside ∷ []) old new refl is.2.queue
 
-  pub told_no_work : (finalized : Option (Proposal D)) (old new : Outbox S D J K G C) → IsTold finalized old new → QueuesNoWork old new
+  pub told_no_work : (finalized : Option (Proposal D)) (old new : Outbox S D J K G C) → IsTold finalized old new
+      → QueuesNoWork old new
   told_no_work None old new is = stayed_no_work old new is
   told_no_work (Some proposal) old new is = by_view (nat_lt old.told proposal.round.view) is
     where
@@ -47,7 +54,8 @@ module _ {S D J K G C : Type 0} where
       by_view true is = queued_no_work (output.Finalized proposal ∷ []) old new refl is.0
       by_view false is = stayed_no_work old new is
 
-  pub repeated_no_work : (view : ℕ) (repeat : Option (Vote D G)) (old new : Outbox S D J K G C) (sent : Bool) → IsRepeated view repeat sent old new → QueuesNoWork old new
+  pub repeated_no_work : (view : ℕ) (repeat : Option (Vote D G)) (old new : Outbox S D J K G C) (sent : Bool)
+      → IsRepeated view repeat sent old new → QueuesNoWork old new
   repeated_no_work view (Some vote) old new true is = queued_no_work (output.Vote vote ∷ []) old new refl is.1.queue
   repeated_no_work view (Some vote) old new false is = stayed_no_work old new is.1
   repeated_no_work view None old new sent is = stayed_no_work old new is.1

@@ -17,13 +17,18 @@ fails a b most = grind (arith, nat_tests)
 
 module _ {S L D K G C : Type 0} (long : ℕ) (member : Journaled S L D K G C) where
   pub overgrown_by : (x : StateFacts K L D) → Some x ≡ member.member.facts.life
-      → (nat_lt long (length member.member.facts.entries) && is_far_below member.reach (lowest_retained_after member.member.facts x) x.current) ≡ is_record_too_long long member
+      → (nat_lt long (length member.member.facts.entries) && is_far_below member.reach
+      (lowest_retained_after member.member.facts x) x.current) ≡ is_record_too_long long member
   overgrown_by x alive =
       ap (λ life. option_map_or
-      (λ (x : StateFacts K L D). nat_lt long (length member.member.facts.entries) && is_far_below member.reach (lowest_retained_after member.member.facts x) x.current) life false) alive
+      (λ (x : StateFacts K L D). nat_lt long (length member.member.facts.entries) && is_far_below member.reach
+      (lowest_retained_after member.member.facts x) x.current) life false) alive
 
-  pub short_where : is_record_too_long long member ≡ false → ReachesTo member.reach member.stored member.member.facts.entries → length member.member.facts.entries ≤ member.stored
+  pub short_where : is_record_too_long long member ≡ false
+      → ReachesTo member.reach member.stored member.member.facts.entries
+      → length member.member.facts.entries ≤ member.stored
       → IsShort long member.member.facts
   short_where is reaches whole =
       while_alive member.member.facts.life _ _
-      (λ x. short_by long member.reach member.stored (lowest_retained_after member.member.facts x) x.current member.member.facts.entries reaches whole) is
+      (λ x. short_by long member.reach member.stored (lowest_retained_after member.member.facts x) x.current
+      member.member.facts.entries reaches whole) is

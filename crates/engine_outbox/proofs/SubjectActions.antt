@@ -11,7 +11,8 @@ use Rattle.laws_safety.specs.ObservedTraces.{votes_in, certificates_in, taken_by
 use Rattle.engine_outbox.specs.SubjectActions.{IsActionOn}
 
 module _ {S D K G C : Type 0} (taken : Option (Subject D)) where
-  taken_on : (call : Call S D K G C) (answer : Reply S D K G C) → All (IsActionOn taken) (certificates_in call) → All (IsActionOn taken) (taken_by call answer)
+  taken_on : (call : Call S D K G C) (answer : Reply S D K G C) → All (IsActionOn taken) (certificates_in call)
+      → All (IsActionOn taken) (taken_by call answer)
   taken_on call (reply.Added _ _) may = may
   taken_on call (reply.AddedNullification _) may = may
   taken_on call _ may = All-nil (IsActionOn taken)
@@ -23,5 +24,7 @@ module _ {S D K G C : Type 0} (taken : Option (Subject D)) where
   votes_on _ = All-nil (IsActionOn taken)
 
   -- a call accepts no other certificate than the one that it passes
-  pub call_on : (call : Call S D K G C) (answer : Reply S D K G C) → All (IsActionOn taken) (certificates_in call) → All (IsActionOn taken) (taken_by call answer ++ votes_in answer)
-  call_on call answer may = All-append (IsActionOn taken) (taken_by call answer) (votes_in answer) (taken_on call answer may) (votes_on answer)
+  pub call_on : (call : Call S D K G C) (answer : Reply S D K G C) → All (IsActionOn taken) (certificates_in call)
+      → All (IsActionOn taken) (taken_by call answer ++ votes_in answer)
+  call_on call answer may = All-append (IsActionOn taken) (taken_by call answer) (votes_in answer)
+      (taken_on call answer may) (votes_on answer)

@@ -72,28 +72,33 @@ module _ {K L D : Type 0} (same : D → D → Bool) (elect : Elect L) where
   grows_not : (m left : MemberFacts K L D) → left.entries ≡ m.entries → GrowsByOne m left
   grows_not m left is = ([], is ∙ sym (append-nil m.entries), omega arith)
 
-  pub call_grows : (m left : MemberFacts K L D) (call : CallFacts D) (told : ReplyFacts K D) → IsCall same elect m call told left → GrowsByOne m left
+  pub call_grows : (m left : MemberFacts K L D) (call : CallFacts D) (told : ReplyFacts K D)
+      → IsCall same elect m call told left → GrowsByOne m left
   unfolding IsCall
   call_grows m left call told is_call = by_life m.life is_call
     where
       entries_now : (n : MemberFacts K L D) → left ≡ n → left.entries ≡ n.entries
       entries_now n is = ap (λ (k : MemberFacts K L D). k.entries) is
 
-      by_test : (x : StateFacts K L D) (b : Bool) (due : Option Fault) → left ≡ cond b (unless_retained due m (with_call same elect x m call)) m → GrowsByOne m left
+      by_test : (x : StateFacts K L D) (b : Bool) (due : Option Fault)
+          → left ≡ cond b (unless_retained due m (with_call same elect x m call)) m → GrowsByOne m left
       by_test x false due leaves = grows_not m left (entries_now m leaves)
       by_test x true (Some due) leaves = grows_not m left (entries_now m leaves)
-      by_test x true None leaves = (recorded_by same elect x call, entries_now (with_call same elect x m call) leaves, recorded_few x call)
+      by_test x true None leaves =
+          (recorded_by same elect x call, entries_now (with_call same elect x m call) leaves, recorded_few x call)
 
       by_life : (life : Option (StateFacts K L D)) → AnswersAlive same elect life m call told left → GrowsByOne m left
       by_life None (tells, leaves) = grows_not m left (entries_now m leaves)
       by_life (Some x) (inl (tells, leaves)) = by_test x (is_allowed x m.outstanding_work call) (fault_of x call) leaves
       by_life (Some x) (inr (allowed, tells, inl (room, leaves))) = grows_not m left (entries_now m leaves)
-      by_life (Some x) (inr (allowed, tells, inr (fault, falls, leaves))) = grows_not m left (ap (λ (k : MemberFacts K L D). k.entries) leaves)
+      by_life (Some x) (inr (allowed, tells, inr (fault, falls, leaves))) =
+          grows_not m left (ap (λ (k : MemberFacts K L D). k.entries) leaves)
 
 -- ---- parts of lists
 
 -- a part that leaves something after it is within all but the last
-before_last : {X : Type 0} (part : List X) (b : X) (bs front tail : List X) → part ++ b ∷ bs ≡ front ++ tail → length tail ≤ 1 → (rest : List X) × (front ≡ part ++ rest)
+before_last : {X : Type 0} (part : List X) (b : X) (bs front tail : List X) → part ++ b ∷ bs ≡ front ++ tail
+    → length tail ≤ 1 → (rest : List X) × (front ≡ part ++ rest)
 before_last [] b bs front tail is few = (front, refl)
 before_last (p ∷ part) b bs [] tail is few =
     let long : suc (length (part ++ b ∷ bs)) ≡ length tail = ap length is in
@@ -117,8 +122,10 @@ equal_front {X} (x ∷ xs) ys (u ∷ us) vs is long =
 
 module _ {S D K G C : Type 0} (bytes_of : C → List ℕ) where
   -- the artifacts of a front of the entries
-  split_items : (items : List (Artifact S D K G C)) (before after : List (ArtifactFacts D)) → entries_of bytes_of items ≡ before ++ after
-      → (front : List (Artifact S D K G C)) × (tail : List (Artifact S D K G C)) × (items ≡ front ++ tail) × (entries_of bytes_of front ≡ before) × (entries_of bytes_of tail ≡ after)
+  split_items : (items : List (Artifact S D K G C)) (before after : List (ArtifactFacts D))
+      → entries_of bytes_of items ≡ before ++ after
+      → (front : List (Artifact S D K G C)) × (tail : List (Artifact S D K G C)) × (items ≡ front ++ tail)
+      × (entries_of bytes_of front ≡ before) × (entries_of bytes_of tail ≡ after)
   split_items items [] after is = ([], items, refl, refl, is)
   split_items [] (e ∷ before) after is = absurd (cc)
   split_items (a ∷ items) (e ∷ before) after is =
@@ -128,7 +135,8 @@ module _ {S D K G C : Type 0} (bytes_of : C → List ℕ) where
         a ∷ it.0,
         it.1,
         ap (λ (xs : List (Artifact S D K G C)). a ∷ xs) it.2,
-        ap (λ (x : ArtifactFacts D). x ∷ entries_of bytes_of it.0) head ∙ ap (λ (xs : List (ArtifactFacts D)). e ∷ xs) it.3,
+        ap (λ (x : ArtifactFacts D). x ∷ entries_of bytes_of it.0) head
+            ∙ ap (λ (xs : List (ArtifactFacts D)). e ∷ xs) it.3,
         it.4,
       )
 
@@ -138,17 +146,20 @@ module _ {S D K G C : Type 0} (bytes_of : C → List ℕ) where
 
 module _ {D G : Type 0} where
   -- the votes after this number of first entries of a record are among all
-  pub among_last : (votes : List (SignedVote D G)) (count : ℕ) (vote : Vote D G) → Contains (votes_recorded (drop count votes)) vote → Contains (votes_recorded votes) vote
+  pub among_last : (votes : List (SignedVote D G)) (count : ℕ) (vote : Vote D G)
+      → Contains (votes_recorded (drop count votes)) vote → Contains (votes_recorded votes) vote
   among_last [] zero vote has = has
   among_last [] (suc count) vote has = has
   among_last (v ∷ votes) zero vote has = has
-  among_last (v ∷ votes) (suc count) vote has = Contains-append_right (vote_as v.vote v.signature) (votes_recorded votes) vote (among_last votes count vote has)
+  among_last (v ∷ votes) (suc count) vote has =
+      Contains-append_right (vote_as v.vote v.signature) (votes_recorded votes) vote (among_last votes count vote has)
 
 -- ---- what is reported as final writes nothing
 
 module _ {S D J K G C : Type 0} (given : List (Output S D J K G C)) (old new : Outbox S D J K G C) where
   abbrev pub WritesAlike : Type 0
-  WritesAlike = (journal_of (given ++ old.queue.items) ≡ journal_of (given ++ new.queue.items)) × (stored_in (given ++ old.queue.items) ≡ stored_in (given ++ new.queue.items))
+  WritesAlike = (journal_of (given ++ old.queue.items) ≡ journal_of (given ++ new.queue.items))
+      × (stored_in (given ++ old.queue.items) ≡ stored_in (given ++ new.queue.items))
 
   pub same_queue : new.queue.items ≡ old.queue.items → WritesAlike
   same_queue is = (ap (λ q. journal_of (given ++ q)) (sym is), ap (λ q. stored_in (given ++ q)) (sym is))
@@ -156,9 +167,11 @@ module _ {S D J K G C : Type 0} (given : List (Output S D J K G C)) (old new : O
   told_where : (p : Proposal D) (is_above : Bool) → IsPassedIf is_above p old new → WritesAlike
   told_where p true is =
       let more : List (Output S D J K G C) = output.Finalized p ∷ [] in
-      let queued : given ++ new.queue.items ≡ (given ++ old.queue.items) ++ more = ap (λ q. given ++ q) is.0 ∙ sym (append_assoc given old.queue.items more) in (
+      let queued : given ++ new.queue.items ≡ (given ++ old.queue.items) ++ more = ap (λ q. given ++ q) is.0
+      ∙ sym (append_assoc given old.queue.items more) in (
         sym (ap journal_of queued ∙ behind_others (given ++ old.queue.items) more),
-        sym (ap stored_in queued ∙ stored_in-append (given ++ old.queue.items) more ∙ append-nil (stored_in (given ++ old.queue.items))),
+        sym (ap stored_in queued ∙ stored_in-append (given ++ old.queue.items) more
+            ∙ append-nil (stored_in (given ++ old.queue.items))),
       )
   told_where p false is = same_queue is.0
 
@@ -168,61 +181,87 @@ module _ {S D J K G C : Type 0} (given : List (Output S D J K G C)) (old new : O
 
 -- ---- amid what the record has grown by
 
-module _ {S L D K G C : Type 0} (same : D → D → Bool) (elect : Elect L) (bytes_of : C → List ℕ) (term_length i : ℕ) (earlier : List (TraceEvent D)) where
+module _ {S L D K G C : Type 0} (same : D → D → Bool) (elect : Elect L) (bytes_of : C → List ℕ) (term_length i : ℕ)
+    (earlier : List (TraceEvent D)) where
   -- after other outputs that write the same
-  pub amid_alike : (all : List (TraceEvent D)) (outs others : List (Output S D Stored K G C)) (member : SignedMember K L D G) (count : ℕ) → journal_of outs ≡ journal_of others → stored_in outs ≡ stored_in others
-      → MayStopAmid same elect bytes_of term_length i earlier all outs member count → MayStopAmid same elect bytes_of term_length i earlier all others member count
+  pub amid_alike : (all : List (TraceEvent D)) (outs others : List (Output S D Stored K G C))
+      (member : SignedMember K L D G) (count : ℕ) → journal_of outs ≡ journal_of others
+      → stored_in outs ≡ stored_in others
+      → MayStopAmid same elect bytes_of term_length i earlier all outs member count
+      → MayStopAmid same elect bytes_of term_length i earlier all others member count
   amid_alike all outs others member count same_journal same_stored amid part rest entries votes =
-      stop_alike_then same elect bytes_of term_length i earlier all outs others (output.Store part) same_journal same_stored (amid part rest entries votes)
+      stop_alike_then same elect bytes_of term_length i earlier all outs others (output.Store part) same_journal
+      same_stored (amid part rest entries votes)
 
   -- where all of the record is queued
-  pub amid_none : (all : List (TraceEvent D)) (outs : List (Output S D Stored K G C)) (member : SignedMember K L D G) (count : ℕ) → length member.facts.entries ≤ count
-      → MayStopAfter same elect bytes_of term_length i earlier all outs → MayStopAmid same elect bytes_of term_length i earlier all outs member count
+  pub amid_none : (all : List (TraceEvent D)) (outs : List (Output S D Stored K G C)) (member : SignedMember K L D G)
+      (count : ℕ) → length member.facts.entries ≤ count
+      → MayStopAfter same elect bytes_of term_length i earlier all outs
+      → MayStopAmid same elect bytes_of term_length i earlier all outs member count
   amid_none all outs member count whole may part rest entries votes =
-      stop_empty same elect bytes_of term_length i earlier all outs part (no_items bytes_of part.items rest (entries ∙ drop_all count member.facts.entries whole)) may
+      stop_empty same elect bytes_of term_length i earlier all outs part
+      (no_items bytes_of part.items rest (entries ∙ drop_all count member.facts.entries whole)) may
 
   -- amid the `Store` of what it has grown by
-  pub amid_store : (all : List (TraceEvent D)) (outs : List (Output S D Stored K G C)) (member : SignedMember K L D G) (count : ℕ) (copies : Vec (Artifact S D K G C) Global)
-      → entries_of bytes_of copies.items ≡ drop count member.facts.entries → votes_of copies.items ≡ votes_since count member
-      → MayStopAmid same elect bytes_of term_length i earlier all outs member count → StopsIn same elect bytes_of term_length i earlier all outs (output.Store copies)
+  pub amid_store : (all : List (TraceEvent D)) (outs : List (Output S D Stored K G C)) (member : SignedMember K L D G)
+      (count : ℕ) (copies : Vec (Artifact S D K G C) Global)
+      → entries_of bytes_of copies.items ≡ drop count member.facts.entries
+      → votes_of copies.items ≡ votes_since count member
+      → MayStopAmid same elect bytes_of term_length i earlier all outs member count
+      → StopsIn same elect bytes_of term_length i earlier all outs (output.Store copies)
   amid_store all outs member count copies copied voted amid entries part rest is parted =
       let vecs : copies ≡ entries = cc in
-      let items : part.items ++ rest ≡ copies.items = sym parted ∙ ap (λ (v : Vec (Artifact S D K G C) Global). v.items) (sym vecs) in
+      let items : part.items ++ rest ≡ copies.items = sym parted
+      ∙ ap (λ (v : Vec (Artifact S D K G C) Global). v.items) (sym vecs) in
       amid part rest (ap (entries_of bytes_of) items ∙ copied) (ap votes_of items ∙ voted)
 
   -- a call
-  module _ (all more : List (TraceEvent D)) (outs : List (Output S D Stored K G C)) (old new : SignedMember K L D G) (count : ℕ) (begun : IsBeginningOf bytes_of old count (journal_of outs))
-      (olds : List (Artifact S D K G C)) (olds_entries : entries_of bytes_of olds ≡ old.facts.entries) (olds_votes : votes_of olds ≡ old.votes)
-      (grown : GrowsByOne old.facts new.facts) (votes : List (SignedVote D G)) (voted : new.votes ≡ old.votes ++ votes) (beside : stored_of new.facts ≡ stored_of old.facts)
-      (done : HasHistory same elect term_length i (all ++ more) new.facts) (signed : WereSigned (all ++ more) (votes_recorded new.votes))
-      (stop : MayStopAfter same elect bytes_of term_length i earlier (all ++ more) outs) (amid : MayStopAmid same elect bytes_of term_length i earlier all outs old count) where
+  module _ (all more : List (TraceEvent D)) (outs : List (Output S D Stored K G C)) (old new : SignedMember K L D G)
+      (count : ℕ) (begun : IsBeginningOf bytes_of old count (journal_of outs))
+      (olds : List (Artifact S D K G C)) (olds_entries : entries_of bytes_of olds ≡ old.facts.entries)
+      (olds_votes : votes_of olds ≡ old.votes)
+      (grown : GrowsByOne old.facts new.facts) (votes : List (SignedVote D G)) (voted : new.votes ≡ old.votes ++ votes)
+      (beside : stored_of new.facts ≡ stored_of old.facts)
+      (done : HasHistory same elect term_length i (all ++ more) new.facts)
+      (signed : WereSigned (all ++ more) (votes_recorded new.votes))
+      (stop : MayStopAfter same elect bytes_of term_length i earlier (all ++ more) outs)
+      (amid : MayStopAmid same elect bytes_of term_length i earlier all outs old count) where
     abbrev begun_now : IsBeginningOf bytes_of new count (journal_of outs)
     begun_now = still_begun bytes_of old count (journal_of outs) begun new grown.0 votes grown.1 voted beside
 
     -- all of it
-    amid_all : (part : Vec (Artifact S D K G C) Global) → entries_of bytes_of part.items ≡ drop count new.facts.entries → votes_of part.items ≡ votes_since count new
+    amid_all : (part : Vec (Artifact S D K G C) Global) → entries_of bytes_of part.items ≡ drop count new.facts.entries
+        → votes_of part.items ≡ votes_since count new
         → MayStopAfter same elect bytes_of term_length i earlier (all ++ more) (outs ++ output.Store part ∷ [])
     amid_all part entries_are votes_are =
         stop_anew same elect bytes_of term_length i earlier (all ++ more) outs (output.Store part) new stop done
-        (subst (IsRecordOf bytes_of new) (sym (behind_others outs (output.Store part ∷ []))) (with_all_behind bytes_of new count (journal_of outs) begun_now part.items entries_are votes_are))
-        (λ vote has. signed vote (among_last new.votes _ vote (subst (λ vs. Contains vs vote) (all_signed part.items ∙ ap votes_recorded votes_are) has)))
+        (subst (IsRecordOf bytes_of new) (sym (behind_others outs (output.Store part ∷ [])))
+        (with_all_behind bytes_of new count (journal_of outs) begun_now part.items entries_are votes_are))
+        (λ vote has. signed vote (among_last new.votes _ vote
+        (subst (λ vs. Contains vs vote) (all_signed part.items ∙ ap votes_recorded votes_are) has)))
 
     -- or what was there before the call
-    amid_before : (part : Vec (Artifact S D K G C) Global) (b : Artifact S D K G C) (bs : List (Artifact S D K G C)) → entries_of bytes_of (part.items ++ b ∷ bs) ≡ drop count new.facts.entries
-        → votes_of (part.items ++ b ∷ bs) ≡ votes_since count new → MayStopAfter same elect bytes_of term_length i earlier (all ++ more) (outs ++ output.Store part ∷ [])
+    amid_before : (part : Vec (Artifact S D K G C) Global) (b : Artifact S D K G C) (bs : List (Artifact S D K G C))
+        → entries_of bytes_of (part.items ++ b ∷ bs) ≡ drop count new.facts.entries
+        → votes_of (part.items ++ b ∷ bs) ≡ votes_since count new
+        → MayStopAfter same elect bytes_of term_length i earlier (all ++ more) (outs ++ output.Store part ∷ [])
     amid_before part b bs entries_are votes_are =
-        let split = split_items bytes_of (part.items ++ b ∷ bs) begun.rest grown.0 (entries_are ∙ entries_left bytes_of new count (journal_of outs) begun_now) in
+        let split = split_items bytes_of (part.items ++ b ∷ bs) begun.rest grown.0
+        (entries_are ∙ entries_left bytes_of new count (journal_of outs) begun_now) in
         let long = length-map split.1 (artifact_facts bytes_of) in
         let short = ap length split.4 in
         let few = grown.2 in
         let within = before_last part.items b bs split.0 split.1 split.2 (omega (arith, long, short, few)) in
         let joined : votes_of split.0 ++ votes_of split.1 ≡ begun.votes_left ++ votes =
-        sym (flat_map-append signed_vote split.0 split.1) ∙ ap votes_of (sym split.2) ∙ votes_are ∙ votes_behind bytes_of new count (journal_of outs) begun_now in
+        sym (flat_map-append signed_vote split.0 split.1) ∙ ap votes_of (sym split.2) ∙ votes_are
+        ∙ votes_behind bytes_of new count (journal_of outs) begun_now in
         let front_votes : votes_of split.0 ≡ begun.votes_left =
         equal_front (votes_of split.0) (votes_of split.1) begun.votes_left votes joined
-        (sym (votes_counted bytes_of split.0) ∙ ap (λ es. length (filter is_vote es)) split.3 ∙ votes_behind_counted bytes_of old count (journal_of outs) begun olds olds_entries olds_votes) in
+        (sym (votes_counted bytes_of split.0) ∙ ap (λ es. length (filter is_vote es)) split.3
+        ∙ votes_behind_counted bytes_of old count (journal_of outs) begun olds olds_entries olds_votes) in
         stop_still same elect bytes_of term_length i earlier all more (outs ++ output.Store part ∷ [])
-        (amid part within.0 (ap (entries_of bytes_of) (sym within.1) ∙ split.3 ∙ sym (entries_left bytes_of old count (journal_of outs) begun))
+        (amid part within.0 (ap (entries_of bytes_of) (sym within.1) ∙ split.3
+        ∙ sym (entries_left bytes_of old count (journal_of outs) begun))
         (ap votes_of (sym within.1) ∙ front_votes ∙ sym (votes_behind bytes_of old count (journal_of outs) begun)))
 
     pub amid_called : MayStopAmid same elect bytes_of term_length i earlier (all ++ more) outs new count

@@ -8,7 +8,8 @@ use Rattle.engine_planner.specs.PlanStates.{HasPlanned, touching, watching}
 
 module _ {S D K G C : Type 0} where
   -- the resolver receives it, and then the view is touched
-  pub taken_in : (bytes : D → List ℕ) (bytes_of : C → List ℕ) (now : ℕ) (taken : Certificate S D K G C) (old heard new : Plan S D K G C)
+  pub taken_in : (bytes : D → List ℕ) (bytes_of : C → List ℕ) (now : ℕ) (taken : Certificate S D K G C)
+      (old heard new : Plan S D K G C)
       → heard ≡ record old { repair = heard.repair } → IsResolverNotified bytes bytes_of now taken old heard.repair
       → HasPlanned (touching (certificate_view taken)) (watching heard) new → IsTakenIn bytes bytes_of now taken old new
   taken_in bytes bytes_of now taken old heard new same hears planned =
@@ -16,6 +17,7 @@ module _ {S D K G C : Type 0} where
       record {
         heard = subst (IsResolverNotified bytes bytes_of now taken old) (sym kept) hears;
         planned =
-            subst (λ r. HasPlanned (touching (certificate_view taken)) (watching (record old { repair = r })) new) (sym kept)
+            subst (λ r. HasPlanned (touching (certificate_view taken)) (watching (record old { repair = r })) new)
+            (sym kept)
             (subst (λ p. HasPlanned (touching (certificate_view taken)) (watching p) new) same planned);
       }

@@ -53,37 +53,47 @@ use Rattle.engine_planner.proofs.Causes.{among_each, among_last, among_none, ask
 -- ---- other views
 
 module _ {S D K G C : Type 0} where
-  passed_repair : (b : Bool) (finalized : ℕ) (old new : Repair) → IsPassedWhere b finalized old new → AreAmong {A = Cause S D K G C} (of_repair new) (of_repair old)
+  passed_repair : (b : Bool) (finalized : ℕ) (old new : Repair) → IsPassedWhere b finalized old new
+      → AreAmong {A = Cause S D K G C} (of_repair new) (of_repair old)
   passed_repair true finalized old new is = repair_left (λ (f : Fetch). nat_lt finalized f.view) is
   passed_repair false finalized old new is = among_all (ap of_repair is)
 
-  offered : (view : ℕ) (early : List (Early D)) → AreAmong {A = Cause S D K G C} (of_steps (offering view early)) (of_early early)
+  offered : (view : ℕ) (early : List (Early D))
+      → AreAmong {A = Cause S D K G C} (of_steps (offering view early)) (of_early early)
   offered view [] = among_still []
   offered view (it ∷ early) =
       among_further (among_all (of_steps-append (offering_one view it) (offering view early)))
       (among_both (one (nat_le it.view view)) (offered view early))
     where
-      one : (b : Bool) → AreAmong {A = Cause S D K G C} (of_steps (cond b (step.Offer it.from it.proposal ∷ []) [])) (Arrival it.from it.proposal ∷ [])
+      one : (b : Bool) → AreAmong {A = Cause S D K G C} (of_steps (cond b (step.Offer it.from it.proposal ∷ []) []))
+          (Arrival it.from it.proposal ∷ [])
       one true = among_still (Arrival it.from it.proposal ∷ [])
       one false = among_none (Arrival it.from it.proposal ∷ [])
 
-  early_left : (keep : Early D → Bool) (early : List (Early D)) → AreAmong {A = Cause S D K G C} (of_early (filter keep early)) (of_early early)
+  early_left : (keep : Early D → Bool) (early : List (Early D))
+      → AreAmong {A = Cause S D K G C} (of_early (filter keep early)) (of_early early)
   early_left keep [] = among_still []
   early_left keep (it ∷ early) = by_test (keep it) (early_left keep early)
     where
       by_test : (t : Bool) → AreAmong {A = Cause S D K G C} (of_early (filter keep early)) (of_early early)
-          → AreAmong {A = Cause S D K G C} (of_early (cond t (it ∷ filter keep early) (filter keep early))) (of_early (it ∷ early))
+          → AreAmong {A = Cause S D K G C} (of_early (cond t (it ∷ filter keep early) (filter keep early)))
+          (of_early (it ∷ early))
       by_test true left = among_both (among_still (Arrival it.from it.proposal ∷ [])) left
       by_test false left = among_further left (among_last (Arrival it.from it.proposal ∷ []) (of_early early))
 
-  entered_on : (view : ℕ) (old new : Plan S D K G C) → HasEntered view old new → AreAmong (planned_causes new) (planned_causes old)
+  entered_on : (view : ℕ) (old new : Plan S D K G C) → HasEntered view old new
+      → AreAmong (planned_causes new) (planned_causes old)
   entered_on view old new is =
       each_part new
-      (more_steps old new (touching view ++ (asking ++ offers)) (is.steps ∙ append_assoc (old.steps.items ++ touching view) asking offers ∙ append_assoc old.steps.items (touching view) (asking ++ offers)) (among_still (planned_causes old))
+      (more_steps old new (touching view ++ (asking ++ offers))
+      (is.steps ∙ append_assoc (old.steps.items ++ touching view) asking offers
+      ∙ append_assoc old.steps.items (touching view) (asking ++ offers)) (among_still (planned_causes old))
       (among_further (among_all (of_steps-append (touching view) (asking ++ offers) ∙ of_steps-append asking offers))
-      (among_each (among_further (asking_all view builds) (in_blocks old)) (among_further (offered view early) (in_early old)))))
+      (among_each (among_further (asking_all view builds) (in_blocks old))
+      (among_further (offered view early) (in_early old)))))
       (among_further (among_all (ap of_blocks is.blocks ∙ told_blocks view builds)) (in_blocks old))
-      (among_further (among_all (ap of_early is.early)) (among_further (early_left (λ (e : Early D). nat_lt view e.view) early) (in_early old)))
+      (among_further (among_all (ap of_early is.early))
+      (among_further (early_left (λ (e : Early D). nat_lt view e.view) early) (in_early old)))
       (still_fetches old new (ap (λ (p : Plan S D K G C). p.repair) is.same))
     where
       builds : List (Building D K)
@@ -98,15 +108,20 @@ module _ {S D K G C : Type 0} where
       offers : List (Step S D K G C)
       offers = offering view early
 
-  entered_where : (b : Bool) (view : ℕ) (old new : Plan S D K G C) → HasEnteredWhere b view old new → AreAmong (planned_causes new) (planned_causes old)
+  entered_where : (b : Bool) (view : ℕ) (old new : Plan S D K G C) → HasEnteredWhere b view old new
+      → AreAmong (planned_causes new) (planned_causes old)
   entered_where true view old new is = entered_on view old new is
   entered_where false view old new is = same_plan is
 
-  pub seen_alone : (views : Views) (old new : Plan S D K G C) → HasSeen views old new → AreAmong (planned_causes new) (planned_causes old)
+  pub seen_alone : (views : Views) (old new : Plan S D K G C) → HasSeen views old new
+      → AreAmong (planned_causes new) (planned_causes old)
   seen_alone views old new is =
-      among_further (entered_where (not (old.views.current == views.current)) views.current (record old { views = views; repair = new.repair }) new is.entered)
-      (each_part (record old { views = views; repair = new.repair }) (among_further (among_still (of_steps old.steps.items)) (in_steps old)) (in_blocks old) (in_early old)
-      (among_further (passed_repair (nat_lt old.views.last_finalized views.last_finalized) views.last_finalized old.repair new.repair is.passed) (in_fetches old)))
+      among_further (entered_where (not (old.views.current == views.current)) views.current
+      (record old { views = views; repair = new.repair }) new is.entered)
+      (each_part (record old { views = views; repair = new.repair })
+      (among_further (among_still (of_steps old.steps.items)) (in_steps old)) (in_blocks old) (in_early old)
+      (among_further (passed_repair (nat_lt old.views.last_finalized views.last_finalized) views.last_finalized
+      old.repair new.repair is.passed) (in_fetches old)))
 
   -- ---- the next step
 
@@ -114,47 +129,63 @@ module _ {S D K G C : Type 0} where
   asked_of_peer None = refl
   asked_of_peer (Some ask) = refl
 
-  watched_none : (current : ℕ) (builds : List (Building D K)) → of_steps {S = S} {D = D} {K = K} {G = G} {C = C} (watching_all current builds) ≡ []
+  watched_none : (current : ℕ) (builds : List (Building D K))
+      → of_steps {S = S} {D = D} {K = K} {G = G} {C = C} (watching_all current builds) ≡ []
   watched_none current [] = refl
   watched_none current (b ∷ builds) = one (nat_lt b.context.round.view current) ∙ watched_none current builds
     where
-      one : (t : Bool) → of_task {S = S} {D = D} {K = K} {G = G} {C = C} (cond t (task.ReleaseProposalRequest b.context.round.view) (task.PendingHandoffAbandonment b.context.round.view)) ++ of_steps (watching_all current builds) ≡ of_steps (watching_all current builds)
+      one : (t : Bool) → of_task {S = S} {D = D} {K = K} {G = G} {C = C}
+          (cond t (task.ReleaseProposalRequest b.context.round.view)
+          (task.PendingHandoffAbandonment b.context.round.view)) ++ of_steps (watching_all current builds) ≡ of_steps
+          (watching_all current builds)
       one true = refl
       one false = refl
 
-  watched_where : (b : Bool) (current : ℕ) (builds : List (Building D K)) → of_steps {S = S} {D = D} {K = K} {G = G} {C = C} (watching_where b current builds) ≡ []
+  watched_where : (b : Bool) (current : ℕ) (builds : List (Building D K))
+      → of_steps {S = S} {D = D} {K = K} {G = G} {C = C} (watching_where b current builds) ≡ []
   watched_where true current builds = watched_none current builds
   watched_where false current builds = refl
 
   module _ (now : ℕ) where
-    fetch_asked : (old new : Plan S D K G C) → IsFetchAsked now old new → AreAmong (planned_causes new) (planned_causes old)
+    fetch_asked : (old new : Plan S D K G C) → IsFetchAsked now old new
+        → AreAmong (planned_causes new) (planned_causes old)
     fetch_asked old new is =
         among_further (planned_alone (asked_of_peer is.ask) is.planned)
         (among_further (fetches_alone old (record old { repair = new.repair }) [] refl
-        (among_further (no_other old.repair.resolver.open_fetches new.repair.resolver.open_fetches old.repair.fetches.wanted.items new.repair.fetches.wanted.items (λ kind view is_open unwanted.
-        (sym (open_asked now old.repair.fetches new.repair.fetches is.ask is.asked kind view) ∙ is_open, ap (λ (r : LawfulResolverFacts). wants r.open_fetches kind view) (sym is.resolver) ∙ unwanted)))
-        (among_further (in_fetches old) (among_more (planned_causes old) [])))) (among_all (append-nil (planned_causes old))))
+        (among_further (no_other old.repair.resolver.open_fetches new.repair.resolver.open_fetches
+        old.repair.fetches.wanted.items new.repair.fetches.wanted.items (λ kind view is_open unwanted. (
+          sym (open_asked now old.repair.fetches new.repair.fetches is.ask is.asked kind view) ∙ is_open,
+          ap (λ (r : LawfulResolverFacts). wants r.open_fetches kind view) (sym is.resolver) ∙ unwanted,
+        )))
+        (among_further (in_fetches old) (among_more (planned_causes old) []))))
+        (among_all (append-nil (planned_causes old))))
 
-    prune_asked : (b : Bool) (old new : Plan S D K G C) → IsPruneAsked b now old new → AreAmong (planned_causes new) (planned_causes old)
+    prune_asked : (b : Bool) (old new : Plan S D K G C) → IsPruneAsked b now old new
+        → AreAmong (planned_causes new) (planned_causes old)
     prune_asked true old new is = planned_alone refl is
     prune_asked false old new is = fetch_asked old new is
 
-    timeout_asked : (b : Bool) (old new : Plan S D K G C) → IsTimeoutAsked b now old new → AreAmong (planned_causes new) (planned_causes old)
+    timeout_asked : (b : Bool) (old new : Plan S D K G C) → IsTimeoutAsked b now old new
+        → AreAmong (planned_causes new) (planned_causes old)
     timeout_asked true old new is = planned_alone refl is
     timeout_asked false old new is = prune_asked old.is_prune_due old new is
 
-    watched_on : (steps : List (Step S D K G C)) → of_steps steps ≡ [] → (old new : Plan S D K G C) → AreWatched steps now old new → AreAmong (planned_causes new) (planned_causes old)
+    watched_on : (steps : List (Step S D K G C)) → of_steps steps ≡ [] → (old new : Plan S D K G C)
+        → AreWatched steps now old new → AreAmong (planned_causes new) (planned_causes old)
     watched_on [] none old new is = timeout_asked old.is_timeout_due old new is
     watched_on (step ∷ steps) none old new is = planned_alone none is
 
-    ready_on : (steps : List (Step S D K G C)) (old ready : Plan S D K G C) → IsReady steps now old ready → AreAmong (planned_causes ready) (planned_causes old)
+    ready_on : (steps : List (Step S D K G C)) (old ready : Plan S D K G C) → IsReady steps now old ready
+        → AreAmong (planned_causes ready) (planned_causes old)
     ready_on [] old ready is =
-        watched_on (watching_where old.is_watch_due old.views.current old.builds.buildings.items) (watched_where old.is_watch_due old.views.current old.builds.buildings.items)
+        watched_on (watching_where old.is_watch_due old.views.current old.builds.buildings.items)
+        (watched_where old.is_watch_due old.views.current old.builds.buildings.items)
         (record old { is_watch_due = false }) ready is
     ready_on (step ∷ steps) old ready is = same_plan is
 
     -- the step that is taken, and what is left, were at hand
-    pub taken_alone : (step : Option (Step S D K G C)) (old new : Plan S D K G C) → HasTaken now step old new → AreAmong (of_steps (option_to_list step) ++ planned_causes new) (planned_causes old)
+    pub taken_alone : (step : Option (Step S D K G C)) (old new : Plan S D K G C) → HasTaken now step old new
+        → AreAmong (of_steps (option_to_list step) ++ planned_causes new) (planned_causes old)
     taken_alone step old new taken =
         among_further
         (among_each (among_further (among_more (of_steps (option_to_list step)) (of_steps new.steps.items)) front)
@@ -165,28 +196,38 @@ module _ {S D K G C : Type 0} where
         (ready_on old.steps.items old taken.ready taken.is_ready)
       where
         front : AreAmong (of_steps (option_to_list step) ++ of_steps new.steps.items) (planned_causes taken.ready)
-        front = among_further (among_all (sym (ap of_steps taken.taken ∙ of_steps-append (option_to_list step) new.steps.items))) (in_steps taken.ready)
+        front = among_further (among_all (sym
+            (ap of_steps taken.taken ∙ of_steps-append (option_to_list step) new.steps.items))) (in_steps taken.ready)
 
   -- ---- answers
 
   abbrev Gives : List (Cause S D K G C) → Plan S D K G C → Plan S D K G C → Type 0
   Gives more old new = AreAmong (planned_causes new) (planned_causes old ++ more)
 
-  pub gives_anyway : (old new : Plan S D K G C) (more : List (Cause S D K G C)) → AreAmong (planned_causes new) (planned_causes old) → Gives more old new
+  pub gives_anyway : (old new : Plan S D K G C) (more : List (Cause S D K G C))
+      → AreAmong (planned_causes new) (planned_causes old) → Gives more old new
   gives_anyway old new more is = among_further is (among_more (planned_causes old) more)
 
-  ended : (view : ℕ) (old new : Plan S D K G C) → IsEnded view old new → AreAmong (planned_causes new) (planned_causes old)
+  ended : (view : ℕ) (old new : Plan S D K G C) → IsEnded view old new
+      → AreAmong (planned_causes new) (planned_causes old)
   ended view old new is =
-      each_part new (among_further (among_all (ap (λ (p : Plan S D K G C). of_steps p.steps.items) is.same)) (in_steps old))
-      (among_further (among_all (ap of_blocks is.blocks)) (among_further (blocks_left (λ (b : Building D K). not (b.context.round.view == view)) old.builds.buildings.items) (in_blocks old)))
+      each_part new
+      (among_further (among_all (ap (λ (p : Plan S D K G C). of_steps p.steps.items) is.same)) (in_steps old))
+      (among_further (among_all (ap of_blocks is.blocks))
+      (among_further (blocks_left (λ (b : Building D K). not (b.context.round.view == view))
+      old.builds.buildings.items) (in_blocks old)))
       (still_early old new (ap (λ (p : Plan S D K G C). p.early) is.same))
       (still_fetches old new (ap (λ (p : Plan S D K G C). p.repair) is.same))
 
-  left_blocks : (view : ℕ) (plan : Plan S D K G C) → AreAmong (of_blocks (all_but_at view plan.builds.buildings.items)) (planned_causes plan)
-  left_blocks view plan = among_further (blocks_left (λ (b : Building D K). not (b.context.round.view == view)) plan.builds.buildings.items) (in_blocks plan)
+  left_blocks : (view : ℕ) (plan : Plan S D K G C)
+      → AreAmong (of_blocks (all_but_at view plan.builds.buildings.items)) (planned_causes plan)
+  left_blocks view plan = among_further (blocks_left (λ (b : Building D K). not (b.context.round.view == view))
+      plan.builds.buildings.items) (in_blocks plan)
 
-  stopped : (view : ℕ) (old new : Plan S D K G C) → IsStopped view old new → AreAmong (planned_causes new) (planned_causes old)
-  stopped view old new is = built is (among_still (planned_causes old)) (among_further (stopping_of view old.builds.buildings.items) (in_blocks old)) (left_blocks view old)
+  stopped : (view : ℕ) (old new : Plan S D K G C) → IsStopped view old new
+      → AreAmong (planned_causes new) (planned_causes old)
+  stopped view old new is = built is (among_still (planned_causes old))
+      (among_further (stopping_of view old.builds.buildings.items) (in_blocks old)) (left_blocks view old)
 
   -- of what follows a call of the engine's own accord alone may be
   abbrev of_consequence : Consequence D → List (Cause S D K G C)
@@ -205,7 +246,8 @@ module _ {S D K G C : Type 0} where
   stopped_where true view = refl
   stopped_where false view = refl
 
-  asked_where : (b : Bool) (view : ℕ) → of_task {S = S} {D = D} {K = K} {G = G} {C = C} (cond b (task.ReleaseProposalRequest view) (task.SupersedeProposalRequest view)) ≡ []
+  asked_where : (b : Bool) (view : ℕ) → of_task {S = S} {D = D} {K = K} {G = G} {C = C}
+      (cond b (task.ReleaseProposalRequest view) (task.SupersedeProposalRequest view)) ≡ []
   asked_where true view = refl
   asked_where false view = refl
 
@@ -281,117 +323,160 @@ module _ {S D K G C : Type 0} where
   watch_plain task.NextTimeout is_abandoned = refl
   watch_plain task.Prune is_abandoned = refl
 
-  consequence : (what : Consequence D) (old new : Plan S D K G C) → of_consequence what ≡ [] → IsConsequence what old new → AreAmong (planned_causes new) (planned_causes old)
+  consequence : (what : Consequence D) (old new : Plan S D K G C) → of_consequence what ≡ []
+      → IsConsequence what old new → AreAmong (planned_causes new) (planned_causes old)
   consequence Nothing old new own is = same_plan is
   consequence (Touched view) old new own is = planned_alone {old = watching old} refl is
-  consequence (Built view) old new own is = built {old = watching old} is (among_still (planned_causes old)) (among_none (planned_causes old)) (left_blocks view old)
+  consequence (Built view) old new own is =
+      built {old = watching old} is (among_still (planned_causes old)) (among_none (planned_causes old))
+      (left_blocks view old)
   consequence (Stopped view) old new own is = stopped view old new is
   consequence (Ended view) old new own is = ended view old new is
   consequence (Asked call) old new own is = planned_alone (ap (λ causes. causes ++ []) own) is
 
-  verify_on : (now : ℕ) (answer : Verify D K) (asked : CallFacts D) (old new : Plan S D K G C) → IsVerifyFollowed answer old new → Gives (reply_causes now (reply.Work answer) asked) old new
+  verify_on : (now : ℕ) (answer : Verify D K) (asked : CallFacts D) (old new : Plan S D K G C)
+      → IsVerifyFollowed answer old new → Gives (reply_causes now (reply.Work answer) asked) old new
   verify_on now (verify.Ready context proposal) asked old new is = planned_more is
-  verify_on now (verify.Resolve proposal view kind target) asked old new is = by_test (is_fetch_open (fetch_kind kind) view old.repair.fetches.wanted.items) is
+  verify_on now (verify.Resolve proposal view kind target) asked old new is =
+      by_test (is_fetch_open (fetch_kind kind) view old.repair.fetches.wanted.items) is
     where
-      by_test : (b : Bool) → HasPlanned (cond b [] (step.Resolve (fetch_kind kind) view proposal ∷ [])) old new → Gives (MissingCertificate (fetch_kind kind) view ∷ []) old new
+      by_test : (b : Bool) → HasPlanned (cond b [] (step.Resolve (fetch_kind kind) view proposal ∷ [])) old new
+          → Gives (MissingCertificate (fetch_kind kind) view ∷ []) old new
       by_test true is = gives_anyway old new (MissingCertificate (fetch_kind kind) view ∷ []) (planned_alone refl is)
       by_test false is = planned_more is
   verify_on now verify.Wait asked old new is = gives_anyway old new [] (same_plan is)
 
-  block_on : (is_reported : Bool) (request : ProposalRequest D K) (old new : Plan S D K G C) → IsBuilt is_reported (request_context request) old new → Gives (of_block (request_context request)) old new
+  block_on : (is_reported : Bool) (request : ProposalRequest D K) (old new : Plan S D K G C)
+      → IsBuilt is_reported (request_context request) old new → Gives (of_block (request_context request)) old new
   block_on is_reported request old new is =
       let context = request_context request in
       let more = of_block context in
-      built is (among_more (planned_causes old) more) (among_further (asking_of context is_reported) (among_last (planned_causes old) more))
-      (among_further (among_all (of_blocks-append (all_but_at context.round.view old.builds.buildings.items) (record { context = context; is_reported = is_reported } ∷ [])))
+      built is (among_more (planned_causes old) more)
+      (among_further (asking_of context is_reported) (among_last (planned_causes old) more))
+      (among_further (among_all (of_blocks-append (all_but_at context.round.view old.builds.buildings.items)
+      (record { context = context; is_reported = is_reported } ∷ [])))
       (among_both (left_blocks context.round.view old) (among_all (append-nil more))))
 
-  request_on : (now : ℕ) (request : Option (ProposalRequest D K)) (asked : CallFacts D) (old new : Plan S D K G C) → IsRequestFollowed request old new
+  request_on : (now : ℕ) (request : Option (ProposalRequest D K)) (asked : CallFacts D) (old new : Plan S D K G C)
+      → IsRequestFollowed request old new
       → Gives (reply_causes now (reply.Request request) asked) old new
   request_on now None asked old new is = gives_anyway old new [] (same_plan is)
-  request_on now (Some (Prepare context)) asked old new is = block_on (not (waits old.is_alone old.views.current context)) (Prepare context) old new is
+  request_on now (Some (Prepare context)) asked old new is =
+      block_on (not (waits old.is_alone old.views.current context)) (Prepare context) old new is
   request_on now (Some (Propose context)) asked old new is = block_on true (Propose context) old new is
 
-  broadcast_on : (now : ℕ) (answer : Option (Certificate S D K G C)) (asked : CallFacts D) (old new : Plan S D K G C) → IsBroadcastFollowed answer old new
+  broadcast_on : (now : ℕ) (answer : Option (Certificate S D K G C)) (asked : CallFacts D) (old new : Plan S D K G C)
+      → IsBroadcastFollowed answer old new
       → Gives (reply_causes now (reply.Certificate answer) asked) old new
   broadcast_on now None asked old new is = gives_anyway old new [] (same_plan is)
   broadcast_on now (Some certificate) asked old new is = planned_more is
 
-  offers_of : (proposals : List (Proposal D)) → of_steps {S = S} {K = K} {G = G} {C = C} (certifying proposals) ≡ map (λ p. WorkItem (work.Certify p)) proposals
+  offers_of : (proposals : List (Proposal D))
+      → of_steps {S = S} {K = K} {G = G} {C = C} (certifying proposals) ≡ map (λ p. WorkItem (work.Certify p)) proposals
   offers_of [] = refl
   offers_of (p ∷ proposals) = ap (λ rest. WorkItem (work.Certify p) ∷ rest) (offers_of proposals)
 
-  candidates_on : (now : ℕ) (proposals : List (Proposal D)) (wanted : List CertificateFetch) (old new : Plan S D K G C) → AreCertified now proposals wanted old new
-      → Gives (map (λ p. WorkItem (work.Certify p)) proposals ++ map (λ (it : CertificateFetch). MissingCertificate fetch.Notarization it.view) wanted) old new
+  candidates_on : (now : ℕ) (proposals : List (Proposal D)) (wanted : List CertificateFetch) (old new : Plan S D K G C)
+      → AreCertified now proposals wanted old new
+      → Gives (map (λ p. WorkItem (work.Certify p)) proposals ++ map
+      (λ (it : CertificateFetch). MissingCertificate fetch.Notarization it.view) wanted) old new
   candidates_on now proposals wanted old new is =
       let offers : List (Cause S D K G C) = map (λ p. WorkItem (work.Certify p)) proposals in
-      let lacks : List (Cause S D K G C) = map (λ (it : CertificateFetch). MissingCertificate fetch.Notarization it.view) wanted in
+      let lacks : List (Cause S D K G C) = map
+      (λ (it : CertificateFetch). MissingCertificate fetch.Notarization it.view) wanted in
       let before = among_more (planned_causes old) (offers ++ lacks) in
       each_part new
-      (more_steps old new (certifying proposals) is.steps before (among_further (among_all (offers_of proposals)) (among_further (among_more offers lacks) (among_last (planned_causes old) (offers ++ lacks)))))
+      (more_steps old new (certifying proposals) is.steps before
+      (among_further (among_all (offers_of proposals))
+      (among_further (among_more offers lacks) (among_last (planned_causes old) (offers ++ lacks)))))
       (among_further (still_blocks old new (ap (λ (p : Plan S D K G C). p.builds) is.same)) before)
       (among_further (still_early old new (ap (λ (p : Plan S D K G C). p.early) is.same)) before)
       (among_further (among_all (ap (of_fetches new.repair.resolver.open_fetches) is.fetched.fetches_now
-      ∙ ap (λ (r : LawfulResolverFacts). of_fetches r.open_fetches (fetching now wanted old.repair.fetches.wanted.items)) is.fetched.resolver))
+      ∙ ap (λ (r : LawfulResolverFacts). of_fetches r.open_fetches
+      (fetching now wanted old.repair.fetches.wanted.items)) is.fetched.resolver))
       (among_further (notarizations old.repair.resolver.open_fetches now wanted old.repair.fetches.wanted.items)
-      (among_each (among_further (in_fetches old) before) (among_further (among_last offers lacks) (among_last (planned_causes old) (offers ++ lacks))))))
+      (among_each (among_further (in_fetches old) before)
+      (among_further (among_last offers lacks) (among_last (planned_causes old) (offers ++ lacks))))))
 
   -- the resolver received it
-  told_fetches : {moment : ℕ} {call : Call} {old new : Repair} → IsRepaired moment call old new → AreAmong {A = Cause S D K G C} (of_repair new) (of_repair old)
+  told_fetches : {moment : ℕ} {call : Call} {old new : Repair} → IsRepaired moment call old new
+      → AreAmong {A = Cause S D K G C} (of_repair new) (of_repair old)
   told_fetches {moment = moment} {call = call} {old = old} {new = new} is =
       let es = effects old.resolver.state call in
       among_further (among_all (ap (of_fetches new.resolver.open_fetches) is.fetches_now))
-      (no_other old.resolver.open_fetches new.resolver.open_fetches old.fetches.wanted.items (after_effects moment es old.fetches.wanted.items)
-      (opens_after moment old.resolver.open_fetches new.resolver.open_fetches es old.fetches.wanted.items is.made.applied))
+      (no_other old.resolver.open_fetches new.resolver.open_fetches old.fetches.wanted.items
+      (after_effects moment es old.fetches.wanted.items)
+      (opens_after moment old.resolver.open_fetches new.resolver.open_fetches es old.fetches.wanted.items
+      is.made.applied))
 
-  pub repaired_alone : (old new : Plan S D K G C) → new ≡ record old { repair = new.repair } → AreAmong {A = Cause S D K G C} (of_repair new.repair) (of_repair old.repair) → AreAmong (planned_causes new) (planned_causes old)
+  pub repaired_alone : (old new : Plan S D K G C) → new ≡ record old { repair = new.repair }
+      → AreAmong {A = Cause S D K G C} (of_repair new.repair) (of_repair old.repair)
+      → AreAmong (planned_causes new) (planned_causes old)
   repaired_alone old new is fetches =
-      among_further (fetches_alone old new [] is (among_further fetches (among_further (in_fetches old) (among_more (planned_causes old) [])))) (among_all (append-nil (planned_causes old)))
+      among_further (fetches_alone old new [] is
+      (among_further fetches (among_further (in_fetches old) (among_more (planned_causes old) []))))
+      (among_all (append-nil (planned_causes old)))
 
   module _ (bytes : D → List ℕ) (bytes_of : C → List ℕ) (now : ℕ) where
-    verdict_above : (b is_success : Bool) (notarization : Notarization S D K G C) (old new : Plan S D K G C) → IsVerdictReportedAbove bytes bytes_of now b is_success notarization old new
+    verdict_above : (b is_success : Bool) (notarization : Notarization S D K G C) (old new : Plan S D K G C)
+        → IsVerdictReportedAbove bytes bytes_of now b is_success notarization old new
         → AreAmong (planned_causes new) (planned_causes old)
     verdict_above true is_success notarization old new is = same_plan is
     verdict_above false is_success notarization old new is =
         among_further (planned_alone {old = watching (record old { repair = new.repair })} refl is.planned)
         (repaired_alone old (record old { repair = new.repair }) refl (told_fetches is.repaired))
 
-    verdict_on : (is_success : Bool) (notarization : Option (Notarization S D K G C)) (old new : Plan S D K G C) → IsVerdictFollowed bytes bytes_of now is_success notarization old new
+    verdict_on : (is_success : Bool) (notarization : Option (Notarization S D K G C)) (old new : Plan S D K G C)
+        → IsVerdictFollowed bytes bytes_of now is_success notarization old new
         → AreAmong (planned_causes new) (planned_causes old)
     verdict_on is_success None old new is = same_plan is
-    verdict_on is_success (Some notarization) old new is = verdict_above (notarization.proposal.round.view == 0) is_success notarization old new is
+    verdict_on is_success (Some notarization) old new is =
+        verdict_above (notarization.proposal.round.view == 0) is_success notarization old new is
 
-    nullify_on : (answer : Option (Bool × Nullify S K G C)) (old new : Plan S D K G C) → IsNullifyFollowed now answer old new → AreAmong (planned_causes new) (planned_causes old)
+    nullify_on : (answer : Option (Bool × Nullify S K G C)) (old new : Plan S D K G C)
+        → IsNullifyFollowed now answer old new → AreAmong (planned_causes new) (planned_causes old)
     nullify_on None old new is = among_all (ap planned_causes is)
     nullify_on (Some (true, vote)) old new is = planned_alone refl is
     nullify_on (Some (false, vote)) old new is = planned_alone refl is
 
-    timeout_on : (moment : ℕ) (reason : TimeoutReason) (asked : CallFacts D) (old new : Plan S D K G C) → IsTimeoutFollowed now moment reason old new
+    timeout_on : (moment : ℕ) (reason : TimeoutReason) (asked : CallFacts D) (old new : Plan S D K G C)
+        → IsTimeoutFollowed now moment reason old new
         → Gives (reply_causes now (reply.Timeout moment reason) asked) old new
     timeout_on moment reason asked old new is = by_test (nat_le moment now) is
       where
-        by_test : (b : Bool) → HasPlanned (cond b (step.Ask (task.ConstructNullify old.views.current reason) ∷ []) []) (record old { timeout = moment }) new
+        by_test : (b : Bool) → HasPlanned (cond b (step.Ask (task.ConstructNullify old.views.current reason) ∷ []) [])
+            (record old { timeout = moment }) new
             → Gives (cond b (Expiry ∷ []) []) old new
         by_test true is = planned_more {old = record old { timeout = moment }} is
         by_test false is = planned_more {old = record old { timeout = moment }} is
 
     -- the answer to a task is followed
-    pub followed_by : (asked : Task D) (call : CallFacts D) (answer : Reply S D K G C) (old new : Plan S D K G C) → IsFollowed bytes bytes_of now asked answer old new
+    pub followed_by : (asked : Task D) (call : CallFacts D) (answer : Reply S D K G C) (old new : Plan S D K G C)
+        → IsFollowed bytes bytes_of now asked answer old new
         → Gives (reply_causes now answer call) old new
-    followed_by asked call (reply.Flag is_taken) old new is = gives_anyway old new [] (consequence (after_flag asked is_taken) old new (flag_plain asked is_taken) is)
-    followed_by asked call (reply.Triggered is_latched) old new is = gives_anyway old new [] (consequence (after_flag asked is_latched) old new (flag_plain asked is_latched) is)
-    followed_by asked call (reply.Released was_open) old new is = gives_anyway old new [] (consequence (after_flag asked was_open) old new (flag_plain asked was_open) is)
-    followed_by asked call (reply.Abandoned reason) old new is = gives_anyway old new [] (consequence (after_watch asked (is_some reason)) old new (watch_plain asked (is_some reason)) is)
+    followed_by asked call (reply.Flag is_taken) old new is =
+        gives_anyway old new [] (consequence (after_flag asked is_taken) old new (flag_plain asked is_taken) is)
+    followed_by asked call (reply.Triggered is_latched) old new is =
+        gives_anyway old new [] (consequence (after_flag asked is_latched) old new (flag_plain asked is_latched) is)
+    followed_by asked call (reply.Released was_open) old new is =
+        gives_anyway old new [] (consequence (after_flag asked was_open) old new (flag_plain asked was_open) is)
+    followed_by asked call (reply.Abandoned reason) old new is =
+        gives_anyway old new []
+        (consequence (after_watch asked (is_some reason)) old new (watch_plain asked (is_some reason)) is)
     followed_by asked call (reply.Work answer) old new is = verify_on now answer call old new is
     followed_by asked call (reply.Request request) old new is = request_on now request call old new is
-    followed_by asked call (reply.Candidates proposals wanted) old new is = candidates_on now proposals.items wanted.items old new is
-    followed_by asked call (reply.Certified is_success notarization) old new is = gives_anyway old new [] (verdict_on is_success notarization old new is)
+    followed_by asked call (reply.Candidates proposals wanted) old new is =
+        candidates_on now proposals.items wanted.items old new is
+    followed_by asked call (reply.Certified is_success notarization) old new is =
+        gives_anyway old new [] (verdict_on is_success notarization old new is)
     followed_by asked call (reply.Nullify answer) old new is = gives_anyway old new [] (nullify_on answer old new is)
     followed_by asked call (reply.Certificate answer) old new is = broadcast_on now answer call old new is
     followed_by asked call (reply.Timeout moment reason) old new is = timeout_on moment reason call old new is
-    followed_by asked call reply.NotAllowed old new is = gives_anyway old new [] (consequence (after_refusal asked) old new (refusal_plain asked) is)
+    followed_by asked call reply.NotAllowed old new is =
+        gives_anyway old new [] (consequence (after_refusal asked) old new (refusal_plain asked) is)
     followed_by asked call (reply.Added is_new None) old new is = gives_anyway old new [] (same_plan is)
-    followed_by asked call (reply.Added is_new (Some leader)) old new is = gives_anyway old new (shown_by call leader) (same_plan is)
+    followed_by asked call (reply.Added is_new (Some leader)) old new is =
+        gives_anyway old new (shown_by call leader) (same_plan is)
     followed_by asked call (reply.AddedNullification is_new) old new is = gives_anyway old new [] (same_plan is)
     followed_by asked call (reply.Notarize vote) old new is = gives_anyway old new [] (same_plan is)
     followed_by asked call (reply.Finalize vote) old new is = gives_anyway old new [] (same_plan is)
@@ -401,11 +486,17 @@ module _ {S D K G C : Type 0} where
     followed_by asked call reply.Unit old new is = gives_anyway old new [] (same_plan is)
 
     -- so is the answer to a certificate
-    told_on : (told : Certificate S D K G C) (old : Plan S D K G C) (repair : Repair) → IsResolverNotified bytes bytes_of now told old repair → AreAmong {A = Cause S D K G C} (of_repair repair) (of_repair old.repair)
+    told_on : (told : Certificate S D K G C) (old : Plan S D K G C) (repair : Repair)
+        → IsResolverNotified bytes bytes_of now told old repair
+        → AreAmong {A = Cause S D K G C} (of_repair repair) (of_repair old.repair)
     told_on told old repair is =
         among_further (among_all (ap (of_fetches repair.resolver.open_fetches) is.fetched))
-        (no_other old.repair.resolver.open_fetches repair.resolver.open_fetches old.repair.fetches.wanted.items (without told (after_effects moment es old.repair.fetches.wanted.items))
-        (by_certificate told old.repair.resolver.open_fetches repair.resolver.open_fetches old.repair.fetches.wanted.items (after_effects moment es old.repair.fetches.wanted.items) (opens_after moment old.repair.resolver.open_fetches repair.resolver.open_fetches es old.repair.fetches.wanted.items is.made.applied)))
+        (no_other old.repair.resolver.open_fetches repair.resolver.open_fetches old.repair.fetches.wanted.items
+        (without told (after_effects moment es old.repair.fetches.wanted.items))
+        (by_certificate told old.repair.resolver.open_fetches repair.resolver.open_fetches
+        old.repair.fetches.wanted.items (after_effects moment es old.repair.fetches.wanted.items)
+        (opens_after moment old.repair.resolver.open_fetches repair.resolver.open_fetches es
+        old.repair.fetches.wanted.items is.made.applied)))
       where
         moment : ℕ
         moment = later bytes bytes_of now old
@@ -413,33 +504,45 @@ module _ {S D K G C : Type 0} where
         es : List Effect
         es = effects_due bytes bytes_of now told old
 
-        by_certificate : (told : Certificate S D K G C) (before now : List ℕ) (xs ys : List Fetch) → OpensNoOther before xs now ys → OpensNoOther before xs now (without told ys)
-        by_certificate (certificate.Notarization n) before now xs ys opens = opens_further before now now xs ys _ opens (opens_left now ys (λ f. not (is_of fetch.Notarization n.proposal.round.view f)))
+        by_certificate : (told : Certificate S D K G C) (before now : List ℕ) (xs ys : List Fetch)
+            → OpensNoOther before xs now ys → OpensNoOther before xs now (without told ys)
+        by_certificate (certificate.Notarization n) before now xs ys opens =
+            opens_further before now now xs ys _ opens
+            (opens_left now ys (λ f. not (is_of fetch.Notarization n.proposal.round.view f)))
         by_certificate (certificate.Nullification n) before now xs ys opens = opens
         by_certificate (certificate.Finalization f) before now xs ys opens = opens
 
-    taken_above : (b : Bool) (accepted : Certificate S D K G C) (old new : Plan S D K G C) → IsTakenInAbove bytes bytes_of now b accepted old new → AreAmong (planned_causes new) (planned_causes old)
+    taken_above : (b : Bool) (accepted : Certificate S D K G C) (old new : Plan S D K G C)
+        → IsTakenInAbove bytes bytes_of now b accepted old new → AreAmong (planned_causes new) (planned_causes old)
     taken_above true accepted old new is = same_plan is
     taken_above false accepted old new is =
         among_further (planned_alone {old = watching (record old { repair = new.repair })} refl is.planned)
         (repaired_alone old (record old { repair = new.repair }) refl (told_on accepted old new.repair is.heard))
 
-    new_on : (b : Bool) (taken : Certificate S D K G C) (old new : Plan S D K G C) → IsNewFollowed bytes bytes_of now b taken old new → AreAmong (planned_causes new) (planned_causes old)
+    new_on : (b : Bool) (taken : Certificate S D K G C) (old new : Plan S D K G C)
+        → IsNewFollowed bytes bytes_of now b taken old new → AreAmong (planned_causes new) (planned_causes old)
     new_on true taken old new is = taken_above (certificate_view taken == 0) taken old new is
     new_on false taken old new is = same_plan is
 
-    pub certificate_on : (handed : Certificate S D K G C) (answer : Reply S D K G C) (old new : Plan S D K G C) → IsCertificateFollowed bytes bytes_of now handed answer old new
+    pub certificate_on : (handed : Certificate S D K G C) (answer : Reply S D K G C) (old new : Plan S D K G C)
+        → IsCertificateFollowed bytes bytes_of now handed answer old new
         → Gives (reply_causes now answer (certificate_call (certificate_facts bytes_of handed) now)) old new
     certificate_on handed (reply.Added is_new None) old new is =
-        gives_anyway old new [] (among_further (new_on is_new handed is.shown new is.followed) (planned_alone refl is.is_shown))
+        gives_anyway old new []
+        (among_further (new_on is_new handed is.shown new is.followed) (planned_alone refl is.is_shown))
     certificate_on handed (reply.Added is_new (Some leader)) old new is =
-        among_further (new_on is_new handed is.shown new is.followed) (among_further (planned_more is.is_shown) (among_both (among_still (planned_causes old)) (among_all (shown handed))))
+        among_further (new_on is_new handed is.shown new is.followed)
+        (among_further (planned_more is.is_shown)
+        (among_both (among_still (planned_causes old)) (among_all (shown handed))))
       where
-        shown : (it : Certificate S D K G C) → of_steps {S = S} {D = D} {K = K} {G = G} {C = C} (showing (certificate_view it) (Some leader)) ≡ shown_by (certificate_call (certificate_facts bytes_of it) now) leader
+        shown : (it : Certificate S D K G C) → of_steps {S = S} {D = D} {K = K} {G = G} {C = C}
+            (showing (certificate_view it) (Some leader)) ≡ shown_by
+            (certificate_call (certificate_facts bytes_of it) now) leader
         shown (certificate.Notarization n) = refl
         shown (certificate.Nullification n) = refl
         shown (certificate.Finalization f) = refl
-    certificate_on handed (reply.AddedNullification is_new) old new is = gives_anyway old new [] (new_on is_new handed old new is)
+    certificate_on handed (reply.AddedNullification is_new) old new is =
+        gives_anyway old new [] (new_on is_new handed old new is)
     certificate_on handed (reply.Flag is_taken) old new is = gives_anyway old new [] (same_plan is)
     certificate_on handed (reply.Triggered is_latched) old new is = gives_anyway old new [] (same_plan is)
     certificate_on handed (reply.Released was_open) old new is = gives_anyway old new [] (same_plan is)
@@ -453,8 +556,18 @@ module _ {S D K G C : Type 0} where
     certificate_on handed reply.Unit old new is = gives_anyway old new [] (same_plan is)
     certificate_on handed reply.NotAllowed old new is = gives_anyway old new [] (same_plan is)
     certificate_on handed (reply.Certified is_success notarization) old new is = gives_anyway old new [] (same_plan is)
-    certificate_on handed (reply.Work answer) old new is = gives_anyway old new (reply_causes now (reply.Work answer) (certificate_call (certificate_facts bytes_of handed) now)) (same_plan is)
-    certificate_on handed (reply.Request request) old new is = gives_anyway old new (reply_causes now (reply.Request request) (certificate_call (certificate_facts bytes_of handed) now)) (same_plan is)
-    certificate_on handed (reply.Certificate answer) old new is = gives_anyway old new (reply_causes now (reply.Certificate answer) (certificate_call (certificate_facts bytes_of handed) now)) (same_plan is)
-    certificate_on handed (reply.Timeout moment reason) old new is = gives_anyway old new (reply_causes now (reply.Timeout moment reason) (certificate_call (certificate_facts bytes_of handed) now)) (same_plan is)
-    certificate_on handed (reply.Candidates proposals wanted) old new is = gives_anyway old new (reply_causes now (reply.Candidates proposals wanted) (certificate_call (certificate_facts bytes_of handed) now)) (same_plan is)
+    certificate_on handed (reply.Work answer) old new is =
+        gives_anyway old new
+        (reply_causes now (reply.Work answer) (certificate_call (certificate_facts bytes_of handed) now)) (same_plan is)
+    certificate_on handed (reply.Request request) old new is =
+        gives_anyway old new (reply_causes now (reply.Request request)
+        (certificate_call (certificate_facts bytes_of handed) now)) (same_plan is)
+    certificate_on handed (reply.Certificate answer) old new is =
+        gives_anyway old new (reply_causes now (reply.Certificate answer)
+        (certificate_call (certificate_facts bytes_of handed) now)) (same_plan is)
+    certificate_on handed (reply.Timeout moment reason) old new is =
+        gives_anyway old new (reply_causes now (reply.Timeout moment reason)
+        (certificate_call (certificate_facts bytes_of handed) now)) (same_plan is)
+    certificate_on handed (reply.Candidates proposals wanted) old new is =
+        gives_anyway old new (reply_causes now (reply.Candidates proposals wanted)
+        (certificate_call (certificate_facts bytes_of handed) now)) (same_plan is)

@@ -17,14 +17,20 @@ on_ok_both (Err e) first second more = tt
 
 module _ {S D K G C : Type 0} where
   -- the blocks are ended, and then that is reported
-  pub stopped : (view : ℕ) (is_reported : Bool) (old mid new : Plan S D K G C) → is_reported ≡ list_any (is_asked_at view) old.builds.buildings.items → IsEnded view old mid → HasPlanned (stopping view is_reported) mid new → IsStopped view old new
+  pub stopped : (view : ℕ) (is_reported : Bool) (old mid new : Plan S D K G C)
+      → is_reported ≡ list_any (is_asked_at view) old.builds.buildings.items → IsEnded view old mid
+      → HasPlanned (stopping view is_reported) mid new → IsStopped view old new
   stopped view is_reported old mid new told ended planned = record {
-    steps = planned.steps ∙ ap (λ (p : Plan S D K G C). p.steps.items ++ stopping view is_reported) ended.same ∙ ap (λ b. old.steps.items ++ stopping view b) told;
+    steps = planned.steps ∙ ap (λ (p : Plan S D K G C). p.steps.items ++ stopping view is_reported) ended.same
+        ∙ ap (λ b. old.steps.items ++ stopping view b) told;
     blocks = ap (λ (p : Plan S D K G C). p.builds.buildings.items) planned.same ∙ ended.blocks;
     same = planned.same ∙ ap (λ (p : Plan S D K G C). record p { steps = new.steps }) ended.same
-        ∙ ap (λ b. record old { steps = new.steps; builds = b }) (sym (ap (λ (p : Plan S D K G C). p.builds) planned.same));
+        ∙ ap (λ b. record old { steps = new.steps; builds = b })
+        (sym (ap (λ (p : Plan S D K G C). p.builds) planned.same));
   }
 
   -- a step that is planned is queued
-  pub some_planned : {step : Step S D K G C} {old new : Plan S D K G C} → HasPlanned (step ∷ []) old new → new.steps.items ≡ [] → ⊥
-  some_planned {step = step} {old = old} planned none = omega (arith, ap length (sym none ∙ planned.steps), length-append old.steps.items (step ∷ []))
+  pub some_planned : {step : Step S D K G C} {old new : Plan S D K G C} → HasPlanned (step ∷ []) old new
+      → new.steps.items ≡ [] → ⊥
+  some_planned {step = step} {old = old} planned none =
+      omega (arith, ap length (sym none ∙ planned.steps), length-append old.steps.items (step ∷ []))

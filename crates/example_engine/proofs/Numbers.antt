@@ -5,7 +5,8 @@ use Rattle.std.proofs.lemmas.List.{get_or-drop}
 use Rattle.simplex_codec.proofs.Numbers.{IsBytes}
 
 -- the second part is written after the first, unless memory runs out
-pub appended : {X E : Type 0} (start middle xs ys : List ℕ) (r : Result X E) (end : List ℕ) → middle ≡ start ++ xs → OnOk r (end ≡ middle ++ ys) → OnOk r (end ≡ start ++ (xs ++ ys))
+pub appended : {X E : Type 0} (start middle xs ys : List ℕ) (r : Result X E) (end : List ℕ) → middle ≡ start ++ xs
+    → OnOk r (end ≡ middle ++ ys) → OnOk r (end ≡ start ++ (xs ++ ys))
 appended start middle xs ys (Ok _) end first second = second ∙ ap (λ l. l ++ ys) first ∙ append_assoc start xs ys
 appended start middle xs ys (Err _) end first second = tt
 

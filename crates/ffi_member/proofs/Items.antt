@@ -25,15 +25,18 @@ pub proposal_shown : (o : Option FlatProposal) (proposals : List (Proposal (Byte
     → MatchOption o (r.has ≡ 0) (λ it. (r.has ≡ 1) × (r.proposal ≡ it)) → r.status ≡ 0
     → IsItemOr r (length proposals ≤ index) (IsProposalAt proposals index r.proposal)
 proposal_shown None proposals index r at item status = (status, inl (item, at))
-proposal_shown (Some f) proposals index r at item status = (status, inr (item.0, subst (IsProposalAt proposals index) (sym item.1) at))
+proposal_shown (Some f) proposals index r at item status =
+    (status, inr (item.0, subst (IsProposalAt proposals index) (sym item.1) at))
 
 -- where entries are lost, there are fewer than were closed
-pub fewer_than_closed : (beside : FlatStored) (stored : Stored) (entries : List HostArtifact) → IsFlatStored beside stored
+pub fewer_than_closed : (beside : FlatStored) (stored : Stored) (entries : List HostArtifact)
+    → IsFlatStored beside stored
     → has_lost stored (entries_of certificate_bytes entries) ≡ true → length entries < beside.closed
 fewer_than_closed beside stored entries so lost = grind (arith, common_steps, so.closed, lost)
 
 -- nothing is shown of entries that are not written
-pub not_shown : (entries : List HostArtifact) (error : NotWritten) (r : FlatEntries) (shown : List ℕ) → IsNotWritten entries error
+pub not_shown : (entries : List HostArtifact) (error : NotWritten) (r : FlatEntries) (shown : List ℕ)
+    → IsNotWritten entries error
     → r.status ≡ not_written_number error → shown ≡ [] → AreShown entries r shown
 not_shown entries not_written.OutOfMemory r shown long status none = inr (inl (status, none))
 not_shown entries not_written.TooLong r shown long status none = inr (inr (status, long refl, none))

@@ -9,12 +9,14 @@ value_or other (Ok value) = value
 value_or other (Err e) = other
 
 -- a result that is one or the other by a test, and is `Ok`, has what the test lets through
-pub made_of : {A E : Type 0} (due : Option E) (made found : A) (result : Result A E) → MatchOption due (result ≡ Ok made) (λ e. result ≡ Err e) → result ≡ Ok found → found ≡ made
+pub made_of : {A E : Type 0} (due : Option E) (made found : A) (result : Result A E)
+    → MatchOption due (result ≡ Ok made) (λ e. result ≡ Err e) → result ≡ Ok found → found ≡ made
 made_of None made found result tested is = ap (value_or found) (sym is ∙ tested)
 made_of (Some e) made found result tested is = absurd (false≢true (ap is_ok (sym tested ∙ is)))
 
 -- nothing is due where the result is `Ok`
-pub none_due : {A E : Type 0} (due : Option E) (made found : A) (result : Result A E) → MatchOption due (result ≡ Ok made) (λ e. result ≡ Err e) → result ≡ Ok found → due ≡ None
+pub none_due : {A E : Type 0} (due : Option E) (made found : A) (result : Result A E)
+    → MatchOption due (result ≡ Ok made) (λ e. result ≡ Err e) → result ≡ Ok found → due ≡ None
 none_due None made found result tested is = refl
 none_due (Some e) made found result tested is = absurd (false≢true (ap is_ok (sym tested ∙ is)))
 
@@ -23,7 +25,8 @@ error_or other (Ok value) = other
 error_or other (Err e) = e
 
 -- the error that is due is the one that was answered
-pub due_of : {A E : Type 0} (due : Option E) (made : A) (found : E) (result : Result A E) → MatchOption due (result ≡ Ok made) (λ e. result ≡ Err e) → result ≡ Err found → due ≡ Some found
+pub due_of : {A E : Type 0} (due : Option E) (made : A) (found : E) (result : Result A E)
+    → MatchOption due (result ≡ Ok made) (λ e. result ≡ Err e) → result ≡ Err found → due ≡ Some found
 due_of None made found result tested is = absurd (false≢true (ap is_ok (sym is ∙ tested)))
 due_of (Some e) made found result tested is = ap Some (ap (error_or found) (sym tested ∙ is))
 

@@ -12,5 +12,6 @@ pub is_told_verdict : (f : FlatResolverReply) → f.kind ≡ 4 → f.success < 2
 is_told_verdict f kind success view = (omega (arith, kind), omega (arith, kind), success, view)
 
 -- the highest view that is named
-pub highest_of_verdict : (f : FlatResolverReply) (q : Proposal (BytesDigest 32)) → f.kind ≡ 4 → IsFlatProposal f.proposal q → highest_passed f ≡ highest_named q
+pub highest_of_verdict : (f : FlatResolverReply) (q : Proposal (BytesDigest 32)) → f.kind ≡ 4
+    → IsFlatProposal f.proposal q → highest_passed f ≡ highest_named q
 highest_of_verdict f q kind is = grind (arith, kind, is.round, is.parent)

@@ -12,7 +12,8 @@ pub three_behind : (old one two three first second : List ℕ) → first ≡ old
 three_behind old one two three first second put more = grind (arith, common_steps, put, more)
 
 -- one signature more
-more_taken : (signatures : List (ℕ × Order)) (i : ℕ) (signed : ℕ × Order) → i < length signatures → get_or signatures i signed ≡ signed
+more_taken : (signatures : List (ℕ × Order)) (i : ℕ) (signed : ℕ × Order) → i < length signatures
+    → get_or signatures i signed ≡ signed
     → take (i + 1) signatures ≡ take i signatures ++ (signed ∷ [])
 more_taken signatures i signed low is =
     let next : suc i ≡ i + 1 = omega arith in
@@ -23,8 +24,10 @@ one_signed : (signed : ℕ × Order) → signed_bytes (signed ∷ []) ≡ signat
 one_signed signed = grind (arith, common_steps)
 
 -- comes after those before it
-pub signed_more : (signatures : List (ℕ × Order)) (i : ℕ) (signed : ℕ × Order) (out new : List ℕ) → i < length signatures
-    → get_or signatures i signed ≡ signed → out ≡ signed_bytes (take i signatures) → new ≡ out ++ signature_bytes signed.0 signed.1
+pub signed_more : (signatures : List (ℕ × Order)) (i : ℕ) (signed : ℕ × Order) (out new : List ℕ)
+    → i < length signatures
+    → get_or signatures i signed ≡ signed → out ≡ signed_bytes (take i signatures)
+    → new ≡ out ++ signature_bytes signed.0 signed.1
     → new ≡ signed_bytes (take (i + 1) signatures)
 signed_more signatures i signed out new low is so put =
     put ∙ (ap (λ o. o ++ signature_bytes signed.0 signed.1) so

@@ -6,6 +6,7 @@ use Rattle.laws_safety.proofs.agreement.Accountability.{evidence_holds}
 use Rattle.lawful_member.specs.Evidence.{AreEvidence, ShowsABrokenRule}
 
 pub evidence_shows : {D : Type 0} (v w : Option (ℕ × Subject D)) → AreEvidence v w → ShowsABrokenRule v w
-evidence_shows (Some a) (Some b) are = λ term_length trace has_a has_b lawful. evidence_holds term_length trace a.1 b.1 are.2 has_a has_b lawful
+evidence_shows (Some a) (Some b) are = λ term_length trace has_a has_b lawful.
+    evidence_holds term_length trace a.1 b.1 are.2 has_a has_b lawful
 evidence_shows (Some a) None are = are
 evidence_shows None w are = are

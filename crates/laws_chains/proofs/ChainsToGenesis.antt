@@ -22,10 +22,12 @@ use Rattle.laws_chains.proofs.ParentsOfVotes.{no_window}
 use Rattle.laws_chains.proofs.StatesAtOffers.{Offers, state_at_offer, offered_held, offered_on}
 use Rattle.laws_chains.proofs.Parents.{earlier, explicit_certified, terms_are, voted_on, votes_of, finalized_parents, notarized_starts}
 
-module _ {K L D : Type 0} (same : D → D → Bool) (decides : (d e : D) → same d e ≡ true → d ≡ e) (elect : Elect L) (term_length : ℕ) (network : List (Replica K L D)) (good : IsNetworkOf same elect term_length network) where
+module _ {K L D : Type 0} (same : D → D → Bool) (decides : (d e : D) → same d e ≡ true → d ≡ e) (elect : Elect L)
+    (term_length : ℕ) (network : List (Replica K L D)) (good : IsNetworkOf same elect term_length network) where
   -- the proposal is finalized, or notarized and certified by an honest member
   abbrev IsFinalOrCertified : Proposal D → Type 0
-  IsFinalOrCertified q = Backed network (subject.Finalize q) ⊎ (Backed network (subject.Notarize q) × IsCertifiedByHonest network q)
+  IsFinalOrCertified q = Backed network (subject.Finalize q)
+      ⊎ (Backed network (subject.Notarize q) × IsCertifiedByHonest network q)
 
   notarized : (q : Proposal D) → IsFinalOrCertified q → Backed network (subject.Notarize q)
   notarized q (inl finalized) = finalized_notarized same decides elect term_length network good q finalized
@@ -37,19 +39,29 @@ module _ {K L D : Type 0} (same : D → D → Bool) (decides : (d e : D) → sam
   module _ (seen : HandoffsAreWitnessed network) (awaited : ParentsAreAwaited network) where
     -- of a certified proposal inside a term, whose parent a voter for it had ahead
 
-    offered_parent : VerdictsAreOnOffers network → (q : Proposal D) → IsCertifiedByHonest network q → 0 < q.parent → q.round.view ≢ term_start term_length q.round.view → q.parent + 1 ≡ q.round.view → HasCertifiedProposal network q.parent
+    offered_parent : VerdictsAreOnOffers network → (q : Proposal D) → IsCertifiedByHonest network q → 0 < q.parent
+        → q.round.view ≢ term_start term_length q.round.view → q.parent + 1 ≡ q.round.view
+        → HasCertifiedProposal network q.parent
     offered_parent on_offers q (i, s, at, judged) some inside below =
         let cast = state_at_offer same elect q term_length i s (good.honest i s at) (on_offers i s at q judged) in
         let v = cast.holds.0 in
         let offered = offered_held same elect cast.x v q cast.holds.1 in
-        let shown = end_shown same decides elect term_length i (earlier same decides elect term_length network good i s at (Offers same elect q) cast) cast.ran cast.x cast.lives in
+        let shown = end_shown same decides elect term_length i
+        (earlier same decides elect term_length network good i s at (Offers same elect q) cast) cast.ran cast.x
+        cast.lives in
         let placed : q.round.view ≡ v = shown.living.noted.2.placed v q offered.0 in
         let terms = terms_are same decides elect term_length network good i s at (Offers same elect q) cast in
-        let within : is_term_start cast.x v ≡ false = subst (λ w. is_term_start cast.x w ≡ false) placed (ne_eqb q.round.view (term_start cast.x.terms.term_length q.round.view) (λ is. inside (subst (λ n. q.round.view ≡ term_start n q.round.view) terms is))) in
+        let within : is_term_start cast.x v ≡ false =
+        subst (λ w. is_term_start cast.x w ≡ false) placed
+        (ne_eqb q.round.view (term_start cast.x.terms.term_length q.round.view)
+        (λ is. inside (subst (λ n. q.round.view ≡ term_start n q.round.view) terms is))) in
         let before : v - 1 ≡ q.parent = omega (arith, below, placed) in
-        explicit_certified same decides elect term_length network good i s at (Offers same elect q) cast q.parent some (subst (λ u. is_some (explicit_ancestry_payload cast.x u) ≡ true) before (offered_on elect cast.x v q offered.1 within))
+        explicit_certified same decides elect term_length network good i s at (Offers same elect q) cast q.parent some
+        (subst (λ u. is_some (explicit_ancestry_payload cast.x u) ≡ true) before
+        (offered_on elect cast.x v q offered.1 within))
 
-    certified_parent : (q : Proposal D) → Backed network (subject.Notarize q) → IsCertifiedByHonest network q → 0 < q.parent → q.round.view ≢ term_start term_length q.round.view → HasCertifiedProposal network q.parent
+    certified_parent : (q : Proposal D) → Backed network (subject.Notarize q) → IsCertifiedByHonest network q
+        → 0 < q.parent → q.round.view ≢ term_start term_length q.round.view → HasCertifiedProposal network q.parent
     certified_parent q has certified some inside =
         let m = shared_member network (subject.Notarize q) (subject.Notarize q) good.few_faulty has has in
         let noted = votes_of same decides elect term_length network good m.0 m.1 m.2 m.3.0 (subject.Notarize q) m.3.1 in
@@ -61,23 +73,31 @@ module _ {K L D : Type 0} (same : D → D → Bool) (decides : (d e : D) → sam
               | inl (within, window) ↦
                   (let lives = none_ahead m.0 m.1 m.2 in
                   let votes = λ (y : StateFacts K L D). IsRuled same elect y m.3.0 (subject.Notarize q) in
-                  let none = state_kept same elect (λ y. y.terms.optimistic_views ≡ 0) (λ y e. ahead_kept same elect y e) (earlier same decides elect term_length network good m.0 m.1 m.2 votes noted) noted.x noted.lives lives.first (λ r h. lives.later r (noted.restarts_within r h)) in
+                  let none = state_kept same elect (λ y. y.terms.optimistic_views ≡ 0)
+                  (λ y e. ahead_kept same elect y e)
+                  (earlier same decides elect term_length network good m.0 m.1 m.2 votes noted) noted.x noted.lives
+                  lives.first (λ r h. lives.later r (noted.restarts_within r h)) in
                   absurd (true≢false (sym window ∙ no_window noted.x q.round.view none)))
               | inr early ↦
-                  (let starts = (and_parts (is_term_start noted.x q.round.view) noted.x.elects_early (and_parts (is_term_start noted.x q.round.view && noted.x.elects_early) _ early).0).0 in
+                  (let starts = (and_parts (is_term_start noted.x q.round.view) noted.x.elects_early
+                  (and_parts (is_term_start noted.x q.round.view && noted.x.elects_early) _ early).0).0 in
                   let votes = λ (y : StateFacts K L D). IsRuled same elect y m.3.0 (subject.Notarize q) in
                   let terms = terms_are same decides elect term_length network good m.0 m.1 m.2 votes noted in
-                  absurd (inside (subst (λ n. q.round.view ≡ term_start n q.round.view) terms (eqb-true q.round.view (term_start noted.x.terms.term_length q.round.view) starts))))
+                  absurd (inside (subst (λ n. q.round.view ≡ term_start n q.round.view) terms
+                  (eqb-true q.round.view (term_start noted.x.terms.term_length q.round.view) starts))))
             ]
           ]
         ]
 
     parent_certified : (q : Proposal D) → IsFinalOrCertified q → 0 < q.parent → HasCertifiedProposal network q.parent
-    parent_certified q (inl finalized) some = finalized_parents same decides elect term_length network good q finalized some (inr seen)
+    parent_certified q (inl finalized) some =
+        finalized_parents same decides elect term_length network good q finalized some (inr seen)
     parent_certified q (inr (has, certified)) some =
         elim (cases_Bool (q.round.view == term_start term_length q.round.view)) [
-          | inl is ↦ notarized_starts same decides elect term_length network good q has some (eqb-true q.round.view (term_start term_length q.round.view) is) seen
-          | inr apart ↦ certified_parent q has certified some (λ is. absurd (true≢false (sym (eq-eqb q.round.view (term_start term_length q.round.view) is) ∙ apart)))
+          | inl is ↦ notarized_starts same decides elect term_length network good q has some
+              (eqb-true q.round.view (term_start term_length q.round.view) is) seen
+          | inr apart ↦ certified_parent q has certified some
+              (λ is. absurd (true≢false (sym (eq-eqb q.round.view (term_start term_length q.round.view) is) ∙ apart)))
         ]
 
     -- the chain below a view
@@ -100,7 +120,8 @@ module _ {K L D : Type 0} (same : D → D → Bool) (decides : (d e : D) → sam
   -- the last of a chain
 
   abbrev Last : Proposal D → List (Proposal D) → Type 0
-  Last p below = (z : Proposal D) × Contains (p ∷ below) z × Backed network (subject.Notarize z) × (z.parent ≡ lowest_parent p below)
+  Last p below = (z : Proposal D) × Contains (p ∷ below) z × Backed network (subject.Notarize z)
+      × (z.parent ≡ lowest_parent p below)
 
   last_of : (p : Proposal D) (below : List (Proposal D)) → Chain network (p ∷ below) → Last p below
   last_of p [] chain = (p, (0, omega arith, refl), chain, refl)
@@ -109,27 +130,44 @@ module _ {K L D : Type 0} (same : D → D → Bool) (decides : (d e : D) → sam
       (last.0, Contains-cons_rest p (q ∷ rest) last.0 last.1, last.2, last.3)
 
   -- a chain down to genesis holds each finalized proposal that is no higher
-  holds_lower : (tip : Proposal D) (below : List (Proposal D)) → Backed network (subject.Notarize tip) → Chain network (tip ∷ below) → lowest_parent tip below ≡ 0 → (final : Proposal D) → Backed network (subject.Finalize final) → final.round.view ≤ tip.round.view → Contains (tip ∷ below) final
+  holds_lower : (tip : Proposal D) (below : List (Proposal D)) → Backed network (subject.Notarize tip)
+      → Chain network (tip ∷ below) → lowest_parent tip below ≡ 0 → (final : Proposal D)
+      → Backed network (subject.Finalize final) → final.round.view ≤ tip.round.view → Contains (tip ∷ below) final
   holds_lower tip below has chain to_genesis final finalized no_higher =
       elim (cases_lt final.round.view tip.round.view) [
         | inl lower ↦
             (let last = last_of tip below chain in
             let above_genesis = earlier_parent final (inl finalized) in
-            chain_holds_finalized same decides elect term_length network good final tip last.0 (tip ∷ below) finalized chain (0, omega arith, refl) last.1 lower
+            chain_holds_finalized same decides elect term_length network good final tip last.0 (tip ∷ below) finalized
+            chain (0, omega arith, refl) last.1 lower
             (elim (cases_lt final.round.view last.0.round.view) [
-              | inl higher ↦ (let low = parent_not_below same decides elect term_length network good final last.0 finalized last.2 higher in absurd (omega (arith, low, last.3, to_genesis, above_genesis)))
+              | inl higher ↦ (let low = parent_not_below same decides elect term_length network good final last.0
+                  finalized last.2 higher in absurd (omega (arith, low, last.3, to_genesis, above_genesis)))
               | inr reached ↦ reached
             ]))
-        | inr level ↦ (0, omega arith, one_proposal same decides elect term_length network good tip final (inl has) (inr finalized) (omega (arith, level, no_higher)))
+        | inr level ↦ (
+          0,
+          omega arith,
+          one_proposal same decides elect term_length network good tip final (inl has)
+              (inr finalized) (omega (arith, level, no_higher)),
+        )
       ]
 
-  reaches_genesis : HandoffsAreWitnessed network → ParentsAreAwaited network → (tip : Proposal D) → IsFinalOrCertified tip → ReachesGenesis network tip
+  reaches_genesis : HandoffsAreWitnessed network → ParentsAreAwaited network → (tip : Proposal D)
+      → IsFinalOrCertified tip → ReachesGenesis network tip
   reaches_genesis seen awaited tip found =
       let down = leads_down seen awaited (suc tip.round.view) tip (omega arith) found in
-      record { below = down.0; chain = down.1; genesis = down.2; holds = holds_lower tip down.0 (notarized tip found) down.1 down.2 }
+      record {
+        below = down.0;
+        chain = down.1;
+        genesis = down.2;
+        holds = holds_lower tip down.0 (notarized tip found) down.1 down.2;
+      }
 
-  pub finalized_reach_genesis : HandoffsAreWitnessed network → ParentsAreAwaited network → (final : Proposal D) → Backed network (subject.Finalize final) → ReachesGenesis network final
+  pub finalized_reach_genesis : HandoffsAreWitnessed network → ParentsAreAwaited network → (final : Proposal D)
+      → Backed network (subject.Finalize final) → ReachesGenesis network final
   finalized_reach_genesis seen awaited final finalized = reaches_genesis seen awaited final (inl finalized)
 
-  pub certified_reach_genesis : HandoffsAreWitnessed network → ParentsAreAwaited network → (q : Proposal D) → Backed network (subject.Notarize q) → IsCertifiedByHonest network q → ReachesGenesis network q
+  pub certified_reach_genesis : HandoffsAreWitnessed network → ParentsAreAwaited network → (q : Proposal D)
+      → Backed network (subject.Notarize q) → IsCertifiedByHonest network q → ReachesGenesis network q
   certified_reach_genesis seen awaited q has certified = reaches_genesis seen awaited q (inr (has, certified))

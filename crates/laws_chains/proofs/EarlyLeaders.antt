@@ -31,11 +31,19 @@ use Rattle.laws_chains.proofs.ViewsAhead.{AllOf, each_of, each_judged}
 use Rattle.laws_chains.proofs.Quorums.{two_from}
 
 first_told : told_in (leading_early 2 0) ≡ (leading_early 2 0).replies
-unfolding first_recover_error recovered_state after_kept_entry may_drop pruned_entries standing propose_answer proposed_answer find_parent captured_parent_valid has_valid_parent_span ancestry_payload_for_child first_unnullified_view explicit_ancestry_payload optimistic_ancestry_payload is_handoff_parent is_voted_ancestor can_chain_on in_issuance_window is_admitted verification_matches parent_payload_for may_notarize may_nullify may_finalize has_conflicting_nullify required_certification_parent
+unfolding first_recover_error recovered_state after_kept_entry may_drop pruned_entries standing propose_answer
+    proposed_answer find_parent captured_parent_valid has_valid_parent_span ancestry_payload_for_child
+    first_unnullified_view explicit_ancestry_payload optimistic_ancestry_payload is_handoff_parent is_voted_ancestor
+    can_chain_on in_issuance_window is_admitted verification_matches parent_payload_for may_notarize may_nullify
+    may_finalize has_conflicting_nullify required_certification_parent
 first_told = refl
 
 second_told : told_in (leading_early 1 1) ≡ (leading_early 1 1).replies
-unfolding first_recover_error recovered_state after_kept_entry may_drop pruned_entries standing propose_answer proposed_answer find_parent captured_parent_valid has_valid_parent_span ancestry_payload_for_child first_unnullified_view explicit_ancestry_payload optimistic_ancestry_payload is_handoff_parent is_voted_ancestor can_chain_on in_issuance_window is_admitted verification_matches parent_payload_for may_notarize may_nullify may_finalize has_conflicting_nullify required_certification_parent
+unfolding first_recover_error recovered_state after_kept_entry may_drop pruned_entries standing propose_answer
+    proposed_answer find_parent captured_parent_valid has_valid_parent_span ancestry_payload_for_child
+    first_unnullified_view explicit_ancestry_payload optimistic_ancestry_payload is_handoff_parent is_voted_ancestor
+    can_chain_on in_issuance_window is_admitted verification_matches parent_payload_for may_notarize may_nullify
+    may_finalize has_conflicting_nullify required_certification_parent
 second_told = refl
 
 -- the record at the restart
@@ -49,11 +57,19 @@ votes_of me =
     ∷ []
 
 first_fits : FitsIn (leading_early 2 0)
-unfolding first_recover_error recovered_state after_kept_entry may_drop pruned_entries standing propose_answer proposed_answer find_parent captured_parent_valid has_valid_parent_span ancestry_payload_for_child first_unnullified_view explicit_ancestry_payload optimistic_ancestry_payload is_handoff_parent is_voted_ancestor can_chain_on in_issuance_window is_admitted verification_matches parent_payload_for may_notarize may_nullify may_finalize has_conflicting_nullify required_certification_parent
+unfolding first_recover_error recovered_state after_kept_entry may_drop pruned_entries standing propose_answer
+    proposed_answer find_parent captured_parent_valid has_valid_parent_span ancestry_payload_for_child
+    first_unnullified_view explicit_ancestry_payload optimistic_ancestry_payload is_handoff_parent is_voted_ancestor
+    can_chain_on in_issuance_window is_admitted verification_matches parent_payload_for may_notarize may_nullify
+    may_finalize has_conflicting_nullify required_certification_parent
 first_fits = (rises entry_view 0 (votes_of 0) refl, tt)
 
 second_fits : FitsIn (leading_early 1 1)
-unfolding first_recover_error recovered_state after_kept_entry may_drop pruned_entries standing propose_answer proposed_answer find_parent captured_parent_valid has_valid_parent_span ancestry_payload_for_child first_unnullified_view explicit_ancestry_payload optimistic_ancestry_payload is_handoff_parent is_voted_ancestor can_chain_on in_issuance_window is_admitted verification_matches parent_payload_for may_notarize may_nullify may_finalize has_conflicting_nullify required_certification_parent
+unfolding first_recover_error recovered_state after_kept_entry may_drop pruned_entries standing propose_answer
+    proposed_answer find_parent captured_parent_valid has_valid_parent_span ancestry_payload_for_child
+    first_unnullified_view explicit_ancestry_payload optimistic_ancestry_payload is_handoff_parent is_voted_ancestor
+    can_chain_on in_issuance_window is_admitted verification_matches parent_payload_for may_notarize may_nullify
+    may_finalize has_conflicting_nullify required_certification_parent
 second_fits = (rises entry_view 0 (votes_of 1) refl, tt)
 
 begins : (elector me : ℕ) → BeginsAs 2 me (elects_by elector me).setup
@@ -87,10 +103,15 @@ abbrev OnOffers : Execution ℕ ℕ ℕ → Type 0
 OnOffers s = (q : Proposal ℕ) → Contains (judged_of s) (true, q) → WasOffered q s
 
 offers_three : (elector me : ℕ) → OnOffers (leading_early elector me)
-offers_three elector me = each_judged (λ q. WasOffered q (leading_early elector me)) (judged_of (leading_early elector me)) ((one ∷ [], [], (5, omega arith, refl), (0, omega arith, refl)), ((three ∷ [], [], (16, omega arith, refl), (0, omega arith, refl)), tt))
+offers_three elector me = each_judged (λ q. WasOffered q (leading_early elector me))
+    (judged_of (leading_early elector me)) (
+      (one ∷ [], [], (5, omega arith, refl), (0, omega arith, refl)),
+      ((three ∷ [], [], (16, omega arith, refl), (0, omega arith, refl)), tt),
+    )
 
 pub early_offers : VerdictsAreOnOffers both_lead_early
-early_offers = each_of OnOffers both_lead_early (offers_three 2 0, (offers_three 1 1, (each_judged (λ q. WasOffered q idle) (judged_of idle) tt, tt)))
+early_offers = each_of OnOffers both_lead_early
+    (offers_three 2 0, (offers_three 1 1, (each_judged (λ q. WasOffered q idle) (judged_of idle) tt, tt)))
 
 -- in view 2 a member votes for its own proposal
 
@@ -99,10 +120,13 @@ is_own (Signs i (subject.Notarize q)) = not (q.round.view == 2) || (q.payload ==
 is_own _ = true
 
 abbrev VotesOwn : Execution ℕ ℕ ℕ → Type 0
-VotesOwn s = (i : ℕ) (q : Proposal ℕ) → q.round.view ≡ 2 → Contains (trace_of s) (Signs i (subject.Notarize q)) → q.payload ≡ 20 + i
+VotesOwn s = (i : ℕ) (q : Proposal ℕ) → q.round.view ≡ 2 → Contains (trace_of s) (Signs i (subject.Notarize q))
+    → q.payload ≡ 20 + i
 
 own_so : (s : Execution ℕ ℕ ℕ) → each_one is_own (trace_of s) ≡ true → VotesOwn s
-own_so s all i q second h = eqb-true q.payload (20 + i) (by_view (q.round.view == 2) (eq-eqb q.round.view 2 second) (each_one-true is_own (trace_of s) all (Signs i (subject.Notarize q)) h))
+own_so s all i q second h = eqb-true q.payload (20 + i)
+    (by_view (q.round.view == 2) (eq-eqb q.round.view 2 second)
+    (each_one-true is_own (trace_of s) all (Signs i (subject.Notarize q)) h))
   where
     by_view : (b : Bool) → b ≡ true → (not b || (q.payload == 20 + i)) ≡ true → (q.payload == 20 + i) ≡ true
     by_view true is holds = holds
@@ -114,10 +138,13 @@ all_own = (own_so (leading_early 2 0) refl, (own_so (leading_early 1 1) refl, (o
 none_second : (q : Proposal ℕ) → q.round.view ≡ 2 → Backed both_lead_early (subject.Notarize q) → ⊥
 none_second q second notarized =
     let voters = two_from (MayHaveSigned (subject.Notarize q)) 0 3 both_lead_early notarized (omega arith) in
-    let first = each_of VotesOwn both_lead_early all_own voters.one.place voters.one.s voters.one.at voters.one.index q second voters.one.has in
-    let other = each_of VotesOwn both_lead_early all_own voters.two.place voters.two.s voters.two.at voters.two.index q second voters.two.has in
+    let first = each_of VotesOwn both_lead_early all_own voters.one.place voters.one.s voters.one.at voters.one.index q
+    second voters.one.has in
+    let other = each_of VotesOwn both_lead_early all_own voters.two.place voters.two.s voters.two.at voters.two.index q
+    second voters.two.has in
     omega (arith, first, other, voters.apart)
 
 pub no_parent : HasNoParent
-no_parent (q, second, inl finalized) = none_second q second (finalized_notarized nat_eq eqb-true in_turn 2 both_lead_early early_network q finalized)
+no_parent (q, second, inl finalized) = none_second q second
+    (finalized_notarized nat_eq eqb-true in_turn 2 both_lead_early early_network q finalized)
 no_parent (q, second, inr (notarized, certified)) = none_second q second notarized

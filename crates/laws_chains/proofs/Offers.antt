@@ -55,30 +55,36 @@ module _ {K D : Type 0} where
   -- a proposal of the view is among the offers of these replies
   abbrev IsOfferedIn : List (ReplyFacts K D) → ℕ → Type 0
   IsOfferedIn told v =
-      (offers : List (Proposal D)) × (fetches : List CertificateFetch) × (p : Proposal D) × Contains told (Candidates offers fetches) × Contains offers p × (p.round.view ≡ v)
+      (offers : List (Proposal D)) × (fetches : List CertificateFetch) × (p : Proposal D)
+      × Contains told (Candidates offers fetches) × Contains offers p × (p.round.view ≡ v)
 
   -- so it is of each view whose offer is open
   abbrev AreOfferedIn : List (ReplyFacts K D) → OutstandingWork K D → Type 0
   AreOfferedIn told o = (v : ℕ) → is_offered o v ≡ true → IsOfferedIn told v
 
   offered_more : (told more : List (ReplyFacts K D)) (v : ℕ) → IsOfferedIn told v → IsOfferedIn (told ++ more) v
-  offered_more told more v (offers, fetches, p, h, among, at) = (offers, fetches, p, Contains-append_left told more (Candidates offers fetches) h, among, at)
+  offered_more told more v (offers, fetches, p, h, among, at) =
+      (offers, fetches, p, Contains-append_left told more (Candidates offers fetches) h, among, at)
 
   -- what is open beside offers does not matter
-  request_offers : (o : OutstandingWork K D) (request : Option (ProposalRequest D K)) (v : ℕ) → is_offered (with_open_request o request) v ≡ is_offered o v
+  request_offers : (o : OutstandingWork K D) (request : Option (ProposalRequest D K)) (v : ℕ)
+      → is_offered (with_open_request o request) v ≡ is_offered o v
   request_offers o None v = refl
   request_offers o (Some request) v = refl
 
-  verification_offers : (o : OutstandingWork K D) (it : Verify D K) (v : ℕ) → is_offered (with_verification o it) v ≡ is_offered o v
+  verification_offers : (o : OutstandingWork K D) (it : Verify D K) (v : ℕ)
+      → is_offered (with_verification o it) v ≡ is_offered o v
   verification_offers o verify.Wait v = refl
   verification_offers o (verify.Resolve proposal view kind target) v = refl
   verification_offers o (verify.Ready context p) v = refl
 
-  superseded_offers : (o : OutstandingWork K D) (u : ℕ) (b : Bool) (v : ℕ) → is_offered (cond b (without_context o u) o) v ≡ is_offered o v
+  superseded_offers : (o : OutstandingWork K D) (u : ℕ) (b : Bool) (v : ℕ)
+      → is_offered (cond b (without_context o u) o) v ≡ is_offered o v
   superseded_offers o u true v = refl
   superseded_offers o u false v = refl
 
-offered_now : {D : Type 0} (view : ℕ) (proposals : List (Proposal D)) (views : List ℕ) → is_among view (fold (λ vs (p : Proposal D). insert_key nat_cmp vs p.round.view) views proposals) ≡ true
+offered_now : {D : Type 0} (view : ℕ) (proposals : List (Proposal D)) (views : List ℕ)
+    → is_among view (fold (λ vs (p : Proposal D). insert_key nat_cmp vs p.round.view) views proposals) ≡ true
     → (is_among view views ≡ true) ⊎ ((p : Proposal D) × Contains proposals p × (p.round.view ≡ view))
 offered_now view [] views is = inl is
 offered_now view (p ∷ rest) views is = elim (offered_now view rest (insert_key nat_cmp views p.round.view) is) [
@@ -90,24 +96,41 @@ offered_now view (p ∷ rest) views is = elim (offered_now view rest (insert_key
 ]
 
 module _ {K L D : Type 0} (same : D → D → Bool) (elect : Elect L) where
-  answer_opens : (told : List (ReplyFacts K D)) (x : StateFacts K L D) (o : OutstandingWork K D) (call : CallFacts D) → AreOfferedIn told o
+  answer_opens : (told : List (ReplyFacts K D)) (x : StateFacts K L D) (o : OutstandingWork K D) (call : CallFacts D)
+      → AreOfferedIn told o
       → AreOfferedIn (told ++ answer same elect x o call ∷ []) (outstanding_work_after same elect x o call)
   answer_opens told x o CertifyCandidates are v is =
       let offers = (candidates_answer same elect x).0 in
       let fetches = (candidates_answer same elect x).1 in
       elim (offered_now v offers o.offered is) [
         | inl before ↦ offered_more told (Candidates offers fetches ∷ []) v (are v before)
-        | inr now ↦ (offers, fetches, now.0, Contains-append_right told (Candidates offers fetches ∷ []) (Candidates offers fetches) (0, omega arith, refl), now.1, now.2)
+        | inr now ↦ (
+          offers,
+          fetches,
+          now.0,
+          Contains-append_right told (Candidates offers fetches ∷ [])
+              (Candidates offers fetches) (0, omega arith, refl),
+          now.1,
+          now.2,
+        )
       ]
-  answer_opens told x o (Certified u success now) are v is = offered_more told (answer same elect x o (Certified u success now) ∷ []) v (are v (among_others u v o.offered is).0)
-  answer_opens told x o TryPropose are v is = offered_more told (answer same elect x o TryPropose ∷ []) v (are v (sym (request_offers o (propose_answer same elect x) v) ∙ is))
-  answer_opens told x o TryVerify are v is = offered_more told (answer same elect x o TryVerify ∷ []) v (are v (sym (verification_offers o (verify_answer same elect x) v) ∙ is))
+  answer_opens told x o (Certified u success now) are v is =
+      offered_more told (answer same elect x o (Certified u success now) ∷ []) v
+      (are v (among_others u v o.offered is).0)
+  answer_opens told x o TryPropose are v is =
+      offered_more told (answer same elect x o TryPropose ∷ []) v
+      (are v (sym (request_offers o (propose_answer same elect x) v) ∙ is))
+  answer_opens told x o TryVerify are v is =
+      offered_more told (answer same elect x o TryVerify ∷ []) v
+      (are v (sym (verification_offers o (verify_answer same elect x) v) ∙ is))
   answer_opens told x o (SupersedeProposalRequest u) are v is =
       let replaced = option_map_or (λ context. supersede_answer same elect x context) (context_at o u) false in
-      offered_more told (answer same elect x o (SupersedeProposalRequest u) ∷ []) v (are v (sym (superseded_offers o u replaced v) ∙ is))
+      offered_more told (answer same elect x o (SupersedeProposalRequest u) ∷ []) v
+      (are v (sym (superseded_offers o u replaced v) ∙ is))
   answer_opens told x o call are v is = offered_more told (answer same elect x o call ∷ []) v (are v is)
 
-  module _ (told : List (ReplyFacts K D)) (m next : MemberFacts K L D) (reply : ReplyFacts K D) (are : AreOfferedIn told m.outstanding_work) where
+  module _ (told : List (ReplyFacts K D)) (m next : MemberFacts K L D) (reply : ReplyFacts K D)
+      (are : AreOfferedIn told m.outstanding_work) where
     still_open : next.outstanding_work ≡ m.outstanding_work → AreOfferedIn (told ++ reply ∷ []) next.outstanding_work
     still_open is v opened = offered_more told (reply ∷ []) v (are v (subst (λ o. is_offered o v ≡ true) is opened))
 
@@ -117,42 +140,54 @@ module _ {K L D : Type 0} (same : D → D → Bool) (elect : Elect L) where
     abbrev open_in : MemberFacts K L D → OutstandingWork K D
     open_in n = n.outstanding_work
 
-    call_opens : (call : CallFacts D) → IsCall same elect m call reply next → AreOfferedIn (told ++ reply ∷ []) next.outstanding_work
+    call_opens : (call : CallFacts D) → IsCall same elect m call reply next
+        → AreOfferedIn (told ++ reply ∷ []) next.outstanding_work
     unfolding IsCall
     call_opens call is_call = by_life m.life is_call
       where
-        by_test : (x : StateFacts K L D) (b : Bool) (due : Option Fault) → reply ≡ cond b (unless_refused due (answer same elect x m.outstanding_work call)) NotAllowed
-            → next ≡ cond b (unless_retained due m (with_call same elect x m call)) m → AreOfferedIn (told ++ reply ∷ []) next.outstanding_work
+        by_test : (x : StateFacts K L D) (b : Bool) (due : Option Fault)
+            → reply ≡ cond b (unless_refused due (answer same elect x m.outstanding_work call)) NotAllowed
+            → next ≡ cond b (unless_retained due m (with_call same elect x m call)) m
+            → AreOfferedIn (told ++ reply ∷ []) next.outstanding_work
         by_test x false due tells leaves = still_open (ap open_in leaves)
         by_test x true (Some due) tells leaves = still_open (ap open_in leaves)
         by_test x true None tells leaves = λ v opened.
             subst (λ r. IsOfferedIn (told ++ r ∷ []) v) (sym tells)
-            (answer_opens told x m.outstanding_work call are v (subst (λ o. is_offered o v ≡ true) (ap open_in leaves) opened))
+            (answer_opens told x m.outstanding_work call are v
+            (subst (λ o. is_offered o v ≡ true) (ap open_in leaves) opened))
 
-        by_life : (life : Option (StateFacts K L D)) → AnswersAlive same elect life m call reply next → AreOfferedIn (told ++ reply ∷ []) next.outstanding_work
+        by_life : (life : Option (StateFacts K L D)) → AnswersAlive same elect life m call reply next
+            → AreOfferedIn (told ++ reply ∷ []) next.outstanding_work
         by_life None (tells, leaves) = still_open (ap open_in leaves)
-        by_life (Some x) (inl (tells, leaves)) = by_test x (is_allowed x m.outstanding_work call) (fault_of x call) tells leaves
+        by_life (Some x) (inl (tells, leaves)) =
+            by_test x (is_allowed x m.outstanding_work call) (fault_of x call) tells leaves
         by_life (Some x) (inr (allowed, tells, inl (room, leaves))) = still_open (ap open_in leaves)
         by_life (Some x) (inr (allowed, tells, inr (fault, falls, leaves))) = none_open (ap open_in leaves)
 
-    restart_opens : (r : RestartFacts K L D) (result : Result (Unit {0}) RecoverError) → IsRestart same elect m r result next → AreOfferedIn (told ++ reply ∷ []) next.outstanding_work
+    restart_opens : (r : RestartFacts K L D) (result : Result (Unit {0}) RecoverError)
+        → IsRestart same elect m r result next → AreOfferedIn (told ++ reply ∷ []) next.outstanding_work
     unfolding IsRestart
     restart_opens r result is = by_growth (retention_grows m r.prune r.start.setup.settings.view_retention) is
       where
         cut : MemberFacts K L D
         cut = cut_member m r.drop r.prune
 
-        by_error : (copy : List _) (o : Option RecoverError) → MatchOption o ((result ≡ Ok tt) × (next ≡ new_lifetime same elect cut r.start copy)) (λ e. (result ≡ Err e) × (next ≡ without_lifetime cut))
+        by_error : (copy : List _) (o : Option RecoverError)
+            → MatchOption o ((result ≡ Ok tt) × (next ≡ new_lifetime same elect cut r.start copy))
+            (λ e. (result ≡ Err e) × (next ≡ without_lifetime cut))
             → AreOfferedIn (told ++ reply ∷ []) next.outstanding_work
         by_error copy None (done, leaves) = none_open (ap open_in leaves)
         by_error copy (Some e) (refused, leaves) = none_open (ap open_in leaves)
 
-        by_growth : (grows : Bool) → IsRestartWhere same elect grows m r result next → AreOfferedIn (told ++ reply ∷ []) next.outstanding_work
+        by_growth : (grows : Bool) → IsRestartWhere same elect grows m r result next
+            → AreOfferedIn (told ++ reply ∷ []) next.outstanding_work
         by_growth true (refused, leaves) = still_open (ap open_in leaves)
         by_growth false (inl (refused, leaves)) = none_open (ap open_in leaves)
-        by_growth false (inr (copy, by_view, recovers)) = by_error copy (recover_error same (new_state r.start.setup) r.start.floor r.start.now copy) recovers
+        by_growth false (inr (copy, by_view, recovers)) =
+            by_error copy (recover_error same (new_state r.start.setup) r.start.floor r.start.now copy) recovers
 
-    step_opens : (step : StepFacts K L D) → IsStep same elect m step reply next → AreOfferedIn (told ++ reply ∷ []) next.outstanding_work
+    step_opens : (step : StepFacts K L D) → IsStep same elect m step reply next
+        → AreOfferedIn (told ++ reply ∷ []) next.outstanding_work
     step_opens (Calls call) is_step = call_opens call is_step
     step_opens Prunes (tells, leaves) = still_open (ap open_in leaves)
     step_opens (Restarts r) (result, restarts, tells) = restart_opens r result restarts
@@ -166,25 +201,34 @@ module _ {K L D : Type 0} (same : D → D → Bool) (elect : Elect L) (q : Propo
 
   -- a living member does, of a view that it offered
   abbrev Judges : MemberFacts K L D → Option (StateFacts K L D) → Type 0
-  Judges m life = (x : StateFacts K L D) × (life ≡ Some x) × (v : ℕ) × (is_offered m.outstanding_work v ≡ true) × JudgesAt x v
+  Judges m life = (x : StateFacts K L D) × (life ≡ Some x) × (v : ℕ) × (is_offered m.outstanding_work v ≡ true)
+      × JudgesAt x v
 
-  answer_judges : (m : MemberFacts K L D) (x : StateFacts K L D) (call : CallFacts D) → IsStepOnOffer m (Calls call) → Contains (judged_by (answer same elect x m.outstanding_work call)) (true, q)
+  answer_judges : (m : MemberFacts K L D) (x : StateFacts K L D) (call : CallFacts D) → IsStepOnOffer m (Calls call)
+      → Contains (judged_by (answer same elect x m.outstanding_work call)) (true, q)
       → (v : ℕ) × (is_offered m.outstanding_work v ≡ true) × JudgesAt x v
   answer_judges m x (Certified v success now) on_offer h = (v, on_offer, (success, h))
   answer_judges m x _ on_offer h = absurd (none_in (true, q) h)
 
-  not_judged : {A : Type 0} (told other : ReplyFacts K D) → told ≡ other → judged_by other ≡ [] → Contains (judged_by told) (true, q) → A
-  not_judged told other is none h = absurd (none_in (true, q) (subst (λ js. Contains js (true, q)) (ap judged_by is ∙ none) h))
+  not_judged : {A : Type 0} (told other : ReplyFacts K D) → told ≡ other → judged_by other ≡ []
+      → Contains (judged_by told) (true, q) → A
+  not_judged told other is none h =
+      absurd (none_in (true, q) (subst (λ js. Contains js (true, q)) (ap judged_by is ∙ none) h))
 
-  call_judges : (m next : MemberFacts K L D) (call : CallFacts D) (told : ReplyFacts K D) → IsCall same elect m call told next → IsStepOnOffer m (Calls call) → Contains (judged_by told) (true, q) → Judges m m.life
+  call_judges : (m next : MemberFacts K L D) (call : CallFacts D) (told : ReplyFacts K D)
+      → IsCall same elect m call told next → IsStepOnOffer m (Calls call) → Contains (judged_by told) (true, q)
+      → Judges m m.life
   unfolding IsCall
   call_judges m next call told is_call on_offer h = by_life m.life is_call
     where
-      by_test : (x : StateFacts K L D) (b : Bool) (due : Option Fault) → told ≡ cond b (unless_refused due (answer same elect x m.outstanding_work call)) NotAllowed → Judges m (Some x)
+      by_test : (x : StateFacts K L D) (b : Bool) (due : Option Fault)
+          → told ≡ cond b (unless_refused due (answer same elect x m.outstanding_work call)) NotAllowed
+          → Judges m (Some x)
       by_test x false due tells = not_judged told NotAllowed tells refl h
       by_test x true (Some due) tells = not_judged told _ tells refl h
       by_test x true None tells =
-          let it = answer_judges m x call on_offer (subst (λ (t : ReplyFacts K D). Contains (judged_by t) (true, q)) tells h) in
+          let it = answer_judges m x call on_offer
+          (subst (λ (t : ReplyFacts K D). Contains (judged_by t) (true, q)) tells h) in
           (x, refl, it.0, it.1, it.2)
 
       by_life : (life : Option (StateFacts K L D)) → AnswersAlive same elect life m call told next → Judges m life
@@ -192,14 +236,17 @@ module _ {K L D : Type 0} (same : D → D → Bool) (elect : Elect L) (q : Propo
       by_life (Some x) (inl (tells, leaves)) = by_test x (is_allowed x m.outstanding_work call) (fault_of x call) tells
       by_life (Some x) (inr (allowed, tells, leaves)) = not_judged told _ tells refl h
 
-  step_judges : (m next : MemberFacts K L D) (step : StepFacts K L D) (told : ReplyFacts K D) → IsStep same elect m step told next → IsStepOnOffer m step → Contains (judged_by told) (true, q) → Judges m m.life
+  step_judges : (m next : MemberFacts K L D) (step : StepFacts K L D) (told : ReplyFacts K D)
+      → IsStep same elect m step told next → IsStepOnOffer m step → Contains (judged_by told) (true, q)
+      → Judges m m.life
   step_judges m next (Calls call) told is_step on_offer h = call_judges m next call told is_step on_offer h
   step_judges m next Prunes told is_step on_offer h = not_judged told _ is_step.0 refl h
   step_judges m next (Restarts r) told (Ok done, restarts, is) on_offer h = not_judged told _ is refl h
   step_judges m next (Restarts r) told (Err error, restarts, is) on_offer h = not_judged told _ is refl h
 
   -- the run up to there, where these replies came before
-  record JudgedIn (before : List (ReplyFacts K D)) (m : MemberFacts K L D) (steps : List (StepFacts K L D)) (replies : List (ReplyFacts K D)) : Type 0 where
+  record JudgedIn (before : List (ReplyFacts K D)) (m : MemberFacts K L D) (steps : List (StepFacts K L D))
+      (replies : List (ReplyFacts K D)) : Type 0 where
     first : List (StepFacts K L D)
     told : List (ReplyFacts K D)
     more : List (StepFacts K L D)
@@ -214,7 +261,9 @@ module _ {K L D : Type 0} (same : D → D → Bool) (elect : Elect L) (q : Propo
     offered : IsOfferedIn (before ++ told) view
     judges : JudgesAt x view
 
-  judged_at : (before : List (ReplyFacts K D)) (steps : List (StepFacts K L D)) (replies : List (ReplyFacts K D)) (m end : MemberFacts K L D) → IsRunOnOffers same elect m steps replies end → AreOfferedIn before m.outstanding_work
+  judged_at : (before : List (ReplyFacts K D)) (steps : List (StepFacts K L D)) (replies : List (ReplyFacts K D))
+      (m end : MemberFacts K L D) → IsRunOnOffers same elect m steps replies end
+      → AreOfferedIn before m.outstanding_work
       → Contains (judged_in replies) (true, q) → JudgedIn before m steps replies
   judged_at before [] [] m end run are h = absurd (none_in (true, q) h)
   judged_at before [] (reply ∷ replies) m end run are h = absurd run
@@ -239,7 +288,8 @@ module _ {K L D : Type 0} (same : D → D → Bool) (elect : Elect L) (q : Propo
               judges = it.4;
             })
         | inr later ↦ (
-            let v = judged_at (before ++ reply ∷ []) steps replies next end run (step_opens same elect before m next reply are step is_step) later in
+            let v = judged_at (before ++ reply ∷ []) steps replies next end run
+            (step_opens same elect before m next reply are step is_step) later in
             record {
               first = step ∷ v.first;
               told = reply ∷ v.told;
@@ -274,64 +324,97 @@ module _ {K L D : Type 0} (same : D → D → Bool) (elect : Elect L) (x : State
       by_test p true is = ap (λ o. unwrap_or o q) is
       by_test p false is = absurd (false≢true (ap is_some is))
 
-      by_same : (c : ProposalFacts D) (h : Proposal D) (b : Bool) → same_proposal same h c.proposal ≡ b → option_and_then offer (if b then Some h else None) ≡ Some q → same_proposal same q c.proposal ≡ true
+      by_same : (c : ProposalFacts D) (h : Proposal D) (b : Bool) → same_proposal same h c.proposal ≡ b
+          → option_and_then offer (if b then Some h else None) ≡ Some q → same_proposal same q c.proposal ≡ true
       by_same c h true alike is =
-          subst (λ (p : Proposal D). same_proposal same p c.proposal ≡ true) (by_test h (nat_lt h.parent v && certification_parent_ready elect x v h) is) alike
+          subst (λ (p : Proposal D). same_proposal same p c.proposal ≡ true)
+          (by_test h (nat_lt h.parent v && certification_parent_ready elect x v h) is) alike
       by_same c h false alike is = absurd (false≢true (ap is_some is))
 
-      by_held : (c : ProposalFacts D) (o : Option (Proposal D)) → option_and_then offer (option_and_then (λ h. if same_proposal same h c.proposal then Some h else None) o) ≡ Some q → same_proposal same q c.proposal ≡ true
+      by_held : (c : ProposalFacts D) (o : Option (Proposal D))
+          → option_and_then offer (option_and_then (λ h. if same_proposal same h c.proposal then Some h else None) o)
+          ≡ Some q → same_proposal same q c.proposal ≡ true
       by_held c None is = absurd (false≢true (ap is_some is))
       by_held c (Some h) is = by_same c h (same_proposal same h c.proposal) refl is
 
-      by_notarization : (n : Option (ProposalFacts D)) → option_and_then offer (option_and_then (λ (c : ProposalFacts D). option_and_then (λ h. if same_proposal same h c.proposal then Some h else None) (round_of x v).slot.held) n) ≡ Some q → RestsOn n
+      by_notarization : (n : Option (ProposalFacts D))
+          → option_and_then offer (option_and_then
+          (λ (c : ProposalFacts D). option_and_then (λ h. if same_proposal same h c.proposal then Some h else None)
+          (round_of x v).slot.held) n) ≡ Some q → RestsOn n
       by_notarization None is = absurd (false≢true (ap is_some is))
       by_notarization (Some c) is = (c, refl, by_held c (round_of x v).slot.held is)
 
-      by_ready : (b : Bool) → option_and_then offer (if b then option_and_then (λ (c : ProposalFacts D). option_and_then (λ h. if same_proposal same h c.proposal then Some h else None) (round_of x v).slot.held) (round_of x v).notarization else None) ≡ Some q
+      by_ready : (b : Bool) → option_and_then offer
+          (if b then option_and_then (λ (c : ProposalFacts D).
+          option_and_then (λ h. if same_proposal same h c.proposal then Some h else None) (round_of x v).slot.held)
+          (round_of x v).notarization else None) ≡ Some q
           → RestsOn (round_of x v).notarization
       by_ready true is = by_notarization (round_of x v).notarization is
       by_ready false is = absurd (false≢true (ap is_some is))
 
-module _ {K L D : Type 0} (term_length : ℕ) (s : Execution K L D) (x : StateFacts K L D) (led : Led term_length (trace_of s) (judged_of s) x) (v : ℕ) (q : Proposal D) where
+module _ {K L D : Type 0} (term_length : ℕ) (s : Execution K L D) (x : StateFacts K L D)
+    (led : Led term_length (trace_of s) (judged_of s) x) (v : ℕ) (q : Proposal D) where
   -- a verdict is on a proposal of its view
-  judged_view : (success : Bool) → Contains (judged_by {K = K} (Judged success (certified_answer x v))) (true, q) → q.round.view ≡ v
+  judged_view : (success : Bool) → Contains (judged_by {K = K} (Judged success (certified_answer x v))) (true, q)
+      → q.round.view ≡ v
   judged_view success h = by_round (round_at x v) refl h
     where
-      by_notarization : (r : RoundFacts K D) (n : Option (ProposalFacts D)) → round_at x v ≡ Some r → r.notarization ≡ n → Contains (judged_by {K = K} (Judged success n)) (true, q) → q.round.view ≡ v
+      by_notarization : (r : RoundFacts K D) (n : Option (ProposalFacts D)) → round_at x v ≡ Some r → r.notarization ≡ n
+          → Contains (judged_by {K = K} (Judged success n)) (true, q) → q.round.view ≡ v
       by_notarization r None at is h = absurd (none_in (true, q) h)
       by_notarization r (Some c) at is h =
-          let there : (round_of x v).notarization ≡ Some c = ap (λ f. (unwrap_or f (new_round x.me x.members (round_number x v))).notarization) at ∙ is in
-          subst (λ (p : Proposal D). p.round.view ≡ v) (ap (λ (e : Bool × Proposal D). e.1) (only_one _ _ h)) (led.rounds.notarized v c there).0.0
+          let there : (round_of x v).notarization ≡ Some c =
+          ap (λ f. (unwrap_or f (new_round x.me x.members (round_number x v))).notarization) at ∙ is in
+          subst (λ (p : Proposal D). p.round.view ≡ v) (ap (λ (e : Bool × Proposal D). e.1) (only_one _ _ h))
+          (led.rounds.notarized v c there).0.0
 
-      by_round : (f : Option (RoundFacts K D)) → round_at x v ≡ f → Contains (judged_by {K = K} (Judged success (option_and_then (λ (r : RoundFacts K D). r.notarization) f))) (true, q) → q.round.view ≡ v
+      by_round : (f : Option (RoundFacts K D)) → round_at x v ≡ f
+          → Contains (judged_by {K = K} (Judged success (option_and_then (λ (r : RoundFacts K D). r.notarization) f)))
+          (true, q) → q.round.view ≡ v
       by_round None at h = absurd (none_in (true, q) h)
       by_round (Some r) at h = by_notarization r r.notarization at refl h
 
 -- ---- of a network
 
-module _ {K L D : Type 0} (same : D → D → Bool) (decides : (d e : D) → same d e ≡ true → d ≡ e) (elect : Elect L) (term_length : ℕ) (network : List (Replica K L D)) (good : IsNetworkOf same elect term_length network) where
+module _ {K L D : Type 0} (same : D → D → Bool) (decides : (d e : D) → same d e ≡ true → d ≡ e) (elect : Elect L)
+    (term_length : ℕ) (network : List (Replica K L D)) (good : IsNetworkOf same elect term_length network) where
   module _ (i : ℕ) (s : Execution K L D) (at : slice_get network i ≡ Some (Honest s)) where
     offered_backed : (p : Proposal D) → WasOffered p s → Backed network (subject.Notarize p)
     offered_backed p was =
         let cast = state_at_offer same elect p term_length i s (good.honest i s at) was in
-        let led = state_led same decides elect term_length i (record s { steps = cast.steps; replies = cast.replies }) cast.ran cast.x cast.lives in
+        let led = state_led same decides elect term_length i (record s { steps = cast.steps; replies = cast.replies })
+        cast.ran cast.x cast.lives in
         let found = offered_notarized same elect cast.x cast.holds.0 p cast.holds.1 in
         let noted = led.rounds.notarized cast.holds.0 found.0 found.1 in
         good.backed i s (subject.Notarize p) at
-        (subst (λ (r : Proposal D). Contains (trace_of s) (Accepts (subject.Notarize r))) (sym (same_proposal-true same decides p found.0.proposal found.2)) (cast.trace_within (Accepts (subject.Notarize found.0.proposal)) noted.1))
+        (subst (λ (r : Proposal D). Contains (trace_of s) (Accepts (subject.Notarize r)))
+        (sym (same_proposal-true same decides p found.0.proposal found.2))
+        (cast.trace_within (Accepts (subject.Notarize found.0.proposal)) noted.1))
 
-    judged_offered : (end : MemberFacts K L D) → IsRunOnOffers same elect (new_member same elect s.start) s.steps s.replies end → (q : Proposal D) → Contains (judged_of s) (true, q) → WasOffered q s
+    judged_offered : (end : MemberFacts K L D)
+        → IsRunOnOffers same elect (new_member same elect s.start) s.steps s.replies end → (q : Proposal D)
+        → Contains (judged_of s) (true, q) → WasOffered q s
     judged_offered end run q h =
         let ran = good.honest i s at in
-        let it = judged_at same elect q [] s.steps s.replies (new_member same elect s.start) end run (λ v opened. absurd (false≢true opened)) h in
-        let cast = state_where same elect term_length i s ran (λ x. JudgesAt same elect q x it.view) it.first it.more it.told it.rest it.middle it.steps_are it.replies_are it.run it.x it.alive it.judges in
+        let it = judged_at same elect q [] s.steps s.replies (new_member same elect s.start) end run
+        (λ v opened. absurd (false≢true opened)) h in
+        let cast = state_where same elect term_length i s ran (λ x. JudgesAt same elect q x it.view) it.first it.more
+        it.told it.rest it.middle it.steps_are it.replies_are it.run it.x it.alive it.judges in
         let before = record s { steps = cast.steps; replies = cast.replies } in
-        let view = judged_view term_length before cast.x (state_led same decides elect term_length i before cast.ran cast.x cast.lives) it.view q cast.holds.0 cast.holds.1 in
+        let view = judged_view term_length before cast.x
+        (state_led same decides elect term_length i before cast.ran cast.x cast.lives) it.view q cast.holds.0
+        cast.holds.1 in
         let found = it.offered in
-        let was : WasOffered found.2 s =
-        (found.0, found.1, subst (λ rs. Contains rs (Candidates found.0 found.1)) (sym it.replies_are) (Contains-append_left it.told it.rest (Candidates found.0 found.1) found.3), found.4) in
+        let was : WasOffered found.2 s = (
+          found.0,
+          found.1,
+          subst (λ rs. Contains rs (Candidates found.0 found.1)) (sym it.replies_are)
+              (Contains-append_left it.told it.rest (Candidates found.0 found.1) found.3),
+          found.4,
+        ) in
         let judged = judged_are_notarized same decides elect term_length i s ran true q h in
-        let one = one_proposal same decides elect term_length network good found.2 q (inl (offered_backed found.2 was)) (inl (good.backed i s (subject.Notarize q) at judged)) (found.5 ∙ sym view) in
+        let one = one_proposal same decides elect term_length network good found.2 q (inl (offered_backed found.2 was))
+        (inl (good.backed i s (subject.Notarize q) at judged)) (found.5 ∙ sym view) in
         subst (λ (p : Proposal D). WasOffered p s) one was
 
   pub offers_awaited : OffersAreAwaited same elect network

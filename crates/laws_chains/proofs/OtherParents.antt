@@ -26,15 +26,24 @@ use Rattle.laws_chains.specs.UnofferedVerdicts.{long_start, first_of}
 use Rattle.laws_chains.specs.OtherParents.{asked_on, misled, led, verified_apart, ParentIsTwelve, VerifiedOnEleven}
 
 misled_told : told_in misled ≡ misled.replies
-unfolding standing propose_answer proposed_answer find_parent captured_parent_valid has_valid_parent_span ancestry_payload_for_child first_unnullified_view explicit_ancestry_payload optimistic_ancestry_payload is_handoff_parent is_voted_ancestor can_chain_on in_issuance_window is_admitted verification_matches parent_payload_for may_notarize may_nullify may_finalize has_conflicting_nullify required_certification_parent
+unfolding standing propose_answer proposed_answer find_parent captured_parent_valid has_valid_parent_span
+    ancestry_payload_for_child first_unnullified_view explicit_ancestry_payload optimistic_ancestry_payload
+    is_handoff_parent is_voted_ancestor can_chain_on in_issuance_window is_admitted verification_matches
+    parent_payload_for may_notarize may_nullify may_finalize has_conflicting_nullify required_certification_parent
 misled_told = refl
 
 one_told : told_in (led 1) ≡ (led 1).replies
-unfolding standing propose_answer proposed_answer find_parent captured_parent_valid has_valid_parent_span ancestry_payload_for_child first_unnullified_view explicit_ancestry_payload optimistic_ancestry_payload is_handoff_parent is_voted_ancestor can_chain_on in_issuance_window is_admitted verification_matches parent_payload_for may_notarize may_nullify may_finalize has_conflicting_nullify required_certification_parent
+unfolding standing propose_answer proposed_answer find_parent captured_parent_valid has_valid_parent_span
+    ancestry_payload_for_child first_unnullified_view explicit_ancestry_payload optimistic_ancestry_payload
+    is_handoff_parent is_voted_ancestor can_chain_on in_issuance_window is_admitted verification_matches
+    parent_payload_for may_notarize may_nullify may_finalize has_conflicting_nullify required_certification_parent
 one_told = refl
 
 two_told : told_in (led 2) ≡ (led 2).replies
-unfolding standing propose_answer proposed_answer find_parent captured_parent_valid has_valid_parent_span ancestry_payload_for_child first_unnullified_view explicit_ancestry_payload optimistic_ancestry_payload is_handoff_parent is_voted_ancestor can_chain_on in_issuance_window is_admitted verification_matches parent_payload_for may_notarize may_nullify may_finalize has_conflicting_nullify required_certification_parent
+unfolding standing propose_answer proposed_answer find_parent captured_parent_valid has_valid_parent_span
+    ancestry_payload_for_child first_unnullified_view explicit_ancestry_payload optimistic_ancestry_payload
+    is_handoff_parent is_voted_ancestor can_chain_on in_issuance_window is_admitted verification_matches
+    parent_payload_for may_notarize may_nullify may_finalize has_conflicting_nullify required_certification_parent
 two_told = refl
 
 begins : (me : ℕ) → BeginsAs 3 me (long_start me).setup
@@ -68,7 +77,9 @@ first_notarized : Backed verified_apart (subject.Notarize (first_of 1))
 first_notarized = backed_so verified_apart (subject.Notarize (first_of 1)) refl
 
 pub parent_is_twelve : ParentIsTwelve
-parent_is_twelve q at notarized = ap (λ (k : Proposal ℕ). k.payload) (one_proposal nat_eq eqb-true in_turn 3 verified_apart apart_network q (first_of 1) (inl notarized) (inl first_notarized) at)
+parent_is_twelve q at notarized = ap (λ (k : Proposal ℕ). k.payload)
+    (one_proposal nat_eq eqb-true in_turn 3 verified_apart apart_network q (first_of 1) (inl notarized)
+    (inl first_notarized) at)
 
 -- the payload that a reply asks to verify view 2 on
 abbrev payload_in : ReplyFacts ℕ ℕ → ℕ
@@ -79,7 +90,8 @@ abbrev AllEleven : List (ReplyFacts ℕ ℕ) → Type 0
 AllEleven [] = Unit {0}
 AllEleven (told ∷ replies) = (payload_in told ≡ 11) × AllEleven replies
 
-each_eleven : (replies : List (ReplyFacts ℕ ℕ)) → AllEleven replies → (told : ReplyFacts ℕ ℕ) → Contains replies told → payload_in told ≡ 11
+each_eleven : (replies : List (ReplyFacts ℕ ℕ)) → AllEleven replies → (told : ReplyFacts ℕ ℕ) → Contains replies told
+    → payload_in told ≡ 11
 each_eleven [] all told h = absurd (omega (arith, h.1))
 each_eleven (first ∷ replies) all told h = elim (Contains-cases first replies told h) [
   | inl here ↦ ap payload_in (sym here) ∙ all.0
@@ -87,7 +99,10 @@ each_eleven (first ∷ replies) all told h = elim (Contains-cases first replies 
 ]
 
 eleven_all : AllEleven misled.replies
-eleven_all = (refl, (refl, (refl, (refl, (refl, (refl, (refl, (refl, (refl, (refl, (refl, (refl, (refl, (refl, (refl, tt)))))))))))))))
+eleven_all = (
+  refl,
+  (refl, (refl, (refl, (refl, (refl, (refl, (refl, (refl, (refl, (refl, (refl, (refl, (refl, (refl, tt)))))))))))))),
+)
 
 pub verified_on_eleven : VerifiedOnEleven
 verified_on_eleven = (

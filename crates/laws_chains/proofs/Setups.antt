@@ -21,23 +21,33 @@ use Rattle.laws_progress.specs.NetworkStates.{RunsWith}
 
 module _ {K L D : Type 0} (same : D → D → Bool) (elect : Elect L) (P : StateFacts K L D → Type 0)
     (keeps : (x : StateFacts K L D) (e : Event K D) → P x → P (after_event same elect x e)) where
-  from_copy : (n : MemberFacts K L D) (start : StartFacts K L D) (result : Result (Unit {0}) RecoverError) (left : MemberFacts K L D) → P (new_state start.setup) → RecoversByView same elect n start result left → HoldsIn P left.life
+  from_copy : (n : MemberFacts K L D) (start : StartFacts K L D) (result : Result (Unit {0}) RecoverError)
+      (left : MemberFacts K L D) → P (new_state start.setup) → RecoversByView same elect n start result left
+      → HoldsIn P left.life
   from_copy n start result left begun (inl (is, leaves)) = rw leaves tt
-  from_copy n start result left begun (inr (copy, by_view, goes)) = by_error (recover_error same (new_state start.setup) start.floor start.now copy) goes
+  from_copy n start result left begun (inr (copy, by_view, goes)) =
+      by_error (recover_error same (new_state start.setup) start.floor start.now copy) goes
     where
-      by_error : (o : Option RecoverError) → MatchOption o ((result ≡ Ok tt) × (left ≡ new_lifetime same elect n start copy)) (λ e. (result ≡ Err e) × (left ≡ without_lifetime n)) → HoldsIn P left.life
-      by_error None (_, leaves) = rw leaves (recovered_keeps same elect P keeps start.now (new_state start.setup) start.floor copy begun)
+      by_error : (o : Option RecoverError) → MatchOption o
+          ((result ≡ Ok tt) × (left ≡ new_lifetime same elect n start copy))
+          (λ e. (result ≡ Err e) × (left ≡ without_lifetime n)) → HoldsIn P left.life
+      by_error None (_, leaves) =
+          rw leaves (recovered_keeps same elect P keeps start.now (new_state start.setup) start.floor copy begun)
       by_error (Some e) (_, leaves) = rw leaves tt
 
-  restart_keeps : (m : MemberFacts K L D) (r : RestartFacts K L D) (result : Result (Unit {0}) RecoverError) (left : MemberFacts K L D) → P (new_state r.start.setup) → HoldsIn P m.life → IsRestart same elect m r result left → HoldsIn P left.life
+  restart_keeps : (m : MemberFacts K L D) (r : RestartFacts K L D) (result : Result (Unit {0}) RecoverError)
+      (left : MemberFacts K L D) → P (new_state r.start.setup) → HoldsIn P m.life → IsRestart same elect m r result left
+      → HoldsIn P left.life
   unfolding IsRestart
-  restart_keeps m r result left begun holds restarts = by_test (retention_grows m r.prune r.start.setup.settings.view_retention) restarts
+  restart_keeps m r result left begun holds restarts =
+      by_test (retention_grows m r.prune r.start.setup.settings.view_retention) restarts
     where
       by_test : (b : Bool) → IsRestartWhere same elect b m r result left → HoldsIn P left.life
       by_test true (_, leaves) = rw leaves holds
       by_test false goes = from_copy (cut_member m r.drop r.prune) r.start result left begun goes
 
-  told_keeps : (m : MemberFacts K L D) (call : CallFacts D) (told : ReplyFacts K D) (left : MemberFacts K L D) → IsCall same elect m call told left → HoldsIn P m.life → HoldsIn P left.life
+  told_keeps : (m : MemberFacts K L D) (call : CallFacts D) (told : ReplyFacts K D) (left : MemberFacts K L D)
+      → IsCall same elect m call told left → HoldsIn P m.life → HoldsIn P left.life
   told_keeps m call told left is_step holds =
       elim (call_outcome same elect (λ c t x y. P x → P y) (λ c f x s. s) (λ c x s. s)
       (λ c x o allowed s. call_by_any same elect x o P s (λ e. keeps x e s) c) m call told left is_step) [
@@ -45,29 +55,38 @@ module _ {K L D : Type 0} (same : D → D → Bool) (elect : Elect L) (P : State
         | inr (x, y, alive, lives, leads) ↦ subst (HoldsIn P) (sym lives) (leads (subst (HoldsIn P) alive holds))
       ]
 
-  run_keeps : (steps : List (StepFacts K L D)) (replies : List (ReplyFacts K D)) (m end : MemberFacts K L D) → ((r : RestartFacts K L D) → Contains steps (Restarts r) → P (new_state r.start.setup)) → HoldsIn P m.life → IsRun same elect m steps replies end → HoldsIn P end.life
+  run_keeps : (steps : List (StepFacts K L D)) (replies : List (ReplyFacts K D)) (m end : MemberFacts K L D)
+      → ((r : RestartFacts K L D) → Contains steps (Restarts r) → P (new_state r.start.setup)) → HoldsIn P m.life
+      → IsRun same elect m steps replies end → HoldsIn P end.life
   run_keeps [] [] m end later holds run = subst (λ n. HoldsIn P n.life) run holds
   run_keeps [] (told ∷ replies) m end later holds run = absurd run
   run_keeps (step ∷ steps) [] m end later holds run = absurd run
   run_keeps (Calls call ∷ steps) (told ∷ replies) m end later holds (next, is_step, rest) =
-      run_keeps steps replies next end (λ r h. later r (Contains-cons_rest (Calls call) steps (Restarts r) h)) (told_keeps m call told next is_step holds) rest
+      run_keeps steps replies next end (λ r h. later r (Contains-cons_rest (Calls call) steps (Restarts r) h))
+      (told_keeps m call told next is_step holds) rest
   run_keeps (Prunes ∷ steps) (told ∷ replies) m end later holds (next, (tells, leaves), rest) =
-      run_keeps steps replies next end (λ r h. later r (Contains-cons_rest Prunes steps (Restarts r) h)) (rw leaves holds) rest
+      run_keeps steps replies next end (λ r h. later r (Contains-cons_rest Prunes steps (Restarts r) h))
+      (rw leaves holds) rest
   run_keeps (Restarts q ∷ steps) (told ∷ replies) m end later holds (next, is_step, rest) =
-      run_keeps steps replies next end (λ r h. later r (Contains-cons_rest (Restarts q) steps (Restarts r) h)) (restart_keeps m q is_step.0 next (later q (0, omega arith, refl)) holds is_step.1) rest
+      run_keeps steps replies next end (λ r h. later r (Contains-cons_rest (Restarts q) steps (Restarts r) h))
+      (restart_keeps m q is_step.0 next (later q (0, omega arith, refl)) holds is_step.1) rest
 
   -- of a state that an execution has
-  pub state_kept : (s : Execution K L D) (x : StateFacts K L D) → RunsWith same elect s x → P (new_state s.start.setup) → ((r : RestartFacts K L D) → Contains s.steps (Restarts r) → P (new_state r.start.setup)) → P x
+  pub state_kept : (s : Execution K L D) (x : StateFacts K L D) → RunsWith same elect s x → P (new_state s.start.setup)
+      → ((r : RestartFacts K L D) → Contains s.steps (Restarts r) → P (new_state r.start.setup)) → P x
   state_kept s x (m, run, alive) first later =
-      subst (HoldsIn P) alive (run_keeps s.steps s.replies (new_member same elect s.start) m later (keeps (new_state s.start.setup) (SetFloor s.start.floor s.start.now) first) run)
+      subst (HoldsIn P) alive (run_keeps s.steps s.replies (new_member same elect s.start) m later
+      (keeps (new_state s.start.setup) (SetFloor s.start.floor s.start.now) first) run)
 
 -- the set-up of the lifetime stays
 module _ {K L D : Type 0} (same : D → D → Bool) (elect : Elect L) (x : StateFacts K L D) (e : Event K D) where
   pub early_kept : x.elects_early ≡ false → (after_event same elect x e).elects_early ≡ false
   early_kept is = (event_goes same elect x e).elects_early ∙ is
 
-  pub alike_kept : (elector : L) (epoch : ℕ) → (x.elector ≡ elector) × (x.settings.epoch ≡ epoch) → ((after_event same elect x e).elector ≡ elector) × ((after_event same elect x e).settings.epoch ≡ epoch)
-  alike_kept elector epoch (by, of) = ((event_goes same elect x e).elector ∙ by, ap (λ t. t.epoch) (event_goes same elect x e).settings ∙ of)
+  pub alike_kept : (elector : L) (epoch : ℕ) → (x.elector ≡ elector) × (x.settings.epoch ≡ epoch)
+      → ((after_event same elect x e).elector ≡ elector) × ((after_event same elect x e).settings.epoch ≡ epoch)
+  alike_kept elector epoch (by, of) =
+      ((event_goes same elect x e).elector ∙ by, ap (λ t. t.epoch) (event_goes same elect x e).settings ∙ of)
 
   pub ahead_kept : x.terms.optimistic_views ≡ 0 → (after_event same elect x e).terms.optimistic_views ≡ 0
   ahead_kept is = ap (λ t. t.optimistic_views) (event_goes same elect x e).terms ∙ is

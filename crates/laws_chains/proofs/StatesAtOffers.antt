@@ -43,22 +43,27 @@ module _ {K L D : Type 0} (same : D → D → Bool) (elect : Elect L) (q : Propo
 
   among : (x : StateFacts K L D) (vs : List ℕ) → Contains (filter_map (offered_of same elect x) vs) q → Offers x
   among x [] h = absurd (none_in q h)
-  among x (v ∷ vs) h = elim (offered_of same elect x v) as (λ o. offered_of same elect x v ≡ o → Contains (cons_option o (filter_map (offered_of same elect x) vs)) q → Offers x) [
-    | None ↦ λ none there. among x vs there
-    | Some p ↦ λ offered there. elim (Contains-cases p (filter_map (offered_of same elect x) vs) q there) [
-      | inl here ↦ (v, offered ∙ ap (λ (r : Proposal D). Some r) here)
-      | inr later ↦ among x vs later
-    ]
-  ] refl h
+  among x (v ∷ vs) h = elim (offered_of same elect x v) as
+      (λ o. offered_of same elect x v ≡ o → Contains (cons_option o (filter_map (offered_of same elect x) vs)) q
+      → Offers x) [
+        | None ↦ λ none there. among x vs there
+        | Some p ↦ λ offered there. elim (Contains-cases p (filter_map (offered_of same elect x) vs) q there) [
+          | inl here ↦ (v, offered ∙ ap (λ (r : Proposal D). Some r) here)
+          | inr later ↦ among x vs later
+        ]
+      ] refl h
 
-  answer_offers : (x : StateFacts K L D) (o : OutstandingWork K D) (call : CallFacts D) → Contains (offers_in (answer same elect x o call)) q → Offers x
+  answer_offers : (x : StateFacts K L D) (o : OutstandingWork K D) (call : CallFacts D)
+      → Contains (offers_in (answer same elect x o call)) q → Offers x
   answer_offers x o CertifyCandidates h = among x x.named h
   answer_offers x o _ h = absurd (none_in q h)
 
-  reply_offers : (x : StateFacts K L D) (o : OutstandingWork K D) (call : CallFacts D) → Contains (offers_in (reply_of same elect x o call)) q → Offers x
+  reply_offers : (x : StateFacts K L D) (o : OutstandingWork K D) (call : CallFacts D)
+      → Contains (offers_in (reply_of same elect x o call)) q → Offers x
   reply_offers x o call h = by_allowed (is_allowed x o call) (fault_of x call) h
     where
-      by_allowed : (b : Bool) (f : Option Fault) → Contains (offers_in (if b then unless_refused f (answer same elect x o call) else NotAllowed)) q → Offers x
+      by_allowed : (b : Bool) (f : Option Fault)
+          → Contains (offers_in (if b then unless_refused f (answer same elect x o call) else NotAllowed)) q → Offers x
       by_allowed false f h = absurd (none_in q h)
       by_allowed true (Some fault) h = absurd (none_in q h)
       by_allowed true None h = answer_offers x o call h
@@ -66,23 +71,37 @@ module _ {K L D : Type 0} (same : D → D → Bool) (elect : Elect L) (q : Propo
   abbrev IsOffering : Option (StateFacts K L D) → Type 0
   IsOffering life = (x : StateFacts K L D) × (life ≡ Some x) × Offers x
 
-  call_offers : (m next : MemberFacts K L D) (call : CallFacts D) (told : ReplyFacts K D) → IsCall same elect m call told next → Contains (offers_in told) q → IsOffering m.life
+  call_offers : (m next : MemberFacts K L D) (call : CallFacts D) (told : ReplyFacts K D)
+      → IsCall same elect m call told next → Contains (offers_in told) q → IsOffering m.life
   unfolding IsCall
   call_offers m next call told is_call h = by_life m.life is_call h
     where
-      by_life : (o : Option (StateFacts K L D)) → AnswersAlive same elect o m call told next → Contains (offers_in told) q → IsOffering o
-      by_life None (tells, leaves) h = absurd (none_in q (subst (λ (t : ReplyFacts K D). Contains (offers_in t) q) tells h))
-      by_life (Some x) (inl (tells, leaves)) h = (x, refl, reply_offers x m.outstanding_work call (subst (λ (t : ReplyFacts K D). Contains (offers_in t) q) tells h))
-      by_life (Some x) (inr (allowed, tells, leaves)) h = absurd (none_in q (subst (λ (t : ReplyFacts K D). Contains (offers_in t) q) tells h))
+      by_life : (o : Option (StateFacts K L D)) → AnswersAlive same elect o m call told next
+          → Contains (offers_in told) q → IsOffering o
+      by_life None (tells, leaves) h = absurd
+          (none_in q (subst (λ (t : ReplyFacts K D). Contains (offers_in t) q) tells h))
+      by_life (Some x) (inl (tells, leaves)) h = (
+        x,
+        refl,
+        reply_offers x m.outstanding_work call
+            (subst (λ (t : ReplyFacts K D). Contains (offers_in t) q) tells h),
+      )
+      by_life (Some x) (inr (allowed, tells, leaves)) h =
+          absurd (none_in q (subst (λ (t : ReplyFacts K D). Contains (offers_in t) q) tells h))
 
-  step_offers : (m next : MemberFacts K L D) (step : StepFacts K L D) (told : ReplyFacts K D) → IsStep same elect m step told next → Contains (offers_in told) q → IsOffering m.life
+  step_offers : (m next : MemberFacts K L D) (step : StepFacts K L D) (told : ReplyFacts K D)
+      → IsStep same elect m step told next → Contains (offers_in told) q → IsOffering m.life
   step_offers m next (Calls call) told is_step h = call_offers m next call told is_step h
-  step_offers m next Prunes told is_step h = absurd (none_in q (subst (λ (t : ReplyFacts K D). Contains (offers_in t) q) is_step.0 h))
-  step_offers m next (Restarts r) told (Ok done, restarts, is) h = absurd (none_in q (subst (λ (t : ReplyFacts K D). Contains (offers_in t) q) is h))
-  step_offers m next (Restarts r) told (Err error, restarts, is) h = absurd (none_in q (subst (λ (t : ReplyFacts K D). Contains (offers_in t) q) is h))
+  step_offers m next Prunes told is_step h =
+      absurd (none_in q (subst (λ (t : ReplyFacts K D). Contains (offers_in t) q) is_step.0 h))
+  step_offers m next (Restarts r) told (Ok done, restarts, is) h =
+      absurd (none_in q (subst (λ (t : ReplyFacts K D). Contains (offers_in t) q) is h))
+  step_offers m next (Restarts r) told (Err error, restarts, is) h =
+      absurd (none_in q (subst (λ (t : ReplyFacts K D). Contains (offers_in t) q) is h))
 
   -- the step that offers it
-  record OfferedIn (m : MemberFacts K L D) (steps : List (StepFacts K L D)) (replies : List (ReplyFacts K D)) : Type 0 where
+  record OfferedIn (m : MemberFacts K L D) (steps : List (StepFacts K L D)) (replies : List (ReplyFacts K D)) : Type
+      0 where
     first : List (StepFacts K L D)
     told : List (ReplyFacts K D)
     more : List (StepFacts K L D)
@@ -93,7 +112,9 @@ module _ {K L D : Type 0} (same : D → D → Bool) (elect : Elect L) (q : Propo
     run : IsRun same elect m first told middle
     offering : IsOffering middle.life
 
-  offered_at : (steps : List (StepFacts K L D)) (replies : List (ReplyFacts K D)) (m end : MemberFacts K L D) → IsRun same elect m steps replies end → (wanted : ReplyFacts K D) → Contains replies wanted → Contains (offers_in wanted) q → OfferedIn m steps replies
+  offered_at : (steps : List (StepFacts K L D)) (replies : List (ReplyFacts K D)) (m end : MemberFacts K L D)
+      → IsRun same elect m steps replies end → (wanted : ReplyFacts K D) → Contains replies wanted
+      → Contains (offers_in wanted) q → OfferedIn m steps replies
   offered_at [] [] m end run wanted h among = absurd (none_in wanted h)
   offered_at [] (reply ∷ replies) m end run wanted h among = absurd run
   offered_at (step ∷ steps) [] m end run wanted h among = absurd run
@@ -108,7 +129,8 @@ module _ {K L D : Type 0} (same : D → D → Bool) (elect : Elect L) (q : Propo
           replies_are = refl;
           middle = m;
           run = refl;
-          offering = step_offers m next step reply is_step (subst (λ (t : ReplyFacts K D). Contains (offers_in t) q) (sym here) among);
+          offering = step_offers m next step reply is_step
+              (subst (λ (t : ReplyFacts K D). Contains (offers_in t) q) (sym here) among);
         }
         | inr later ↦ (
             let v = offered_at steps replies next end run wanted later among in
@@ -125,45 +147,74 @@ module _ {K L D : Type 0} (same : D → D → Bool) (elect : Elect L) (q : Propo
             })
       ]
 
-  pub state_at_offer : (term_length member : ℕ) (s : Execution K L D) → IsExecution same elect term_length member s → WasOffered q s → StateWhere same elect term_length member s Offers
+  pub state_at_offer : (term_length member : ℕ) (s : Execution K L D) → IsExecution same elect term_length member s
+      → WasOffered q s → StateWhere same elect term_length member s Offers
   unfolding IsRunFrom
   state_at_offer term_length member s ran (offers, fetches, h, among) =
-      let v = offered_at s.steps s.replies (new_member same elect s.start) ran.run.1 ran.run.2 (Candidates offers fetches) h among in
-      state_where same elect term_length member s ran Offers v.first v.more v.told v.rest v.middle v.steps_are v.replies_are v.run v.offering.0 v.offering.1 v.offering.2
+      let v = offered_at s.steps s.replies (new_member same elect s.start) ran.run.1 ran.run.2
+      (Candidates offers fetches) h among in
+      state_where same elect term_length member s ran Offers v.first v.more v.told v.rest v.middle v.steps_are
+      v.replies_are v.run v.offering.0 v.offering.1 v.offering.2
 
 -- a proposal that is offered inside a term has an explicit view as its parent
 
 module _ {K L D : Type 0} (same : D → D → Bool) (elect : Elect L) (x : StateFacts K L D) (v : ℕ) (q : Proposal D) where
-  pub offered_held : offered_of same elect x v ≡ Some q → (proposal_at x v ≡ Some q) × (certification_parent_ready elect x v q ≡ true)
+  pub offered_held : offered_of same elect x v ≡ Some q
+      → (proposal_at x v ≡ Some q) × (certification_parent_ready elect x v q ≡ true)
   offered_held is = by_ready (is_ready (round_of x v).certification) is
     where
-      by_test : (p : Proposal D) (b : Bool) → (nat_lt p.parent v && certification_parent_ready elect x v p) ≡ b → (if b then Some p else None) ≡ Some q → (p ≡ q) × (certification_parent_ready elect x v q ≡ true)
+      by_test : (p : Proposal D) (b : Bool) → (nat_lt p.parent v && certification_parent_ready elect x v p) ≡ b
+          → (if b then Some p else None) ≡ Some q → (p ≡ q) × (certification_parent_ready elect x v q ≡ true)
       by_test p true good is =
-          let one : p ≡ q = ap (λ o. unwrap_or o q) is in
-          (one, subst (λ (k : Proposal D). certification_parent_ready elect x v k ≡ true) one (and_parts (nat_lt p.parent v) (certification_parent_ready elect x v p) good).1)
+          let one : p ≡ q = ap (λ o. unwrap_or o q) is in (
+            one,
+            subst (λ (k : Proposal D). certification_parent_ready elect x v k ≡ true) one
+                (and_parts (nat_lt p.parent v) (certification_parent_ready elect x v p) good).1,
+          )
       by_test p false bad is = absurd (false≢true (ap is_some is))
 
-      by_same : (h : Proposal D) → (round_of x v).slot.held ≡ Some h → (b : Bool) → option_and_then (λ p. if nat_lt p.parent v && certification_parent_ready elect x v p then Some p else None) (if b then Some h else None) ≡ Some q → (proposal_at x v ≡ Some q) × (certification_parent_ready elect x v q ≡ true)
-      by_same h holds true is = (let found = by_test h (nat_lt h.parent v && certification_parent_ready elect x v h) refl is in (holds ∙ ap (λ (k : Proposal D). Some k) found.0, found.1))
+      by_same : (h : Proposal D) → (round_of x v).slot.held ≡ Some h → (b : Bool)
+          → option_and_then (λ p. if nat_lt p.parent v && certification_parent_ready elect x v p then Some p else None)
+          (if b then Some h else None) ≡ Some q → (proposal_at x v ≡ Some q)
+          × (certification_parent_ready elect x v q ≡ true)
+      by_same h holds true is = (let found = by_test h (nat_lt h.parent v && certification_parent_ready elect x v h)
+          refl is in (holds ∙ ap (λ (k : Proposal D). Some k) found.0, found.1))
       by_same h holds false is = absurd (false≢true (ap is_some is))
 
-      by_held : (c : ProposalFacts D) (o : Option (Proposal D)) → (round_of x v).slot.held ≡ o → option_and_then (λ p. if nat_lt p.parent v && certification_parent_ready elect x v p then Some p else None) (option_and_then (λ h. if same_proposal same h c.proposal then Some h else None) o) ≡ Some q → (proposal_at x v ≡ Some q) × (certification_parent_ready elect x v q ≡ true)
+      by_held : (c : ProposalFacts D) (o : Option (Proposal D)) → (round_of x v).slot.held ≡ o
+          → option_and_then (λ p. if nat_lt p.parent v && certification_parent_ready elect x v p then Some p else None)
+          (option_and_then (λ h. if same_proposal same h c.proposal then Some h else None) o) ≡ Some q
+          → (proposal_at x v ≡ Some q) × (certification_parent_ready elect x v q ≡ true)
       by_held c None holds is = absurd (false≢true (ap is_some is))
       by_held c (Some h) holds is = by_same h holds (same_proposal same h c.proposal) is
 
-      by_notarization : (n : Option (ProposalFacts D)) → option_and_then (λ p. if nat_lt p.parent v && certification_parent_ready elect x v p then Some p else None) (option_and_then (λ (c : ProposalFacts D). option_and_then (λ h. if same_proposal same h c.proposal then Some h else None) (round_of x v).slot.held) n) ≡ Some q → (proposal_at x v ≡ Some q) × (certification_parent_ready elect x v q ≡ true)
+      by_notarization : (n : Option (ProposalFacts D))
+          → option_and_then (λ p. if nat_lt p.parent v && certification_parent_ready elect x v p then Some p else None)
+          (option_and_then (λ (c : ProposalFacts D).
+          option_and_then (λ h. if same_proposal same h c.proposal then Some h else None) (round_of x v).slot.held) n)
+          ≡ Some q → (proposal_at x v ≡ Some q) × (certification_parent_ready elect x v q ≡ true)
       by_notarization None is = absurd (false≢true (ap is_some is))
       by_notarization (Some c) is = by_held c (round_of x v).slot.held refl is
 
-      by_ready : (b : Bool) → option_and_then (λ p. if nat_lt p.parent v && certification_parent_ready elect x v p then Some p else None) (if b then option_and_then (λ (c : ProposalFacts D). option_and_then (λ h. if same_proposal same h c.proposal then Some h else None) (round_of x v).slot.held) (round_of x v).notarization else None) ≡ Some q → (proposal_at x v ≡ Some q) × (certification_parent_ready elect x v q ≡ true)
+      by_ready : (b : Bool) → option_and_then
+          (λ p. if nat_lt p.parent v && certification_parent_ready elect x v p then Some p else None)
+          (if b then option_and_then (λ (c : ProposalFacts D).
+          option_and_then (λ h. if same_proposal same h c.proposal then Some h else None) (round_of x v).slot.held)
+          (round_of x v).notarization else None) ≡ Some q
+          → (proposal_at x v ≡ Some q) × (certification_parent_ready elect x v q ≡ true)
       by_ready true is = by_notarization (round_of x v).notarization is
       by_ready false is = absurd (false≢true (ap is_some is))
 
 module _ {K L D : Type 0} (elect : Elect L) (x : StateFacts K L D) (v : ℕ) (q : Proposal D) where
-  pub offered_on : certification_parent_ready elect x v q ≡ true → is_term_start x v ≡ false → is_some (explicit_ancestry_payload x (v - 1)) ≡ true
+  pub offered_on : certification_parent_ready elect x v q ≡ true → is_term_start x v ≡ false
+      → is_some (explicit_ancestry_payload x (v - 1)) ≡ true
   unfolding required_certification_parent
   offered_on ready inside = by_start (is_term_start x v) inside ready
     where
-      by_start : (b : Bool) → b ≡ false → option_map_or (λ u. has_valid_parent_span x v q.parent && is_some (explicit_ancestry_payload x u)) (if b then (if q.parent + 1 == v && was_handed_over elect x v then Some q.parent else None) else Some (v - 1)) true ≡ true → is_some (explicit_ancestry_payload x (v - 1)) ≡ true
+      by_start : (b : Bool) → b ≡ false → option_map_or
+          (λ u. has_valid_parent_span x v q.parent && is_some (explicit_ancestry_payload x u))
+          (if b then (if q.parent + 1 == v && was_handed_over elect x v then Some q.parent else None) else Some (v - 1))
+          true ≡ true → is_some (explicit_ancestry_payload x (v - 1)) ≡ true
       by_start true start is = absurd (true≢false start)
-      by_start false within is = (and_parts (has_valid_parent_span x v q.parent) (is_some (explicit_ancestry_payload x (v - 1))) is).1
+      by_start false within is =
+          (and_parts (has_valid_parent_span x v q.parent) (is_some (explicit_ancestry_payload x (v - 1))) is).1

@@ -34,24 +34,28 @@ module _ {D : Type 0} (i : ℕ) (vote : Subject D) where
   floor_none (Genesis payload) h = absurd (omega (arith, h.1))
   floor_none (Finalized c) h = absurd (let e = only_one _ _ h in cc)
 
-  called_none : (K L : Type 0) (call : CallFacts D) (told : ReplyFacts K D) → Contains (accepted_at {L = L} (Calls call) told) (Signs i vote) → ⊥
+  called_none : (K L : Type 0) (call : CallFacts D) (told : ReplyFacts K D)
+      → Contains (accepted_at {L = L} (Calls call) told) (Signs i vote) → ⊥
   called_none K L call (Added b o) h = handed_none call h
   called_none K L call (AddedNullification b) h = handed_none call h
   called_none K L call _ h = absurd (omega (arith, h.1))
 
-  accepted_none : {K L : Type 0} (step : StepFacts K L D) (told : ReplyFacts K D) → Contains (accepted_at step told) (Signs i vote) → ⊥
+  accepted_none : {K L : Type 0} (step : StepFacts K L D) (told : ReplyFacts K D)
+      → Contains (accepted_at step told) (Signs i vote) → ⊥
   accepted_none {K} {L} (Calls call) told h = called_none K L call told h
   accepted_none Prunes told h = absurd (omega (arith, h.1))
   accepted_none (Restarts r) Restarted h = floor_none r.start.floor h
   accepted_none (Restarts r) _ h = absurd (omega (arith, h.1))
 
   unsigned : (ds : List (TraceEvent D)) → ds ≡ [] → Contains ds (Signs i vote) → ⊥
-  unsigned ds none h = absurd (let g : Contains [] (Signs i vote) = subst (λ (es : List (TraceEvent D)). Contains es (Signs i vote)) none h in omega (arith, g.1))
+  unsigned ds none h = absurd (let g : Contains [] (Signs i vote) =
+      subst (λ (es : List (TraceEvent D)). Contains es (Signs i vote)) none h in omega (arith, g.1))
 
 -- the step that signs it
 
 module _ {K L D : Type 0} (same : D → D → Bool) (elect : Elect L) (i : ℕ) (vote : Subject D) where
-  record SignedIn (m : MemberFacts K L D) (steps : List (StepFacts K L D)) (replies : List (ReplyFacts K D)) : Type 0 where
+  record SignedIn (m : MemberFacts K L D) (steps : List (StepFacts K L D)) (replies : List (ReplyFacts K D)) : Type
+      0 where
     first : List (StepFacts K L D)
     told : List (ReplyFacts K D)
     more : List (StepFacts K L D)
@@ -66,7 +70,9 @@ module _ {K L D : Type 0} (same : D → D → Bool) (elect : Elect L) (i : ℕ) 
     is_step : IsStep same elect middle step reply next
     signs : Contains (signed_in reply) (Signs i vote)
 
-  signed_at : (steps : List (StepFacts K L D)) (replies : List (ReplyFacts K D)) (m end : MemberFacts K L D) → IsRun same elect m steps replies end → Contains (trace_of_steps steps replies) (Signs i vote) → SignedIn m steps replies
+  signed_at : (steps : List (StepFacts K L D)) (replies : List (ReplyFacts K D)) (m end : MemberFacts K L D)
+      → IsRun same elect m steps replies end → Contains (trace_of_steps steps replies) (Signs i vote)
+      → SignedIn m steps replies
   signed_at [] [] m end run h = absurd (omega (arith, h.1))
   signed_at [] (reply ∷ replies) m end run h = absurd run
   signed_at (step ∷ steps) [] m end run h = absurd run
@@ -119,15 +125,19 @@ module _ {K L D : Type 0} (same : D → D → Bool) (elect : Elect L) where
   RuleFor x (subject.Nullify round) = Unit {0}
 
   module _ (x : StateFacts K L D) (v : ℕ) where
-    of_notarize : NotarizeRule same elect x v → (o : Option (Proposal D)) → proposal_at x v ≡ o → (vote : Subject D) → option_map subject.Notarize o ≡ Some vote → RuleFor x vote
+    of_notarize : NotarizeRule same elect x v → (o : Option (Proposal D)) → proposal_at x v ≡ o → (vote : Subject D)
+        → option_map subject.Notarize o ≡ Some vote → RuleFor x vote
     of_notarize rule None holds vote is = absurd (false≢true (ap is_some is))
-    of_notarize rule (Some p) holds (subject.Notarize q) is = (let one : p ≡ q = cc in (v, rule, holds ∙ ap (λ (k : Proposal D). Some k) one))
+    of_notarize rule (Some p) holds (subject.Notarize q) is =
+        (let one : p ≡ q = cc in (v, rule, holds ∙ ap (λ (k : Proposal D). Some k) one))
     of_notarize rule (Some p) holds (subject.Finalize q) is = absurd (cc)
     of_notarize rule (Some p) holds (subject.Nullify round) is = tt
 
-    of_finalize : FinalizeRule elect x v → (o : Option (Proposal D)) → proposal_at x v ≡ o → (vote : Subject D) → option_map subject.Finalize o ≡ Some vote → RuleFor x vote
+    of_finalize : FinalizeRule elect x v → (o : Option (Proposal D)) → proposal_at x v ≡ o → (vote : Subject D)
+        → option_map subject.Finalize o ≡ Some vote → RuleFor x vote
     of_finalize rule None holds vote is = absurd (false≢true (ap is_some is))
-    of_finalize rule (Some p) holds (subject.Finalize q) is = (let one : p ≡ q = cc in (v, rule, holds ∙ ap (λ (k : Proposal D). Some k) one))
+    of_finalize rule (Some p) holds (subject.Finalize q) is =
+        (let one : p ≡ q = cc in (v, rule, holds ∙ ap (λ (k : Proposal D). Some k) one))
     of_finalize rule (Some p) holds (subject.Notarize q) is = absurd (cc)
     of_finalize rule (Some p) holds (subject.Nullify round) is = tt
 
@@ -141,7 +151,9 @@ module _ {K L D : Type 0} (same : D → D → Bool) (elect : Elect L) where
   IsRuled x i vote = RuleFor x vote × (x.me ≡ Some i)
 
   module _ (i : ℕ) (vote : Subject D) where
-    by_exact : (x : StateFacts K L D) (Rule : Type 0) (about : Option (Subject D)) (told : ReplyFacts K D) → ((given : Subject D) → Rule → about ≡ Some given → RuleFor x given) → IsExact Rule x.me about told → Contains (signed_in told) (Signs i vote) → IsRuled x i vote
+    by_exact : (x : StateFacts K L D) (Rule : Type 0) (about : Option (Subject D)) (told : ReplyFacts K D)
+        → ((given : Subject D) → Rule → about ≡ Some given → RuleFor x given) → IsExact Rule x.me about told
+        → Contains (signed_in told) (Signs i vote) → IsRuled x i vote
     by_exact x Rule about told ruled exact signs =
         let found = exact.only (Signs i vote) signs in
         let signed = found.1 in
@@ -150,18 +162,28 @@ module _ {K L D : Type 0} (same : D → D → Bool) (elect : Elect L) where
         let what : vote ≡ signed.1 = cc in
         (subst (RuleFor x) (sym what) (ruled signed.1 found.0 signed.3), signed.2 ∙ ap (λ (k : ℕ). Some k) (sym who))
 
-    call_ruled : (x : StateFacts K L D) (call : CallFacts D) (told : ReplyFacts K D) → ExactAt same elect (Some x) (Calls call) told → Contains (signed_in told) (Signs i vote) → IsRuled x i vote
-    call_ruled x (ConstructNullify v) told exact signs = by_exact x (NullifyRule x v) (Some (subject.Nullify (round_number x v))) told (λ given rule is. of_nullify x v given is) exact signs
-    call_ruled x (ConstructFinalize v) told exact signs = by_exact x (FinalizeRule elect x v) (option_map subject.Finalize (proposal_at x v)) told (λ given rule is. of_finalize x v rule (proposal_at x v) refl given is) exact signs
-    call_ruled x (ConstructNotarize v) told exact signs = by_exact x (NotarizeRule same elect x v) (option_map subject.Notarize (proposal_at x v)) told (λ given rule is. of_notarize x v rule (proposal_at x v) refl given is) exact signs
+    call_ruled : (x : StateFacts K L D) (call : CallFacts D) (told : ReplyFacts K D)
+        → ExactAt same elect (Some x) (Calls call) told → Contains (signed_in told) (Signs i vote) → IsRuled x i vote
+    call_ruled x (ConstructNullify v) told exact signs =
+        by_exact x (NullifyRule x v) (Some (subject.Nullify (round_number x v))) told
+        (λ given rule is. of_nullify x v given is) exact signs
+    call_ruled x (ConstructFinalize v) told exact signs =
+        by_exact x (FinalizeRule elect x v) (option_map subject.Finalize (proposal_at x v)) told
+        (λ given rule is. of_finalize x v rule (proposal_at x v) refl given is) exact signs
+    call_ruled x (ConstructNotarize v) told exact signs =
+        by_exact x (NotarizeRule same elect x v) (option_map subject.Notarize (proposal_at x v)) told
+        (λ given rule is. of_notarize x v rule (proposal_at x v) refl given is) exact signs
     call_ruled x _ told exact signs = absurd (unsigned i vote (signed_in told) exact signs)
 
-    step_ruled : (x : StateFacts K L D) (step : StepFacts K L D) (told : ReplyFacts K D) → ExactAt same elect (Some x) step told → Contains (signed_in told) (Signs i vote) → IsRuled x i vote
+    step_ruled : (x : StateFacts K L D) (step : StepFacts K L D) (told : ReplyFacts K D)
+        → ExactAt same elect (Some x) step told → Contains (signed_in told) (Signs i vote) → IsRuled x i vote
     step_ruled x (Calls call) told exact signs = call_ruled x call told exact signs
     step_ruled x Prunes told exact signs = absurd (unsigned i vote (signed_in told) exact signs)
     step_ruled x (Restarts r) told exact signs = absurd (unsigned i vote (signed_in told) exact signs)
 
-    life_ruled : (life : Option (StateFacts K L D)) (step : StepFacts K L D) (told : ReplyFacts K D) → ExactAt same elect life step told → Contains (signed_in told) (Signs i vote) → (x : StateFacts K L D) × (life ≡ Some x) × IsRuled x i vote
+    life_ruled : (life : Option (StateFacts K L D)) (step : StepFacts K L D) (told : ReplyFacts K D)
+        → ExactAt same elect life step told → Contains (signed_in told) (Signs i vote)
+        → (x : StateFacts K L D) × (life ≡ Some x) × IsRuled x i vote
     life_ruled None step told exact signs = absurd (unsigned i vote (signed_in told) exact signs)
     life_ruled (Some x) step told exact signs = (x, refl, step_ruled x step told exact signs)
 
@@ -175,8 +197,10 @@ module _ {K L D : Type 0} (same : D → D → Bool) (elect : Elect L) (term_leng
     pub ran : IsExecution same elect term_length member (record s { steps = steps; replies = replies })
     pub x : StateFacts K L D
     pub lives : RunsWith same elect (record s { steps = steps; replies = replies }) x
-    pub trace_within : (d : TraceEvent D) → Contains (trace_of (record s { steps = steps; replies = replies })) d → Contains (trace_of s) d
-    pub judged_within : (j : Bool × Proposal D) → Contains (judged_of (record s { steps = steps; replies = replies })) j → Contains (judged_of s) j
+    pub trace_within : (d : TraceEvent D) → Contains (trace_of (record s { steps = steps; replies = replies })) d
+        → Contains (trace_of s) d
+    pub judged_within : (j : Bool × Proposal D) → Contains (judged_of (record s { steps = steps; replies = replies })) j
+        → Contains (judged_of s) j
     pub restarts_within : (r : _) → Contains steps (Restarts r) → Contains s.steps (Restarts r)
     pub holds : Holds x
 
@@ -184,7 +208,10 @@ module _ {K L D : Type 0} (same : D → D → Bool) (elect : Elect L) (term_leng
   StateAtVote i vote = StateWhere (λ x. IsRuled same elect x i vote)
 
   module _ (ran : IsExecution same elect term_length member s) where
-    pub state_where : (Holds : StateFacts K L D → Type 0) (first more : List (StepFacts K L D)) (told rest : List (ReplyFacts K D)) (middle : MemberFacts K L D) → s.steps ≡ first ++ more → s.replies ≡ told ++ rest → IsRun same elect (new_member same elect s.start) first told middle → (x : StateFacts K L D) → middle.life ≡ Some x → Holds x → StateWhere Holds
+    pub state_where : (Holds : StateFacts K L D → Type 0) (first more : List (StepFacts K L D))
+        (told rest : List (ReplyFacts K D)) (middle : MemberFacts K L D) → s.steps ≡ first ++ more
+        → s.replies ≡ told ++ rest → IsRun same elect (new_member same elect s.start) first told middle
+        → (x : StateFacts K L D) → middle.life ≡ Some x → Holds x → StateWhere Holds
     unfolding IsRunFrom
     state_where Holds first more told rest middle steps_are replies_are run x alive holds =
         record {
@@ -201,28 +228,40 @@ module _ {K L D : Type 0} (same : D → D → Bool) (elect : Elect L) (term_leng
           lives = (middle, run, alive);
           trace_within = λ d h. (
               let joined = traces_joined same elect first more told rest (new_member same elect s.start) middle run in
-              let whole : trace_of s ≡ (of_floor s.start.floor ++ (trace_of_steps first told ++ trace_of_steps more rest)) =
-              (λ j. of_floor s.start.floor ++ trace_of_steps (steps_are j) (replies_are j)) ∙ ap (λ ds. of_floor s.start.floor ++ ds) joined in
-              subst (λ ds. Contains ds d) (sym whole) (elim (Contains-append_cases (of_floor s.start.floor) (trace_of_steps first told) d h) [
+              let whole : trace_of
+              s ≡ (of_floor s.start.floor ++ (trace_of_steps first told ++ trace_of_steps more rest)) =
+              (λ j. of_floor s.start.floor ++ trace_of_steps (steps_are j) (replies_are j))
+              ∙ ap (λ ds. of_floor s.start.floor ++ ds) joined in
+              subst (λ ds. Contains ds d) (sym whole)
+              (elim (Contains-append_cases (of_floor s.start.floor) (trace_of_steps first told) d h) [
                 | inl begun ↦ Contains-append_left (of_floor s.start.floor) _ d begun
-                | inr done ↦ Contains-append_right (of_floor s.start.floor) _ d (Contains-append_left (trace_of_steps first told) (trace_of_steps more rest) d done)
+                | inr done ↦ Contains-append_right (of_floor s.start.floor) _ d
+                    (Contains-append_left (trace_of_steps first told) (trace_of_steps more rest) d done)
               ]));
-          judged_within = λ j h. subst (λ ps. Contains ps j) (sym (ap (λ rs. judged_in rs) replies_are ∙ judged_joined told rest)) (Contains-append_left (judged_in told) (judged_in rest) j h);
+          judged_within = λ j h. subst (λ ps. Contains ps j)
+              (sym (ap (λ rs. judged_in rs) replies_are ∙ judged_joined told rest))
+              (Contains-append_left (judged_in told) (judged_in rest) j h);
           restarts_within = within;
           holds = holds;
         }
       where
         within : (r : _) → Contains first (Restarts r) → Contains s.steps (Restarts r)
-        within r h = subst (λ ss. Contains ss (Restarts r)) (sym steps_are) (Contains-append_left first more (Restarts r) h)
+        within r h = subst (λ ss. Contains ss (Restarts r)) (sym steps_are)
+            (Contains-append_left first more (Restarts r) h)
 
-    from_step : (i : ℕ) (vote : Subject D) → SignedIn same elect i vote (new_member same elect s.start) s.steps s.replies → StateAtVote i vote
+    from_step : (i : ℕ) (vote : Subject D) → SignedIn same elect i vote (new_member same elect s.start) s.steps
+        s.replies → StateAtVote i vote
     from_step i vote v =
-        let at = life_ruled same elect i vote v.middle.life v.step v.reply (step_exact same elect v.middle v.next v.step v.reply v.is_step) v.signs in
-        state_where (λ x. IsRuled same elect x i vote) v.first v.more v.told v.rest v.middle v.steps_are v.replies_are v.run at.0 at.1 at.2
+        let at = life_ruled same elect i vote v.middle.life v.step v.reply
+        (step_exact same elect v.middle v.next v.step v.reply v.is_step) v.signs in
+        state_where (λ x. IsRuled same elect x i vote) v.first v.more v.told v.rest v.middle v.steps_are v.replies_are
+        v.run at.0 at.1 at.2
 
     pub state_at_vote : (i : ℕ) (vote : Subject D) → Contains (trace_of s) (Signs i vote) → StateAtVote i vote
     unfolding IsRunFrom
-    state_at_vote i vote h = elim (Contains-append_cases (of_floor s.start.floor) (trace_of_steps s.steps s.replies) (Signs i vote) h) [
-      | inl begun ↦ absurd (floor_none i vote s.start.floor begun)
-      | inr done ↦ from_step i vote (signed_at same elect i vote s.steps s.replies (new_member same elect s.start) ran.run.1 ran.run.2 done)
-    ]
+    state_at_vote i vote h =
+        elim (Contains-append_cases (of_floor s.start.floor) (trace_of_steps s.steps s.replies) (Signs i vote) h) [
+          | inl begun ↦ absurd (floor_none i vote s.start.floor begun)
+          | inr done ↦ from_step i vote
+              (signed_at same elect i vote s.steps s.replies (new_member same elect s.start) ran.run.1 ran.run.2 done)
+        ]

@@ -1,4 +1,5 @@
--- The network whose members receive verdicts on what none offered: it keeps the premises of agreement, and has no chain.
+-- The network whose members receive verdicts on what none offered: it keeps the premises of agreement, and has no
+-- chain.
 use Rattle.std.proofs.Common.{◌≡◌, refl, sym, ◌∙◌, ap, ℕ, ◌+◌, inl, inr, Bool, true, false, not, ◌||◌, ◌==◌, List, [], ◌∷◌, Contains, nat_eq, arith}
 use Rattle.std.proofs.lemmas.Bool.{eqb-true, eq-eqb, false≢true}
 use Rattle.simplex_types.specs.declared.types.messages.Proposal.{Proposal}
@@ -28,15 +29,24 @@ use Rattle.laws_chains.proofs.ViewsAhead.{AllOf, each_of, one_life}
 use Rattle.laws_chains.proofs.Quorums.{two_from}
 
 first_told : told_in (unoffering 0) ≡ (unoffering 0).replies
-unfolding standing propose_answer proposed_answer find_parent captured_parent_valid has_valid_parent_span ancestry_payload_for_child first_unnullified_view explicit_ancestry_payload optimistic_ancestry_payload is_handoff_parent is_voted_ancestor can_chain_on in_issuance_window is_admitted verification_matches parent_payload_for may_notarize may_nullify may_finalize has_conflicting_nullify required_certification_parent
+unfolding standing propose_answer proposed_answer find_parent captured_parent_valid has_valid_parent_span
+    ancestry_payload_for_child first_unnullified_view explicit_ancestry_payload optimistic_ancestry_payload
+    is_handoff_parent is_voted_ancestor can_chain_on in_issuance_window is_admitted verification_matches
+    parent_payload_for may_notarize may_nullify may_finalize has_conflicting_nullify required_certification_parent
 first_told = refl
 
 second_told : told_in (unoffering 1) ≡ (unoffering 1).replies
-unfolding standing propose_answer proposed_answer find_parent captured_parent_valid has_valid_parent_span ancestry_payload_for_child first_unnullified_view explicit_ancestry_payload optimistic_ancestry_payload is_handoff_parent is_voted_ancestor can_chain_on in_issuance_window is_admitted verification_matches parent_payload_for may_notarize may_nullify may_finalize has_conflicting_nullify required_certification_parent
+unfolding standing propose_answer proposed_answer find_parent captured_parent_valid has_valid_parent_span
+    ancestry_payload_for_child first_unnullified_view explicit_ancestry_payload optimistic_ancestry_payload
+    is_handoff_parent is_voted_ancestor can_chain_on in_issuance_window is_admitted verification_matches
+    parent_payload_for may_notarize may_nullify may_finalize has_conflicting_nullify required_certification_parent
 second_told = refl
 
 third_told : told_in (unoffering 2) ≡ (unoffering 2).replies
-unfolding standing propose_answer proposed_answer find_parent captured_parent_valid has_valid_parent_span ancestry_payload_for_child first_unnullified_view explicit_ancestry_payload optimistic_ancestry_payload is_handoff_parent is_voted_ancestor can_chain_on in_issuance_window is_admitted verification_matches parent_payload_for may_notarize may_nullify may_finalize has_conflicting_nullify required_certification_parent
+unfolding standing propose_answer proposed_answer find_parent captured_parent_valid has_valid_parent_span
+    ancestry_payload_for_child first_unnullified_view explicit_ancestry_payload optimistic_ancestry_payload
+    is_handoff_parent is_voted_ancestor can_chain_on in_issuance_window is_admitted verification_matches
+    parent_payload_for may_notarize may_nullify may_finalize has_conflicting_nullify required_certification_parent
 third_told = refl
 
 begins : (me : ℕ) → BeginsAs 3 me (long_start me).setup
@@ -73,7 +83,17 @@ abbrev SetUpAlike : Setup ℕ ℕ → Type 0
 SetUpAlike setup = (setup.elector ≡ 3) × (setup.settings.epoch ≡ 1)
 
 pub unoffered_witnessed : HandoffsAreWitnessed unoffered
-unoffered_witnessed = inr ((3, 1, each_of (EachLifetime SetUpAlike) unoffered (one_life SetUpAlike (unoffering 0) tt (refl, refl), (one_life SetUpAlike (unoffering 1) tt (refl, refl), (one_life SetUpAlike (unoffering 2) tt (refl, refl), tt)))), omega arith)
+unoffered_witnessed = inr (
+  (
+    3,
+    1,
+    each_of (EachLifetime SetUpAlike) unoffered (
+      one_life SetUpAlike (unoffering 0) tt (refl, refl),
+      (one_life SetUpAlike (unoffering 1) tt (refl, refl), (one_life SetUpAlike (unoffering 2) tt (refl, refl), tt)),
+    ),
+  ),
+  omega arith,
+)
 
 -- in view 1 a member votes for its own proposal
 
@@ -82,10 +102,13 @@ is_own (Signs i (subject.Notarize q)) = not (q.round.view == 1) || (q.payload ==
 is_own _ = true
 
 abbrev VotesOwn : Execution ℕ ℕ ℕ → Type 0
-VotesOwn s = (i : ℕ) (q : Proposal ℕ) → q.round.view ≡ 1 → Contains (trace_of s) (Signs i (subject.Notarize q)) → q.payload ≡ 11 + i
+VotesOwn s = (i : ℕ) (q : Proposal ℕ) → q.round.view ≡ 1 → Contains (trace_of s) (Signs i (subject.Notarize q))
+    → q.payload ≡ 11 + i
 
 own_so : (s : Execution ℕ ℕ ℕ) → each_one is_own (trace_of s) ≡ true → VotesOwn s
-own_so s all i q first h = eqb-true q.payload (11 + i) (by_view (q.round.view == 1) (eq-eqb q.round.view 1 first) (each_one-true is_own (trace_of s) all (Signs i (subject.Notarize q)) h))
+own_so s all i q first h = eqb-true q.payload (11 + i)
+    (by_view (q.round.view == 1) (eq-eqb q.round.view 1 first)
+    (each_one-true is_own (trace_of s) all (Signs i (subject.Notarize q)) h))
   where
     by_view : (b : Bool) → b ≡ true → (not b || (q.payload == 11 + i)) ≡ true → (q.payload == 11 + i) ≡ true
     by_view true is holds = holds
@@ -97,17 +120,22 @@ all_own = (own_so (unoffering 0) refl, (own_so (unoffering 1) refl, (own_so (uno
 pub none_first : NoFirstNotarized
 none_first q first notarized =
     let voters = two_from (MayHaveSigned (subject.Notarize q)) 0 3 unoffered notarized (omega arith) in
-    let one = each_of VotesOwn unoffered all_own voters.one.place voters.one.s voters.one.at voters.one.index q first voters.one.has in
-    let other = each_of VotesOwn unoffered all_own voters.two.place voters.two.s voters.two.at voters.two.index q first voters.two.has in
+    let one = each_of VotesOwn unoffered all_own voters.one.place voters.one.s voters.one.at voters.one.index q first
+    voters.one.has in
+    let other = each_of VotesOwn unoffered all_own voters.two.place voters.two.s voters.two.at voters.two.index q first
+    voters.two.has in
     omega (arith, one, other, voters.apart)
 
 pub reaches_no_genesis : ReachesNoGenesis
 reaches_no_genesis to_genesis = by_below to_genesis.below to_genesis.chain to_genesis.genesis
   where
     is_two : (q : Proposal ℕ) → 2 ≡ q.round.view → Backed unoffered (subject.Notarize q) → q.parent ≡ 1
-    is_two q at notarized = ap (λ (k : Proposal ℕ). k.parent) (one_proposal nat_eq eqb-true in_turn 3 unoffered unoffered_network q two (inl notarized) (inl two_notarized) (sym at))
+    is_two q at notarized = ap (λ (k : Proposal ℕ). k.parent)
+        (one_proposal nat_eq eqb-true in_turn 3 unoffered unoffered_network q two (inl notarized) (inl two_notarized)
+        (sym at))
 
-    by_rest : (q : Proposal ℕ) (rest : List (Proposal ℕ)) → 2 ≡ q.round.view → Chain unoffered (q ∷ rest) → lowest_parent q rest ≡ 0 → ⊥
+    by_rest : (q : Proposal ℕ) (rest : List (Proposal ℕ)) → 2 ≡ q.round.view → Chain unoffered (q ∷ rest)
+        → lowest_parent q rest ≡ 0 → ⊥
     by_rest q [] at chain low = (let first = is_two q at chain in omega (arith, first, low))
     by_rest q (r ∷ []) at chain low = none_first r (sym chain.1 ∙ is_two q at chain.0) chain.2
     by_rest q (r ∷ (t ∷ more)) at chain low = none_first r (sym chain.1 ∙ is_two q at chain.0) chain.2.0

@@ -22,7 +22,8 @@ AllOf P [] = Unit {0}
 AllOf P (Faulty ∷ network) = AllOf P network
 AllOf P (Honest s ∷ network) = P s × AllOf P network
 
-pub each_of : (P : Execution ℕ ℕ ℕ → Type 0) (network : List (Replica ℕ ℕ ℕ)) → AllOf P network → EachHonest network (λ i s. P s)
+pub each_of : (P : Execution ℕ ℕ ℕ → Type 0) (network : List (Replica ℕ ℕ ℕ)) → AllOf P network
+    → EachHonest network (λ i s. P s)
 each_of P [] all i s at = absurd (cc)
 each_of P (Faulty ∷ network) all zero s at = absurd (cc)
 each_of P (Faulty ∷ network) all (suc i) s at = each_of P network all i s at
@@ -34,7 +35,8 @@ abbrev pub AllJudged : (Proposal ℕ → Type 0) → List (Bool × Proposal ℕ)
 AllJudged P [] = Unit {0}
 AllJudged P (e ∷ judged) = P e.1 × AllJudged P judged
 
-pub each_judged : (P : Proposal ℕ → Type 0) (judged : List (Bool × Proposal ℕ)) → AllJudged P judged → (q : Proposal ℕ) → Contains judged (true, q) → P q
+pub each_judged : (P : Proposal ℕ → Type 0) (judged : List (Bool × Proposal ℕ)) → AllJudged P judged → (q : Proposal ℕ)
+    → Contains judged (true, q) → P q
 each_judged P [] all q h = absurd (omega (arith, h.1))
 each_judged P (e ∷ judged) all q h = elim (Contains-cases e judged (true, q) h) [
   | inl here ↦ subst (λ (k : Bool × Proposal ℕ). P k.1) here all.0
@@ -50,18 +52,33 @@ NoRestart (Restarts r ∷ steps) = ⊥
 
 none_restarts : (steps : List (StepFacts ℕ ℕ ℕ)) → NoRestart steps → (r : _) → Contains steps (Restarts r) → ⊥
 none_restarts [] none r h = omega (arith, h.1)
-none_restarts (Calls call ∷ steps) none r h = elim (Contains-cases (Calls call) steps (Restarts r) h) [ inl here ↦ absurd (cc) | inr later ↦ none_restarts steps none r later ]
-none_restarts (Prunes ∷ steps) none r h = elim (Contains-cases Prunes steps (Restarts r) h) [ inl here ↦ absurd (cc) | inr later ↦ none_restarts steps none r later ]
+none_restarts (Calls call ∷ steps) none r h =
+    elim (Contains-cases (Calls call) steps (Restarts r) h)
+    [ inl here ↦ absurd (cc) | inr later ↦ none_restarts steps none r later ]
+none_restarts (Prunes ∷ steps) none r h =
+    elim (Contains-cases Prunes steps (Restarts r) h)
+    [ inl here ↦ absurd (cc) | inr later ↦ none_restarts steps none r later ]
 none_restarts (Restarts q ∷ steps) none r h = none
 
-pub one_life : (IsSo : Setup ℕ ℕ → Type 0) (s : Execution ℕ ℕ ℕ) → NoRestart s.steps → IsSo s.start.setup → EachLifetime IsSo s
+pub one_life : (IsSo : Setup ℕ ℕ → Type 0) (s : Execution ℕ ℕ ℕ) → NoRestart s.steps → IsSo s.start.setup
+    → EachLifetime IsSo s
 one_life IsSo s none so = record { first = so; later = λ r h. absurd (none_restarts s.steps none r h) }
 
 abbrev SetUpAlike : Setup ℕ ℕ → Type 0
 SetUpAlike setup = (setup.elector ≡ 2) × (setup.settings.epoch ≡ 1)
 
 pub ahead_witnessed : HandoffsAreWitnessed voted_ahead
-ahead_witnessed = inr ((2, 1, each_of (EachLifetime SetUpAlike) voted_ahead (one_life SetUpAlike early tt (refl, refl), (one_life SetUpAlike following_early tt (refl, refl), (one_life SetUpAlike joining tt (refl, refl), tt)))), omega arith)
+ahead_witnessed = inr (
+  (
+    2,
+    1,
+    each_of (EachLifetime SetUpAlike) voted_ahead (
+      one_life SetUpAlike early tt (refl, refl),
+      (one_life SetUpAlike following_early tt (refl, refl), (one_life SetUpAlike joining tt (refl, refl), tt)),
+    ),
+  ),
+  omega arith,
+)
 
 abbrev OnOffers : Execution ℕ ℕ ℕ → Type 0
 OnOffers s = (q : Proposal ℕ) → Contains (judged_of s) (true, q) → WasOffered q s
@@ -69,20 +86,28 @@ OnOffers s = (q : Proposal ℕ) → Contains (judged_of s) (true, q) → WasOffe
 early_offers : OnOffers early
 early_offers = each_judged (λ q. WasOffered q early) (judged_of early) (
   (one ∷ [], [], (9, omega arith, refl), (0, omega arith, refl)),
-  ((two ∷ [], [], (16, omega arith, refl), (0, omega arith, refl)), ((three ∷ [], [], (20, omega arith, refl), (0, omega arith, refl)), tt)),
+  (
+    (two ∷ [], [], (16, omega arith, refl), (0, omega arith, refl)),
+    ((three ∷ [], [], (20, omega arith, refl), (0, omega arith, refl)), tt),
+  ),
 )
 
 following_offers : OnOffers following_early
 following_offers = each_judged (λ q. WasOffered q following_early) (judged_of following_early) (
   (one ∷ [], [], (9, omega arith, refl), (0, omega arith, refl)),
-  ((two ∷ [], [], (13, omega arith, refl), (0, omega arith, refl)), ((three ∷ [], [], (21, omega arith, refl), (0, omega arith, refl)), tt)),
+  (
+    (two ∷ [], [], (13, omega arith, refl), (0, omega arith, refl)),
+    ((three ∷ [], [], (21, omega arith, refl), (0, omega arith, refl)), tt),
+  ),
 )
 
 joining_offers : OnOffers joining
-joining_offers = each_judged (λ q. WasOffered q joining) (judged_of joining) ((three ∷ [], [], (5, omega arith, refl), (0, omega arith, refl)), tt)
+joining_offers = each_judged (λ q. WasOffered q joining) (judged_of joining)
+    ((three ∷ [], [], (5, omega arith, refl), (0, omega arith, refl)), tt)
 
 pub ahead_offers : VerdictsAreOnOffers voted_ahead
 ahead_offers = each_of OnOffers voted_ahead (early_offers, (following_offers, (joining_offers, tt)))
 
 pub ahead_reaches_genesis : ReachesGenesis voted_ahead three
-ahead_reaches_genesis = finalized_reach_genesis nat_eq eqb-true in_turn 2 voted_ahead ahead_network ahead_witnessed (inr ahead_offers) three ahead_finalized
+ahead_reaches_genesis = finalized_reach_genesis nat_eq eqb-true in_turn 2 voted_ahead ahead_network ahead_witnessed
+    (inr ahead_offers) three ahead_finalized

@@ -1,5 +1,7 @@
--- Cases of the definitions that an engine's contracts cite, computed: what is asked of peers, what a resolver receives, what causes
--- everything, how high fetches lie. Terms have five views, 10 views are retained; keys, payloads, signatures and certificates are numbers.
+-- Cases of the definitions that an engine's contracts cite, computed: what is asked of peers, what a resolver receives,
+-- what causes
+-- everything, how high fetches lie. Terms have five views, 10 views are retained; keys, payloads, signatures and
+-- certificates are numbers.
 use Rattle.std.proofs.Common.{◌≡◌, refl, ℕ, ◌^◌, ◌-◌, true, false, List, [], ◌∷◌, map, Some, None}
 use Rattle.simplex_types.specs.Certificates.{ProposalFacts, NullificationFacts}
 use Rattle.simplex_types.specs.declared.reasons.Kind.TheVariants.{Notarization as OfNotarization}
@@ -48,7 +50,8 @@ open_already : opened Notarization 3 2 50 (fresh Notarization 3 0 10 ∷ []) ≡
 open_already = refl
 
 -- a certificate of another kind is asked for beside it
-other_kind : opened Nullification 3 2 50 (fresh Notarization 3 0 10 ∷ []) ≡ fresh Notarization 3 0 10 ∷ fresh Nullification 3 2 50 ∷ []
+other_kind : opened Nullification 3 2 50 (fresh Notarization 3 0 10 ∷ []) ≡ fresh Notarization 3 0 10 ∷ fresh
+    Nullification 3 2 50 ∷ []
 other_kind = refl
 
 -- the first that is due is asked for, at its moment already
@@ -56,7 +59,8 @@ due : due_at 10 (fresh Decision 2 0 11 ∷ fresh Notarization 3 0 10 ∷ []) ≡
 due = refl
 
 -- and again after the interval; moments end at 2^64 - 1
-again : asked_again 10 100 (fresh Notarization 3 0 10) ≡ record { kind = Notarization; view = 3; first = 0; count = 1; moment = 110 }
+again : asked_again 10 100 (fresh Notarization 3 0 10)
+    ≡ record { kind = Notarization; view = 3; first = 0; count = 1; moment = 110 }
 again = refl
 
 last_moment : (asked_again (2 ^ 64 - 1) 100 (fresh Notarization 3 0 10)).moment ≡ 2 ^ 64 - 1
@@ -67,7 +71,8 @@ over : passed 3 (fresh Notarization 3 0 10 ∷ fresh Nullification 4 0 10 ∷ []
 over = refl
 
 -- what is settled is so of its kind, from the first view to the last
-settled_between : settled Nullification 3 5 (map (λ view. fresh Nullification view 0 10) (2 ∷ 3 ∷ 5 ∷ 6 ∷ [])) ≡ fresh Nullification 2 0 10 ∷ fresh Nullification 6 0 10 ∷ []
+settled_between : settled Nullification 3 5 (map (λ view. fresh Nullification view 0 10) (2 ∷ 3 ∷ 5 ∷ 6 ∷ [])) ≡ fresh
+    Nullification 2 0 10 ∷ fresh Nullification 6 0 10 ∷ []
 settled_between = refl
 
 -- what a resolver receives, and which fetches it ends by that
@@ -105,7 +110,8 @@ no_verdict = refl
 -- it receives the steps' calls in their order; a pruning passes it nothing
 in_order :
     heard_by_steps
-    ((Calls (AddNotarization (notarized 3)), reply.Added true None) ∷ (Prunes, reply.Unit) ∷ (Calls (AddNotarization (notarized 5)), reply.Added true None) ∷ [])
+    ((Calls (AddNotarization (notarized 3)), reply.Added true None) ∷ (Prunes, reply.Unit)
+    ∷ (Calls (AddNotarization (notarized 5)), reply.Added true None) ∷ [])
     ≡ told.Notarization 3 ∷ told.Notarization 5 ∷ []
 in_order = refl
 
@@ -117,19 +123,23 @@ no_decision : is_notarized Decision 3 (told.Notarization 3) ≡ false
 no_decision = refl
 
 -- what is settled of one kind ends no fetch of another
-settled_of_kind : map (λ kind. ends_fetch kind 3 (effect.Settled OfNotarization 3 3)) (Notarization ∷ Nullification ∷ Decision ∷ []) ≡ true ∷ false ∷ false ∷ []
+settled_of_kind : map (λ kind. ends_fetch kind 3 (effect.Settled OfNotarization 3 3))
+    (Notarization ∷ Nullification ∷ Decision ∷ []) ≡ true ∷ false ∷ false ∷ []
 settled_of_kind = refl
 
 -- a finalization ends the fetches of all views up to its own
-ended_by_finalization : map (ended_by (facts_of 5 []) (told.Finalization 3 [] ∷ []) Decision) (2 ∷ 3 ∷ 4 ∷ []) ≡ true ∷ true ∷ false ∷ []
+ended_by_finalization : map (ended_by (facts_of 5 []) (told.Finalization 3 [] ∷ []) Decision) (2 ∷ 3 ∷ 4 ∷ []) ≡ true
+    ∷ true ∷ false ∷ []
 ended_by_finalization = refl
 
 -- a nullification ends those of nullifications of its view and of the rest of its term
-ended_by_nullification : map (ended_by (facts_of 5 []) (told.Nullification 3 [] ∷ []) Nullification) (2 ∷ 3 ∷ 5 ∷ 6 ∷ []) ≡ false ∷ true ∷ true ∷ false ∷ []
+ended_by_nullification : map (ended_by (facts_of 5 []) (told.Nullification 3 [] ∷ []) Nullification)
+    (2 ∷ 3 ∷ 5 ∷ 6 ∷ []) ≡ false ∷ true ∷ true ∷ false ∷ []
 ended_by_nullification = refl
 
 -- a true verdict raises the floor, below which no nullification is wanted; a false one does not
-ended_by_verdict : map (ended_by (facts_of 5 []) (told.Verdict 3 [] true ∷ []) Nullification) (2 ∷ 3 ∷ 4 ∷ []) ≡ true ∷ true ∷ false ∷ []
+ended_by_verdict : map (ended_by (facts_of 5 []) (told.Verdict 3 [] true ∷ []) Nullification) (2 ∷ 3 ∷ 4 ∷ []) ≡ true
+    ∷ true ∷ false ∷ []
 ended_by_verdict = refl
 
 ended_by_no_verdict : ended_by (facts_of 5 []) (told.Verdict 3 [] false ∷ []) Nullification 3 ≡ false
@@ -156,7 +166,8 @@ Member = MemberFacts ℕ ℕ ℕ
 
 -- it is in view 27, in the middle of a term, and has finalized view 20
 abbrev state : State
-state = record (new_facts settings (Some 0) (0 ∷ 1 ∷ 2 ∷ 3 ∷ []) 1 (record { term_length = 5; optimistic_views = 0; stall_timeout = None }) true) { current = 27; finalized = 20 }
+state = record (new_facts settings (Some 0) (0 ∷ 1 ∷ 2 ∷ 3 ∷ []) 1
+    (record { term_length = 5; optimistic_views = 0; stall_timeout = None }) true) { current = 27; finalized = 20 }
 
 abbrev member : List Entry → Member
 member entries = record {
@@ -180,10 +191,12 @@ beyond : highest_received (member (nullify 27 ∷ finalization 40 ∷ notarizati
 beyond = refl
 
 -- it is to ask for a view above another, and not for that one
-above : map (λ view. resolves_above {S = ℕ} {D = ℕ} {K = ℕ} {G = ℕ} {C = ℕ} 31 (Resolve Notarization view 33)) (31 ∷ 32 ∷ []) ≡ false ∷ true ∷ []
+above : map (λ view. resolves_above {S = ℕ} {D = ℕ} {K = ℕ} {G = ℕ} {C = ℕ} 31 (Resolve Notarization view 33))
+    (31 ∷ 32 ∷ []) ≡ false ∷ true ∷ []
 above = refl
 
--- ten views below the last finalized one are retained, and what lies below them may be forgotten; with a failed member nothing may
+-- ten views below the last finalized one are retained, and what lies below them may be forgotten; with a failed member
+-- nothing may
 kept : forgettable {S = ℕ} {G = ℕ} {C = ℕ} (member []) ≡ WorkItem (Forget 10) ∷ []
 kept = refl
 
@@ -227,7 +240,8 @@ as_many : map (λ reach. is_far_below reach 20 30) (9 ∷ 10 ∷ []) ≡ true �
 as_many = refl
 
 -- two entries of a view are alike where they are of one kind, whatever they say
-alike : map (are_alike (verdict 3 true)) (verdict 3 false ∷ verdict 4 true ∷ notarization 3 ∷ []) ≡ true ∷ false ∷ false ∷ []
+alike : map (are_alike (verdict 3 true)) (verdict 3 false ∷ verdict 4 true ∷ notarization 3 ∷ []) ≡ true ∷ false ∷ false
+    ∷ []
 alike = refl
 
 other_votes : are_alike (nullify 3) (finalize 3) ≡ false

@@ -1,4 +1,5 @@
--- Cases of the definitions of votes that are counted, computed: of four members, whose payloads and signatures are numbers.
+-- Cases of the definitions of votes that are counted, computed: of four members, whose payloads and signatures are
+-- numbers.
 use Rattle.std.proofs.Common.{◌≡◌, refl, ℕ, Bool, true, false, List, [], ◌∷◌, map, nat_eq, Option, Some, None}
 use Rattle.simplex_types.specs.declared.types.messages.Subject.{Subject}
 use Rattle.simplex_types.specs.declared.types.messages.Subject.TheVariants.{Notarize, Nullify, Finalize}
@@ -17,16 +18,19 @@ abbrev on_same : Subject ℕ → List (Subject ℕ) → List Bool
 on_same subject others = map (same_subject nat_eq subject) others
 
 proposals :
-    on_same (Notarize (proposal 3 2 7)) (Notarize (proposal 3 2 7) ∷ Notarize (proposal 3 2 8) ∷ Notarize (proposal 3 1 7) ∷ Finalize (proposal 3 2 7) ∷ Nullify (round 3) ∷ [])
+    on_same (Notarize (proposal 3 2 7)) (Notarize (proposal 3 2 7) ∷ Notarize (proposal 3 2 8) ∷ Notarize
+    (proposal 3 1 7) ∷ Finalize (proposal 3 2 7) ∷ Nullify (round 3) ∷ [])
     ≡ true ∷ false ∷ false ∷ false ∷ false ∷ []
 proposals = refl
 
-rounds : on_same (Nullify (round 3)) (Nullify (round 3) ∷ Nullify (round 4) ∷ Nullify (record { epoch = 2; view = 3 }) ∷ []) ≡ true ∷ false ∷ false ∷ []
+rounds : on_same (Nullify (round 3))
+    (Nullify (round 3) ∷ Nullify (round 4) ∷ Nullify (record { epoch = 2; view = 3 }) ∷ []) ≡ true ∷ false ∷ false ∷ []
 rounds = refl
 
 -- members 0 and 3 voted for one proposal of view 3, member 1 for another, member 2 for none so far
 abbrev vote : ℕ → ℕ → Option (Ballot ℕ ℕ)
-vote payload signature = Some (record { subject = Notarize (proposal 3 2 payload); signature = signature; is_contradicted = false })
+vote payload signature =
+    Some (record { subject = Notarize (proposal 3 2 payload); signature = signature; is_contradicted = false })
 
 abbrev votes : List (Option (Ballot ℕ ℕ))
 votes = vote 7 100 ∷ vote 8 101 ∷ None ∷ vote 7 103 ∷ []

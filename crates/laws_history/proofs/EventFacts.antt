@@ -47,8 +47,10 @@ module _ {K L D : Type 0} (same : D → D → Bool) (elect : Elect L) where
     pub current : y.current ≡ max x.current (entered_by x.terms.term_length (is_tracked x) e)
     pub finalized : y.finalized ≡ max x.finalized (finalized_by_event e)
     pub nullified : (v : ℕ) → left_from x e ≤ v → is_among v y.nullified ≡ (covers_from v e || is_among v x.nullified)
-    pub nullify_votes : (v : ℕ) → left_from x e ≤ v → is_among v y.nullify_votes ≡ (casts_nullify v x e || is_among v x.nullify_votes)
-    pub rounds : (v : ℕ) → left_from x e ≤ v → known_of_round (round_of y v) ≡ adds x e v (known_of_round (round_of x v))
+    pub nullify_votes : (v : ℕ) → left_from x e ≤ v
+        → is_among v y.nullify_votes ≡ (casts_nullify v x e || is_among v x.nullify_votes)
+    pub rounds : (v : ℕ) → left_from x e ≤ v
+        → known_of_round (round_of y v) ≡ adds x e v (known_of_round (round_of x v))
 
 -- what an event says beside rounds and moments
 pub record Said (D : Type 0) : Type 0 where
@@ -63,30 +65,52 @@ module _ {K L D : Type 0} where
   abbrev pub IsOfRounds : StateFacts K L D → Event K D → Type 0
   IsOfRounds x e =
       ◌≡◌ {A = Said D}
-      (record { genesis = sets_genesis e; entered = entered_by x.terms.term_length (is_tracked x) e; finalized = finalized_by_event e; nullified = λ v. covers_from v e; nullify_voted = λ v. casts_nullify v x e })
+      (record {
+        genesis = sets_genesis e;
+        entered = entered_by x.terms.term_length (is_tracked x) e;
+        finalized = finalized_by_event e;
+        nullified = λ v. covers_from v e;
+        nullify_voted = λ v. casts_nullify v x e;
+      })
       (record { genesis = None; entered = 0; finalized = 0; nullified = λ v. false; nullify_voted = λ v. false })
 
 module _ {K L D : Type 0} (same : D → D → Bool) (elect : Elect L) (x : StateFacts K L D) (e : Event K D) where
   -- between changes that leave a round alike
-  pub added_between : (v : ℕ) (q r s t : RoundFacts K D) → UnchangedKnown q r → known_of_round s ≡ adds same elect x e v (known_of_round r) → UnchangedKnown s t → known_of_round t ≡ adds same elect x e v (known_of_round q)
+  pub added_between : (v : ℕ) (q r s t : RoundFacts K D) → UnchangedKnown q r
+      → known_of_round s ≡ adds same elect x e v (known_of_round r) → UnchangedKnown s t
+      → known_of_round t ≡ adds same elect x e v (known_of_round q)
   added_between v q r s t before added after = after ∙ added ∙ ap (adds same elect x e v) before
 
-  pub nothing_added : (v : ℕ) → IsElsewhere same elect x e v → (r s : RoundFacts K D) → UnchangedKnown r s → known_of_round s ≡ adds same elect x e v (known_of_round r)
+  pub nothing_added : (v : ℕ) → IsElsewhere same elect x e v → (r s : RoundFacts K D) → UnchangedKnown r s
+      → known_of_round s ≡ adds same elect x e v (known_of_round r)
   nothing_added v silent r s alike = alike ∙ sym (silent (known_of_round r))
 
   -- what is put at the one view that an event speaks of, between changes that leave the rounds alike
-  pub put_between : (y z : StateFacts K L D) (v : ℕ) (r : RoundFacts K D) → ((w : ℕ) → UnchangedKnown (round_of x w) (round_of y w)) → known_of_round r ≡ adds same elect x e v (known_of_round (round_of y v)) → ((w : ℕ) → eqb w v ≡ false → IsElsewhere same elect x e w) → ((w : ℕ) → UnchangedKnown (round_of (with_round y v r) w) (round_of z w)) → (w : ℕ) → known_of_round (round_of z w) ≡ adds same elect x e w (known_of_round (round_of x w))
-  put_between y z v r before added elsewhere after w = added_between w (round_of x w) (round_of y w) (round_of (with_round y v r) w) (round_of z w) (before w) (put (cases_eq w v)) (after w)
+  pub put_between : (y z : StateFacts K L D) (v : ℕ) (r : RoundFacts K D)
+      → ((w : ℕ) → UnchangedKnown (round_of x w) (round_of y w))
+      → known_of_round r ≡ adds same elect x e v (known_of_round (round_of y v))
+      → ((w : ℕ) → eqb w v ≡ false → IsElsewhere same elect x e w)
+      → ((w : ℕ) → UnchangedKnown (round_of (with_round y v r) w) (round_of z w)) → (w : ℕ)
+      → known_of_round (round_of z w) ≡ adds same elect x e w (known_of_round (round_of x w))
+  put_between y z v r before added elsewhere after w =
+      added_between w (round_of x w) (round_of y w) (round_of (with_round y v r) w) (round_of z w) (before w)
+      (put (cases_eq w v)) (after w)
     where
-      put : ((w ≡ v) ⊎ (w ≡ v → ⊥)) → known_of_round (round_of (with_round y v r) w) ≡ adds same elect x e w (known_of_round (round_of y w))
+      put : ((w ≡ v) ⊎ (w ≡ v → ⊥)) → known_of_round (round_of (with_round y v r) w) ≡ adds same elect x e w
+          (known_of_round (round_of y w))
       put (inl here) = rw (here, round_of-same y v r) added
-      put (inr apart) = rw (round_of-put y w v r, ne_eqb w v apart) (sym (elsewhere w (ne_eqb w v apart) (known_of_round (round_of y w))))
+      put (inr apart) = rw (round_of-put y w v r, ne_eqb w v apart)
+          (sym (elsewhere w (ne_eqb w v apart) (known_of_round (round_of y w))))
 
   -- the same, where nothing else changes
-  pub put_alone : (v : ℕ) (r : RoundFacts K D) → known_of_round r ≡ adds same elect x e v (known_of_round (round_of x v)) → ((w : ℕ) → eqb w v ≡ false → IsElsewhere same elect x e w) → (w : ℕ) → known_of_round (round_of (with_round x v r) w) ≡ adds same elect x e w (known_of_round (round_of x w))
+  pub put_alone : (v : ℕ) (r : RoundFacts K D)
+      → known_of_round r ≡ adds same elect x e v (known_of_round (round_of x v))
+      → ((w : ℕ) → eqb w v ≡ false → IsElsewhere same elect x e w) → (w : ℕ)
+      → known_of_round (round_of (with_round x v r) w) ≡ adds same elect x e w (known_of_round (round_of x w))
   put_alone v r added elsewhere w = put_between x (with_round x v r) v r (λ u. refl) added elsewhere (λ u. refl) w
 
-module _ {K L D : Type 0} (same : D → D → Bool) (elect : Elect L) (x : StateFacts K L D) (e : Event K D) (only : IsOfRounds x e) where
+module _ {K L D : Type 0} (same : D → D → Bool) (elect : Elect L) (x : StateFacts K L D) (e : Event K D)
+    (only : IsOfRounds x e) where
   no_genesis : sets_genesis e ≡ None
   no_genesis = ap (λ (s : Said D). s.genesis) only
 
@@ -103,7 +127,11 @@ module _ {K L D : Type 0} (same : D → D → Bool) (elect : Elect L) (x : State
   no_nullify_vote w = ap (λ (s : Said D). s.nullify_voted w) only
 
   -- the one view that the event speaks of has its round put, between changes that leave the rounds alike
-  pub put_follows : (y z : StateFacts K L D) (v : ℕ) (r : RoundFacts K D) → UnchangedButNumbers (unwrap_or (moment_by e) x.moment) x.current x.finalized x y → known_of_round r ≡ adds same elect x e v (known_of_round (round_of y v)) → ((w : ℕ) → eqb w v ≡ false → IsElsewhere same elect x e w) → UnchangedHistory (with_round y v r) z → FollowsEvent same elect e x z
+  pub put_follows : (y z : StateFacts K L D) (v : ℕ) (r : RoundFacts K D)
+      → UnchangedButNumbers (unwrap_or (moment_by e) x.moment) x.current x.finalized x y
+      → known_of_round r ≡ adds same elect x e v (known_of_round (round_of y v))
+      → ((w : ℕ) → eqb w v ≡ false → IsElsewhere same elect x e w) → UnchangedHistory (with_round y v r) z
+      → FollowsEvent same elect e x z
   put_follows y z v r before added elsewhere after = record {
     settings = after.settings ∙ before.settings;
     terms = after.terms ∙ before.terms;
@@ -111,17 +139,23 @@ module _ {K L D : Type 0} (same : D → D → Bool) (elect : Elect L) (x : State
     moment = after.moment_is ∙ before.moment_is;
     current = after.current_is ∙ before.current_is ∙ omega (arith, none_entered);
     finalized = after.finalized_is ∙ before.finalized_is ∙ omega (arith, none_finalized);
-    nullified = λ w _. ap (λ views. is_among w views) (after.nullified ∙ before.nullified) ∙ sym (ap (λ b. b || is_among w x.nullified) (none_nullified w));
-    nullify_votes = λ w _. ap (λ views. is_among w views) (after.nullify_votes ∙ before.nullify_votes) ∙ sym (ap (λ b. b || is_among w x.nullify_votes) (no_nullify_vote w));
+    nullified = λ w _. ap (λ views. is_among w views) (after.nullified ∙ before.nullified)
+        ∙ sym (ap (λ b. b || is_among w x.nullified) (none_nullified w));
+    nullify_votes = λ w _. ap (λ views. is_among w views) (after.nullify_votes ∙ before.nullify_votes)
+        ∙ sym (ap (λ b. b || is_among w x.nullify_votes) (no_nullify_vote w));
     rounds = λ w _. put_between same elect x e y z v r before.rounds added elsewhere after.rounds w;
   }
 
   -- the same, where nothing else changes
-  pub round_follows : (v : ℕ) (r : RoundFacts K D) → moment_by e ≡ None → known_of_round r ≡ adds same elect x e v (known_of_round (round_of x v)) → ((w : ℕ) → eqb w v ≡ false → IsElsewhere same elect x e w) → FollowsEvent same elect e x (with_round x v r)
-  round_follows v r timeless added elsewhere = put_follows x (with_round x v r) v r (rw timeless (quiet x)) added elsewhere (quiet (with_round x v r))
+  pub round_follows : (v : ℕ) (r : RoundFacts K D) → moment_by e ≡ None
+      → known_of_round r ≡ adds same elect x e v (known_of_round (round_of x v))
+      → ((w : ℕ) → eqb w v ≡ false → IsElsewhere same elect x e w) → FollowsEvent same elect e x (with_round x v r)
+  round_follows v r timeless added elsewhere =
+      put_follows x (with_round x v r) v r (rw timeless (quiet x)) added elsewhere (quiet (with_round x v r))
 
   -- it says nothing of rounds either
-  pub silent_follows : (y : StateFacts K L D) → ((v : ℕ) → IsElsewhere same elect x e v) → UnchangedButNumbers (unwrap_or (moment_by e) x.moment) x.current x.finalized x y → FollowsEvent same elect e x y
+  pub silent_follows : (y : StateFacts K L D) → ((v : ℕ) → IsElsewhere same elect x e v)
+      → UnchangedButNumbers (unwrap_or (moment_by e) x.moment) x.current x.finalized x y → FollowsEvent same elect e x y
   silent_follows y silent leaves = record {
     settings = leaves.settings;
     terms = leaves.terms;
@@ -129,15 +163,23 @@ module _ {K L D : Type 0} (same : D → D → Bool) (elect : Elect L) (x : State
     moment = leaves.moment_is;
     current = leaves.current_is ∙ omega (arith, none_entered);
     finalized = leaves.finalized_is ∙ omega (arith, none_finalized);
-    nullified = λ v _. ap (λ views. is_among v views) leaves.nullified ∙ sym (ap (λ b. b || is_among v x.nullified) (none_nullified v));
-    nullify_votes = λ v _. ap (λ views. is_among v views) leaves.nullify_votes ∙ sym (ap (λ b. b || is_among v x.nullify_votes) (no_nullify_vote v));
+    nullified = λ v _. ap (λ views. is_among v views) leaves.nullified
+        ∙ sym (ap (λ b. b || is_among v x.nullified) (none_nullified v));
+    nullify_votes = λ v _. ap (λ views. is_among v views) leaves.nullify_votes
+        ∙ sym (ap (λ b. b || is_among v x.nullify_votes) (no_nullify_vote v));
     rounds = λ v _. nothing_added same elect x e v (silent v) (round_of x v) (round_of y v) (leaves.rounds v);
   }
 
   -- a certificate is returned where its view is tracked; where it isn't, there is none
-  pub handed_follows : (v : ℕ) (r : RoundFacts K D) → moment_by e ≡ None → known_of_round r ≡ adds same elect x e v (known_of_round (round_of x v)) → ((w : ℕ) → eqb w v ≡ false → IsElsewhere same elect x e w) → (round_of x v ≡ new_round x.me x.members (round_number x v) → (w : ℕ) → IsElsewhere same elect x e w) → FollowsEvent same elect e x (if is_tracked x v then with_round x v r else x)
+  pub handed_follows : (v : ℕ) (r : RoundFacts K D) → moment_by e ≡ None
+      → known_of_round r ≡ adds same elect x e v (known_of_round (round_of x v))
+      → ((w : ℕ) → eqb w v ≡ false → IsElsewhere same elect x e w)
+      → (round_of x v ≡ new_round x.me x.members (round_number x v) → (w : ℕ) → IsElsewhere same elect x e w)
+      → FollowsEvent same elect e x (if is_tracked x v then with_round x v r else x)
   handed_follows v r timeless added elsewhere never = by_round (round_at x v) refl
     where
-      by_round : (o : Option (RoundFacts K D)) → round_at x v ≡ o → FollowsEvent same elect e x (if is_some o then with_round x v r else x)
+      by_round : (o : Option (RoundFacts K D)) → round_at x v ≡ o
+          → FollowsEvent same elect e x (if is_some o then with_round x v r else x)
       by_round (Some _) found = round_follows v r timeless added elsewhere
-      by_round None none = silent_follows x (never (ap (λ o. unwrap_or o (new_round x.me x.members (round_number x v))) none)) (rw timeless (quiet x))
+      by_round None none = silent_follows x
+          (never (ap (λ o. unwrap_or o (new_round x.me x.members (round_number x v))) none)) (rw timeless (quiet x))

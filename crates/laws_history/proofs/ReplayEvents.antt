@@ -22,9 +22,13 @@ use Rattle.laws_history.proofs.UnchangedFacts.{try_verify_quiet, release_quiet, 
 use Rattle.laws_safety.proofs.votes.HeldProposals.{own_held}
 use Rattle.laws_history.proofs.VoteEvents.{own_conflict, nullify_follows, finalize_follows, notarize_follows, proposal_follows, proposed_follows, broadcast_notarization_follows, broadcast_nullification_follows, broadcast_finalization_follows, prune_follows}
 
-module _ {K L D : Type 0} (same : D → D → Bool) (decides : (d e : D) → same d e ≡ true → d ≡ e) (elect : Elect L) (x : StateFacts K L D) where
-  replayed_notarize : (p : Proposal D) (signer : ℕ) → FollowsEvent same elect (Replay (NotarizeVote p signer)) x (after_replaying same elect x (NotarizeVote p signer))
-  replayed_notarize p signer = put_follows same elect x (Replay (NotarizeVote p signer)) refl x (with_next_view_ready elect z v) v t (quiet x) voted (λ u apart k. rw apart refl) (prepared_quiet elect z v)
+module _ {K L D : Type 0} (same : D → D → Bool) (decides : (d e : D) → same d e ≡ true → d ≡ e) (elect : Elect L)
+    (x : StateFacts K L D) where
+  replayed_notarize : (p : Proposal D) (signer : ℕ)
+      → FollowsEvent same elect (Replay (NotarizeVote p signer)) x
+      (after_replaying same elect x (NotarizeVote p signer))
+  replayed_notarize p signer = put_follows same elect x (Replay (NotarizeVote p signer)) refl x
+      (with_next_view_ready elect z v) v t (quiet x) voted (λ u apart k. rw apart refl) (prepared_quiet elect z v)
     where
       v : ℕ
       v = p.round.view
@@ -46,12 +50,14 @@ module _ {K L D : Type 0} (same : D → D → Bool) (decides : (d e : D) → sam
       unbound (Some bound) = refl
 
       said : known_of_round s ≡ adds same elect x (Replay (NotarizeVote p signer)) v (known_of_round r)
-      said = rw (eq-eqb v v refl) (λ i. record (known_of_round r) { notarize_decided = true; held = own_held same r.slot p decides i; conflict = own_conflict same r.slot p i })
+      said = rw (eq-eqb v v refl) (λ i. record (known_of_round r)
+          { notarize_decided = true; held = own_held same r.slot p decides i; conflict = own_conflict same r.slot p i })
 
       voted : known_of_round t ≡ adds same elect x (Replay (NotarizeVote p signer)) v (known_of_round r)
       voted = unbound (restored_binding x p) ∙ said
 
-  replay_follows : (e : ArtifactFacts D) → TakesReplay x (as_artifact {K = K} e) → FollowsEvent same elect (Replay e) x (after_replaying same elect x e)
+  replay_follows : (e : ArtifactFacts D) → TakesReplay x (as_artifact {K = K} e)
+      → FollowsEvent same elect (Replay e) x (after_replaying same elect x e)
   replay_follows (NotarizeVote p signer) takes = replayed_notarize p signer
   replay_follows (NullifyVote round signer) takes =
       let v = round.view in
@@ -65,20 +71,27 @@ module _ {K L D : Type 0} (same : D → D → Bool) (decides : (d e : D) → sam
         finalized = omega arith;
         nullified = λ w _. refl;
         nullify_votes = λ w _. among_noted v w x.nullify_votes;
-        rounds = λ w _. put_alone same elect x (Replay (NullifyVote round signer)) v r (rw (eq-eqb v v refl) (λ i. record (known_of_round (round_of x v)) { nullify_decided = true; finalize_decided = sym takes.taken.1 i })) (λ u apart k. rw apart refl) w;
+        rounds = λ w _. put_alone same elect x (Replay (NullifyVote round signer)) v r
+            (rw (eq-eqb v v refl) (λ i. record (known_of_round (round_of x v))
+            { nullify_decided = true; finalize_decided = sym takes.taken.1 i })) (λ u apart k. rw apart refl) w;
       }
   replay_follows (FinalizeVote p signer) takes =
       let v = p.round.view in
       let r = round_of x v in
-      round_follows same elect x (Replay (FinalizeVote p signer)) refl v (record r { decision = decision.Finalize }) refl (rw (eq-eqb v v refl) (λ i. record (known_of_round r) { nullify_decided = sym takes.taken.1 i; finalize_decided = true })) (λ u apart k. rw apart refl)
+      round_follows same elect x (Replay (FinalizeVote p signer)) refl v (record r { decision = decision.Finalize })
+      refl (rw (eq-eqb v v refl) (λ i. record (known_of_round r)
+      { nullify_decided = sym takes.taken.1 i; finalize_decided = true })) (λ u apart k. rw apart refl)
   replay_follows (Verdict round success) takes =
       let v = round.view in
       let r = round_of x v in
-      round_follows same elect x (Replay (Verdict round success)) refl v (certified_round r success) refl (rw (eq-eqb v v refl) (λ i. record (known_of_round r) { verdict = verdict_first r.certification success takes.taken i })) (λ u apart k. rw apart refl)
+      round_follows same elect x (Replay (Verdict round success)) refl v (certified_round r success) refl
+      (rw (eq-eqb v v refl) (λ i. record (known_of_round r)
+      { verdict = verdict_first r.certification success takes.taken i })) (λ u apart k. rw apart refl)
   replay_follows (Accepted (Notarized c)) takes =
       let v = c.proposal.round.view in
       let r = round_of x v in
-      round_follows same elect x (Replay (Accepted (Notarized c))) refl v (record r { notarization_broadcast = true }) refl (rw (eq-eqb v v refl) refl) (λ u apart k. rw apart refl)
+      round_follows same elect x (Replay (Accepted (Notarized c))) refl v (record r { notarization_broadcast = true })
+      refl (rw (eq-eqb v v refl) refl) (λ u apart k. rw apart refl)
   replay_follows (Accepted (Nullified c)) takes =
       let v = c.round.view in
       record {
@@ -90,14 +103,19 @@ module _ {K L D : Type 0} (same : D → D → Bool) (decides : (d e : D) → sam
         finalized = omega arith;
         nullified = λ w _. among_noted v w x.nullified;
         nullify_votes = λ w _. refl;
-        rounds = λ w _. put_alone same elect x (Replay (Accepted (Nullified c))) v (record (round_of x v) { nullification_broadcast = true }) (rw (eq-eqb v v refl) refl) (λ u apart k. rw apart refl) w;
+        rounds = λ w _. put_alone same elect x (Replay (Accepted (Nullified c))) v
+            (record (round_of x v) { nullification_broadcast = true }) (rw (eq-eqb v v refl) refl)
+            (λ u apart k. rw apart refl) w;
       }
   replay_follows (Accepted (Finalized c)) takes =
       let v = c.proposal.round.view in
       let r = round_of x v in
-      round_follows same elect x (Replay (Accepted (Finalized c))) refl v (record r { finalization_broadcast = true }) refl (rw (eq-eqb v v refl) refl) (λ u apart k. rw apart refl)
+      round_follows same elect x (Replay (Accepted (Finalized c))) refl v (record r { finalization_broadcast = true })
+      refl (rw (eq-eqb v v refl) refl) (λ u apart k. rw apart refl)
 
-  quietly : (e : Event K D) → IsOfRounds x e → ((v : ℕ) → IsElsewhere same elect x e v) → UnchangedButNumbers (unwrap_or (moment_by e) x.moment) x.current x.finalized x (after_event same elect x e) → FollowsEvent same elect e x (after_event same elect x e)
+  quietly : (e : Event K D) → IsOfRounds x e → ((v : ℕ) → IsElsewhere same elect x e v)
+      → UnchangedButNumbers (unwrap_or (moment_by e) x.moment) x.current x.finalized x (after_event same elect x e)
+      → FollowsEvent same elect e x (after_event same elect x e)
   quietly e only silent leaves = silent_follows same elect x e only (after_event same elect x e) silent leaves
 
   -- each event
@@ -114,14 +132,18 @@ module _ {K L D : Type 0} (same : D → D → Bool) (decides : (d e : D) → sam
   event_follows (SetProposal v p) takes = proposal_follows same elect x v p
   event_follows TryPropose takes = quietly TryPropose refl (λ _ _. refl) (try_propose_quiet x same elect)
   event_follows (Proposed context payload now) takes = proposed_follows same elect x decides context payload now
-  event_follows (Supersede context) takes = quietly (Supersede context) refl (λ _ _. refl) (supersede_quiet x same elect context)
+  event_follows (Supersede context) takes =
+      quietly (Supersede context) refl (λ _ _. refl) (supersede_quiet x same elect context)
   event_follows (Release v) takes = quietly (Release v) refl (λ _ _. refl) (release_quiet x v)
   event_follows TryVerify takes = quietly TryVerify refl (λ _ _. refl) (try_verify_quiet x same elect)
   event_follows (Verified v) takes = quietly (Verified v) refl (λ _ _. refl) (verified_quiet x same elect v)
-  event_follows (VerificationFailed v reason now) takes = quietly (VerificationFailed v reason now) refl (λ _ _. refl) (failed_leaves x same elect v reason now)
+  event_follows (VerificationFailed v reason now) takes =
+      quietly (VerificationFailed v reason now) refl (λ _ _. refl) (failed_leaves x same elect v reason now)
   event_follows CertifyCandidates takes = quietly CertifyCandidates refl (λ _ _. refl) (candidates_quiet x)
-  event_follows (SetCertifyHandle v token) takes = quietly (SetCertifyHandle v token) refl (λ _ _. refl) (handle_quiet x v token takes)
-  event_follows (TriggerTimeout v reason now) takes = quietly (TriggerTimeout v reason now) refl (λ _ _. refl) (trigger_leaves x v reason now)
+  event_follows (SetCertifyHandle v token) takes =
+      quietly (SetCertifyHandle v token) refl (λ _ _. refl) (handle_quiet x v token takes)
+  event_follows (TriggerTimeout v reason now) takes =
+      quietly (TriggerTimeout v reason now) refl (λ _ _. refl) (trigger_leaves x v reason now)
   event_follows (NextTimeout now) takes = quietly (NextTimeout now) refl (λ _ _. refl) (next_timeout_leaves x now)
   event_follows (BroadcastNotarization v) takes = broadcast_notarization_follows same elect x v
   event_follows (BroadcastNullification v) takes = broadcast_nullification_follows same elect x v

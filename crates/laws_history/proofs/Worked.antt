@@ -86,7 +86,8 @@ module _ {K L D : Type 0} (same : D → D → Bool) (elect : Elect L) where
   decides x e v d =
       if decides_finalize same elect v x e
       then Finalize
-      else (if decides_nullify v x e then Nullify None else timed x.settings (enters v x e) (latches same elect v x e) (retries v x e) d)
+      else (if decides_nullify v x e then Nullify None else timed x.settings (enters v x e) (latches same elect v x e)
+      (retries v x e) d)
 
   -- what is known of the work on a view, with what an event says of it
   abbrev pub adds_work : StateFacts K L D → Event K D → ℕ → Worked K D → Worked K D
@@ -99,7 +100,8 @@ module _ {K L D : Type 0} (same : D → D → Bool) (elect : Elect L) where
     build_requested = unwrap_or (asks_to_build same elect v x e) k.build_requested;
     verify_requested = asks_to_verify same elect v x e || k.verify_requested;
     decision = decides x e v k.decision;
-    stall_deadline = unwrap_or (option_map (λ at. option_map (λ time. at + time) x.terms.stall_timeout) (enters v x e)) k.stall_deadline;
+    stall_deadline = unwrap_or (option_map (λ at. option_map (λ time. at + time) x.terms.stall_timeout) (enters v x e))
+        k.stall_deadline;
     certification = unwrap_or (sets_certification v x e) k.certification;
     last_request = option_or (asks_for same elect v x e) k.last_request;
     binding = unwrap_or (binds same elect v x e) k.binding;
@@ -120,9 +122,11 @@ module _ {K L D : Type 0} (same : D → D → Bool) (elect : Elect L) where
   SaysNoWork x e v = (k : Worked K D) → adds_work x e v k ≡ k
 
 module _ {K L D : Type 0} where
-  pub is_tracked-put : (x : StateFacts K L D) (v w : ℕ) (r : RoundFacts K D) → is_tracked (with_round x w r) v ≡ (eqb v w || is_tracked x v)
+  pub is_tracked-put : (x : StateFacts K L D) (v w : ℕ) (r : RoundFacts K D)
+      → is_tracked (with_round x w r) v ≡ (eqb v w || is_tracked x v)
   is_tracked-put x v w r =
-      ap is_some (find-put nat_cmp nat_cmp_total v w r x.rounds ∙ ap (λ b. cond b (Some r) (find nat_cmp v x.rounds)) (is_eq-nat_cmp v w))
+      ap is_some (find-put nat_cmp nat_cmp_total v w r x.rounds
+      ∙ ap (λ b. cond b (Some r) (find nat_cmp v x.rounds)) (is_eq-nat_cmp v w))
       ∙ either (eqb v w)
     where
       either : (b : Bool) → is_some (cond b (Some r) (find nat_cmp v x.rounds)) ≡ (b || is_tracked x v)
@@ -133,5 +137,6 @@ module _ {K L D : Type 0} where
   pub work_put : (x : StateFacts K L D) (v : ℕ) (r : RoundFacts K D) → work_of (with_round x v r) v ≡ work_in true r
   work_put x v r = rw (is_tracked-put x v v r, eq-eqb v v refl, round_of-same x v r) refl
 
-  pub work_elsewhere : (x : StateFacts K L D) (v w : ℕ) (r : RoundFacts K D) → eqb w v ≡ false → work_of (with_round x v r) w ≡ work_of x w
+  pub work_elsewhere : (x : StateFacts K L D) (v w : ℕ) (r : RoundFacts K D) → eqb w v ≡ false
+      → work_of (with_round x v r) w ≡ work_of x w
   work_elsewhere x v w r apart = rw (is_tracked-put x w v r, round_of-put x w v r, apart) refl

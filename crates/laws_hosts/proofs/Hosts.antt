@@ -34,10 +34,13 @@ module _ {S D K G C : Type 0} (IsGood : Subject D → Type 0) where
   abbrev pub FinalsAreGood : List (Output S D Stored K G C) → Type 0
   FinalsAreGood carried = (p : Proposal D) → Contains carried (output.Finalized p) → IsGood (subject.Finalize p)
 
-module _ {S L D K G C : Type 0} (same : D → D → Bool) (elect : Elect L) (bytes_of : C → List ℕ) (IsGood : Subject D → Type 0) (term_length i : ℕ) where
-  -- a member that has done all this, of a host that has carried these outputs out: it has signed each vote among them, and each certificate
+module _ {S L D K G C : Type 0} (same : D → D → Bool) (elect : Elect L) (bytes_of : C → List ℕ)
+    (IsGood : Subject D → Type 0) (term_length i : ℕ) where
+  -- a member that has done all this, of a host that has carried these outputs out: it has signed each vote among them,
+  -- and each certificate
   -- that it accepted is good
-  pub record HasDone (carried : List (Output S D Stored K G C)) (all : List (TraceEvent D)) (facts : MemberFacts K L D) : Type 0 where
+  pub record HasDone (carried : List (Output S D Stored K G C)) (all : List (TraceEvent D))
+      (facts : MemberFacts K L D) : Type 0 where
     pub done : HasHistory same elect term_length i all facts
     pub votes : (vote : Vote D G) → Contains carried (output.Vote vote) → Contains all (Signs vote.signer vote.subject)
     pub good : AcceptsGood IsGood all
@@ -74,14 +77,20 @@ module _ {S L D K G C : Type 0} (bytes_of : C → List ℕ) (IsSent : Vote D G �
     pub calls : PassesGood bytes_of IsSent IsGood process.calls
     pub floor : AcceptsGood IsGood (floor_in process.start.floor)
 
-module _ {S L D K G C : Type 0} (same : D → D → Bool) (elect : Elect L) (bytes_of : C → List ℕ) (is_signature : K → Subject D → G → Type 0)
-    (keys_of : S → List K) (me : S → Option ℕ) (terms : L → Terms) (members : ℕ) (IsSent : Vote D G → Type 0) (IsGood : Subject D → Type 0) (term_length i : ℕ) where
-  begun : (before : List (Output S D Stored K G C)) (process : Process S L D K G C) → StartsAs me terms term_length i process.start → AcceptsGood IsGood (floor_in process.start.floor)
-      → MemberBegins same elect bytes_of keys_of me terms (journal_of before).beside (journal_of before).entries process.start process.first.core.member
-      → IsStoredIfAny same elect bytes_of IsGood term_length i before → HasBegun same elect bytes_of IsGood term_length i before process.first.core.member
+module _ {S L D K G C : Type 0} (same : D → D → Bool) (elect : Elect L) (bytes_of : C → List ℕ)
+    (is_signature : K → Subject D → G → Type 0)
+    (keys_of : S → List K) (me : S → Option ℕ) (terms : L → Terms) (members : ℕ) (IsSent : Vote D G → Type 0)
+    (IsGood : Subject D → Type 0) (term_length i : ℕ) where
+  begun : (before : List (Output S D Stored K G C)) (process : Process S L D K G C)
+      → StartsAs me terms term_length i process.start → AcceptsGood IsGood (floor_in process.start.floor)
+      → MemberBegins same elect bytes_of keys_of me terms (journal_of before).beside (journal_of before).entries
+      process.start process.first.core.member
+      → IsStoredIfAny same elect bytes_of IsGood term_length i before
+      → HasBegun same elect bytes_of IsGood term_length i before process.first.core.member
   begun before process starts good begins (inl none) =
       let member = process.first.core.member in
-      let started = subst (λ outs. MemberBegins same elect bytes_of keys_of me terms (journal_of outs).beside (journal_of outs).entries process.start member) none begins in
+      let started = subst (λ outs. MemberBegins same elect bytes_of keys_of me terms (journal_of outs).beside
+      (journal_of outs).entries process.start member) none begins in
       record {
         all = floor_in process.start.floor;
         has = record {
@@ -95,31 +104,44 @@ module _ {S L D K G C : Type 0} (same : D → D → Bool) (elect : Elect L) (byt
       let member = process.first.core.member in
       let floor = floor_in process.start.floor in
       let entries = (journal_of before).entries in
-      let resumed = subst (λ b. MemberBegins same elect bytes_of keys_of me terms b entries process.start member) stored.holds.beside begins in
+      let resumed = subst (λ b. MemberBegins same elect bytes_of keys_of me terms b entries process.start member)
+      stored.holds.beside begins in
       record {
         all = stored.all ++ floor;
         has = record {
-          done = resumed.0 stored.member.facts refl (sym stored.holds.entries) term_length i stored.all starts stored.has.done;
-          votes = λ vote has. Contains-append_left stored.all floor (Signs vote.signer vote.subject) (stored.has.votes vote has);
+          done = resumed.0 stored.member.facts refl (sym stored.holds.entries) term_length i stored.all starts
+              stored.has.done;
+          votes = λ vote has. Contains-append_left stored.all floor (Signs vote.signer vote.subject)
+              (stored.has.votes vote has);
           good = good_both IsGood stored.all floor stored.has.good good;
         };
         recorded = signed_still stored.all floor (votes_recorded member.votes)
-            (subst (λ vs. WereSigned stored.all (votes_recorded vs)) (sym (resumed.1 ∙ stored.holds.votes)) stored.recorded);
+            (subst (λ vs. WereSigned stored.all (votes_recorded vs)) (sym (resumed.1 ∙ stored.holds.votes))
+            stored.recorded);
       }
 
   -- nothing was carried out in a process
-  unchanged : (before carried : List (Output S D Stored K G C)) (member : SignedMember K L D G) → carried ≡ [] → HasBegun same elect bytes_of IsGood term_length i before member → FinalsAreGood IsGood before → IsStoredIfAny same elect bytes_of IsGood term_length i before → HasRun same elect bytes_of IsGood term_length i (before ++ carried)
+  unchanged : (before carried : List (Output S D Stored K G C)) (member : SignedMember K L D G) → carried ≡ []
+      → HasBegun same elect bytes_of IsGood term_length i before member → FinalsAreGood IsGood before
+      → IsStoredIfAny same elect bytes_of IsGood term_length i before
+      → HasRun same elect bytes_of IsGood term_length i (before ++ carried)
   unchanged before carried member none from finals stored =
       let nothing : before ≡ before ++ carried = sym (ap (λ outs. before ++ outs) none ∙ append-nil before) in
-      subst (HasRun same elect bytes_of IsGood term_length i) nothing (record { all = from.all; facts = member.facts; has = from.has; stored = stored; finals = finals })
+      subst (HasRun same elect bytes_of IsGood term_length i) nothing
+      (record { all = from.all; facts = member.facts; has = from.has; stored = stored; finals = finals })
 
-  finals_both : (before carried : List (Output S D Stored K G C)) → FinalsAreGood IsGood before → FinalsAreGood IsGood carried → FinalsAreGood IsGood (before ++ carried)
-  finals_both before carried first second p has = elim (Contains-append_cases before carried (output.Finalized p) has) [ inl one ↦ first p one | inr other ↦ second p other ]
+  finals_both : (before carried : List (Output S D Stored K G C)) → FinalsAreGood IsGood before
+      → FinalsAreGood IsGood carried → FinalsAreGood IsGood (before ++ carried)
+  finals_both before carried first second p has =
+      elim (Contains-append_cases before carried (output.Finalized p) has)
+      [ inl one ↦ first p one | inr other ↦ second p other ]
 
   -- a host stopped after it carried something out
   changed : (before carried : List (Output S D Stored K G C)) (earlier all : List (TraceEvent D))
       → ((vote : Vote D G) → Contains before (output.Vote vote) → Contains earlier (Signs vote.signer vote.subject))
-      → AcceptsGood IsGood all → FinalsAreGood IsGood (before ++ carried) → HasStopped same elect bytes_of term_length i earlier all carried → HasRun same elect bytes_of IsGood term_length i (before ++ carried)
+      → AcceptsGood IsGood all → FinalsAreGood IsGood (before ++ carried)
+      → HasStopped same elect bytes_of term_length i earlier all carried
+      → HasRun same elect bytes_of IsGood term_length i (before ++ carried)
   changed before carried earlier all votes good finals stop =
       let may = stop.lawful.may in
       let done = earlier ++ may.since in
@@ -130,7 +152,8 @@ module _ {S L D K G C : Type 0} (same : D → D → Bool) (elect : Elect L) (byt
           | inl old ↦ Contains-append_left earlier may.since (Signs vote.signer vote.subject) (votes vote old)
           | inr new ↦ stop.lawful.votes vote new
         ];
-        good = λ c among. good c (subst (λ xs. Contains xs (Accepts c)) (sym may.is_all) (Contains-append_left done may.later (Accepts c) among));
+        good = λ c among. good c (subst (λ xs. Contains xs (Accepts c)) (sym may.is_all)
+            (Contains-append_left done may.later (Accepts c) among));
       } in
       record {
         all = done;
@@ -142,19 +165,25 @@ module _ {S L D K G C : Type 0} (same : D → D → Bool) (elect : Elect L) (byt
           has = has;
           holds = subst (IsRecordOf bytes_of may.member) (sym journal) may.holds;
           recorded = λ vote among. may.signed vote (was_stored carried vote
-              (subst (λ vs. Contains vs vote) (ap votes_recorded (sym may.holds.votes) ∙ sym (all_signed (journal_of carried).entries)) among));
+              (subst (λ vs. Contains vs vote)
+              (ap votes_recorded (sym may.holds.votes) ∙ sym (all_signed (journal_of carried).entries)) among));
         });
         finals = finals;
       }
 
   -- over one process
-  processed : QuorumsAreGood members IsSent IsGood → (before : List (Output S D Stored K G C)) (process : Process S L D K G C)
+  processed : QuorumsAreGood members IsSent IsGood
+      → (before : List (Output S D Stored K G C)) (process : Process S L D K G C)
       → IsProcess same elect bytes_of is_signature keys_of me terms term_length i members (journal_of before) process
-      → PassesAllGood bytes_of IsSent IsGood process → FinalsAreGood IsGood before → IsStoredIfAny same elect bytes_of IsGood term_length i before → HasRun same elect bytes_of IsGood term_length i (before ++ process.carried)
+      → PassesAllGood bytes_of IsSent IsGood process → FinalsAreGood IsGood before
+      → IsStoredIfAny same elect bytes_of IsGood term_length i before
+      → HasRun same elect bytes_of IsGood term_length i (before ++ process.carried)
   processed quorums before process is passes finals stored =
       let member = process.first.core.member in
-      let from : HasBegun same elect bytes_of IsGood term_length i before member = begun before process is.starts passes.floor is.begins.member stored in
-      let at = called same elect bytes_of is_signature keys_of members IsSent IsGood term_length i from.all quorums process.calls [] process.first process.last passes.calls is.runs (record {
+      let from : HasBegun same elect bytes_of IsGood term_length i before member =
+      begun before process is.starts passes.floor is.begins.member stored in
+      let at = called same elect bytes_of is_signature keys_of members IsSent IsGood term_length i from.all quorums
+      process.calls [] process.first process.last passes.calls is.runs (record {
         all = from.all;
         traced = is.begins.traced term_length i from.all from.has.done from.recorded;
         good = from.has.good;
@@ -166,36 +195,50 @@ module _ {S L D K G C : Type 0} (same : D → D → Bool) (elect : Elect L) (byt
       let outs = outputs_of process.calls in
       let queue = process.last.core.outbox.queue.items in
       let each : EachStopIsLawful same elect bytes_of term_length i from.all at.all (outs ++ queue) =
-      lawful_stops same elect bytes_of term_length i from.all at.all (outs ++ queue) at.traced.kept.lawful.behind (at.traced.stops is.alive) in
+      lawful_stops same elect bytes_of term_length i from.all at.all (outs ++ queue) at.traced.kept.lawful.behind
+      (at.traced.stops is.alive) in
       let reported : FinalsAreGood IsGood process.carried = λ p has. at.good (subject.Finalize p) (at.traced.finals p
-      (subst (λ ps. Contains ps p) (sym (finalized_in-append outs queue)) (Contains-append_left (finals_in outs) (finals_in queue) p
+      (subst (λ ps. Contains ps p) (sym (finalized_in-append outs queue))
+      (Contains-append_left (finals_in outs) (finals_in queue) p
       (among_finals outs p (final_returned outs process.carried p is.carries_out has))))) in
       elim (stopped same elect bytes_of term_length i from.all at.all outs queue process.carried each is.carries_out) [
         | inl none ↦ unchanged before process.carried member none from finals stored
-        | inr stop ↦ changed before process.carried from.all at.all from.has.votes at.good (finals_both before process.carried finals reported) stop
+        | inr stop ↦ changed before process.carried from.all at.all from.has.votes at.good
+            (finals_both before process.carried finals reported) stop
       ]
 
   -- over all
-  pub all_processed : QuorumsAreGood members IsSent IsGood → (process : Process S L D K G C) (rest : List (Process S L D K G C)) (before : List (Output S D Stored K G C))
+  pub all_processed : QuorumsAreGood members IsSent IsGood
+      → (process : Process S L D K G C) (rest : List (Process S L D K G C)) (before : List (Output S D Stored K G C))
       → AreProcesses same elect bytes_of is_signature keys_of me terms term_length i members before (process ∷ rest)
-      → ((p : Process S L D K G C) → Contains (process ∷ rest) p → PassesAllGood bytes_of IsSent IsGood p) → FinalsAreGood IsGood before → IsStoredIfAny same elect bytes_of IsGood term_length i before → HasRun same elect bytes_of IsGood term_length i (before ++ carried_by (process ∷ rest))
+      → ((p : Process S L D K G C) → Contains (process ∷ rest) p → PassesAllGood bytes_of IsSent IsGood p)
+      → FinalsAreGood IsGood before → IsStoredIfAny same elect bytes_of IsGood term_length i before
+      → HasRun same elect bytes_of IsGood term_length i (before ++ carried_by (process ∷ rest))
   all_processed quorums process [] before are passes finals stored =
-      subst (HasRun same elect bytes_of IsGood term_length i) (ap (λ outs. before ++ outs) (sym (append-nil process.carried)))
+      subst (HasRun same elect bytes_of IsGood term_length i)
+      (ap (λ outs. before ++ outs) (sym (append-nil process.carried)))
       (processed quorums before process are.0 (passes process (here process [])) finals stored)
   all_processed quorums process (next ∷ rest) before are passes finals stored =
       let one = processed quorums before process are.0 (passes process (here process (next ∷ rest))) finals stored in
-      subst (HasRun same elect bytes_of IsGood term_length i) (append_assoc before process.carried (carried_by (next ∷ rest)))
-      (all_processed quorums next rest (before ++ process.carried) are.1 (λ p has. passes p (Contains-cons_rest process (next ∷ rest) p has)) one.finals one.stored)
+      subst (HasRun same elect bytes_of IsGood term_length i)
+      (append_assoc before process.carried (carried_by (next ∷ rest)))
+      (all_processed quorums next rest (before ++ process.carried) are.1
+      (λ p has. passes p (Contains-cons_rest process (next ∷ rest) p has)) one.finals one.stored)
 
-module _ {S L D K G C : Type 0} (same : D → D → Bool) (elect : Elect L) (bytes_of : C → List ℕ) (is_signature : K → Subject D → G → Type 0)
+module _ {S L D K G C : Type 0} (same : D → D → Bool) (elect : Elect L) (bytes_of : C → List ℕ)
+    (is_signature : K → Subject D → G → Type 0)
     (keys_of : S → List K) (me : S → Option ℕ) (terms : L → Terms) (decides : (d e : D) → same d e ≡ true → d ≡ e) where
   -- whatever came in
   pub votes_keep_rules : EachHostKeepsRules {C = C} same elect bytes_of is_signature keys_of me terms
   votes_keep_rules term_length i members [] some runs = absurd (some refl)
   votes_keep_rules term_length i members (process ∷ rest) some runs =
-      let ran = all_processed same elect bytes_of is_signature keys_of me terms members (λ vote. Unit {0}) (λ c. Unit {0}) term_length i (λ votes c sent has. tt)
+      let ran = all_processed same elect bytes_of is_signature keys_of me terms members (λ vote. Unit {0})
+      (λ c. Unit {0}) term_length i (λ votes c sent has. tt)
       process rest [] runs
-      (λ p has. record { calls = record { votes = λ vote among. tt; certificates = λ certificate among. tt }; floor = λ c among. tt }) (λ p has. tt) (inl refl) in
+      (λ p has. record {
+        calls = record { votes = λ vote among. tt; certificates = λ certificate among. tt };
+        floor = λ c among. tt;
+      }) (λ p has. tt) (inl refl) in
       record {
         all = ran.all;
         lawful = done_lawful same elect term_length i decides ran.all ran.facts ran.has.done;

@@ -30,9 +30,11 @@ module _ {S L D K G C : Type 0} where
     pub calls : (passed : Input S D K G C) → Contains process.calls (Handled passed) → ⊥
     pub genesis : floor_in process.start.floor ≡ []
 
-module _ {S L D K G C : Type 0} (same : D → D → Bool) (elect : Elect L) (bytes_of : C → List ℕ) (is_signature : K → Subject D → G → Type 0)
+module _ {S L D K G C : Type 0} (same : D → D → Bool) (elect : Elect L) (bytes_of : C → List ℕ)
+    (is_signature : K → Subject D → G → Type 0)
     (keys_of : S → List K) (me : S → Option ℕ) (terms : L → Terms) (term_length : ℕ) where
-  pub lone : (processes : List (Process S L D K G C)) → processes ≢ [] → AreProcesses same elect bytes_of is_signature keys_of me terms term_length 0 1 [] processes
+  pub lone : (processes : List (Process S L D K G C)) → processes ≢ []
+      → AreProcesses same elect bytes_of is_signature keys_of me terms term_length 0 1 [] processes
       → ((p : Process S L D K G C) → Contains processes p → PassesNothing p)
       → IsHostNetwork same elect bytes_of is_signature keys_of me terms term_length (Honest processes ∷ [])
   lone processes some runs passes = record {
@@ -40,24 +42,30 @@ module _ {S L D K G C : Type 0} (same : D → D → Bool) (elect : Elect L) (byt
     honest = honest;
   }
     where
-      host : (i : ℕ) → i ≡ 0 → IsHonestHost same elect bytes_of is_signature keys_of me terms term_length i (Honest processes ∷ []) processes
+      host : (i : ℕ) → i ≡ 0 → IsHonestHost same elect bytes_of is_signature keys_of me terms term_length i
+          (Honest processes ∷ []) processes
       host i first = record {
         some = some;
-        runs = subst (λ j. AreProcesses same elect bytes_of is_signature keys_of me terms term_length j 1 [] processes) (sym first) runs;
+        runs = subst (λ j. AreProcesses same elect bytes_of is_signature keys_of me terms term_length j 1 [] processes)
+            (sym first) runs;
         votes = λ p vote other has among at. absurd ((passes p has).calls (input.Vote vote) among);
         certificates = λ p certificate has among. absurd ((passes p has).calls (input.Certificate certificate) among);
-        floors = λ p c has among. none_in (Accepts c) (subst (λ xs. Contains xs (Accepts c)) (passes p has).genesis among);
+        floors = λ p c has among. none_in (Accepts c)
+            (subst (λ xs. Contains xs (Accepts c)) (passes p has).genesis among);
       }
 
-      honest : (i : ℕ) (others : List (Process S L D K G C)) → slice_get (Honest processes ∷ []) i ≡ Some (Honest others)
+      honest : (i : ℕ) (others : List (Process S L D K G C))
+          → slice_get (Honest processes ∷ []) i ≡ Some (Honest others)
           → IsHonestHost same elect bytes_of is_signature keys_of me terms term_length i (Honest processes ∷ []) others
       honest zero others at =
           let same_processes : processes ≡ others = cc in
-          subst (IsHonestHost same elect bytes_of is_signature keys_of me terms term_length 0 (Honest processes ∷ [])) same_processes (host 0 refl)
+          subst (IsHonestHost same elect bytes_of is_signature keys_of me terms term_length 0 (Honest processes ∷ []))
+          same_processes (host 0 refl)
       honest (suc k) others at = absurd (cc)
 
   -- also a host that has begun an engine and made no call
-  pub begun_alone : {E : Type 0} (start : Start S L D K G C) (result : Result (Engine S L D K G C) E) → length (keys_of start.settings.scheme) ≡ 1
+  pub begun_alone : {E : Type 0} (start : Start S L D K G C) (result : Result (Engine S L D K G C) E)
+      → length (keys_of start.settings.scheme) ≡ 1
       → floor_in start.floor ≡ [] → IfOk result (EngineBegins same elect bytes_of keys_of me terms empty_journal start)
       → IfOk result (λ engine. StartsAs me terms term_length 0 start → has_failed engine.core ≡ false
       → IsHostNetwork same elect bytes_of is_signature keys_of me terms term_length (lone_host start engine))

@@ -10,7 +10,8 @@ use Rattle.laws_safety.proofs.lists.Splits.{Contains-cons_rest}
 
 module _ {X G : Type 0} (P : ℕ → X → Type 0) where
   -- where P is true of the item at each of these indices, it is true of as many items
-  pub at_least : (xs : List X) (i lowest : ℕ) (signed : List (ℕ × G)) → i ≤ lowest → AreRising (i + length xs) lowest signed
+  pub at_least : (xs : List X) (i lowest : ℕ) (signed : List (ℕ × G)) → i ≤ lowest
+      → AreRising (i + length xs) lowest signed
       → ((s : ℕ × G) → Contains signed s → (k : ℕ) (x : X) → slice_get xs k ≡ Some x → s.0 ≡ i + k → P s.0 x)
       → AtLeastFrom i (length signed) P xs
   at_least xs i lowest [] from rising has = tt
@@ -39,7 +40,8 @@ module _ {X Y : Type 0} (R : ℕ → X → Y → Type 0) where
   ArePairs i [] (y ∷ ys) = ⊥
   ArePairs i (x ∷ xs) [] = ⊥
 
-  pub paired : (xs : List X) (i : ℕ) → ((k : ℕ) (x : X) → slice_get xs k ≡ Some x → (y : Y) × R (i + k) x y) → (ys : List Y) × ArePairs i xs ys
+  pub paired : (xs : List X) (i : ℕ) → ((k : ℕ) (x : X) → slice_get xs k ≡ Some x → (y : Y) × R (i + k) x y)
+      → (ys : List Y) × ArePairs i xs ys
   paired [] i each = ([], tt)
   paired (x ∷ xs) i each =
       let first = each 0 x refl in
@@ -56,7 +58,8 @@ module _ {X Y : Type 0} (R : ℕ → X → Y → Type 0) where
   same_length (x ∷ xs) [] i are = absurd are
   same_length (x ∷ xs) (y ∷ ys) i are = let rest = same_length xs ys (suc i) are.1 in omega arith
 
-  pub pair_at : (xs : List X) (ys : List Y) (i k : ℕ) (y : Y) → ArePairs i xs ys → slice_get ys k ≡ Some y → (x : X) × (slice_get xs k ≡ Some x) × R (i + k) x y
+  pub pair_at : (xs : List X) (ys : List Y) (i k : ℕ) (y : Y) → ArePairs i xs ys → slice_get ys k ≡ Some y
+      → (x : X) × (slice_get xs k ≡ Some x) × R (i + k) x y
   pair_at [] [] i k y are is = absurd (cc)
   pair_at [] (z ∷ ys) i k y are is = absurd are
   pair_at (x ∷ xs) [] i k y are is = absurd are
@@ -71,12 +74,15 @@ module _ {X Y : Type 0} (R : ℕ → X → Y → Type 0) where
 
   -- as many items of the second list have Q as of the first have P
   pub as_many : (P : ℕ → X → Type 0) (Q : ℕ → Y → Type 0) → ((j : ℕ) (x : X) (y : Y) → R j x y → P j x → Q j y)
-      → (xs : List X) (ys : List Y) (i count : ℕ) → ArePairs i xs ys → AtLeastFrom i count P xs → AtLeastFrom i count Q ys
+      → (xs : List X) (ys : List Y) (i count : ℕ) → ArePairs i xs ys → AtLeastFrom i count P xs
+      → AtLeastFrom i count Q ys
   as_many P Q each xs ys i zero are has = tt
   as_many P Q each [] ys i (suc count) are has = absurd has
   as_many P Q each (x ∷ xs) [] i (suc count) are has = absurd are
-  as_many P Q each (x ∷ xs) (y ∷ ys) i (suc count) are (inl has) = inl (each i x y are.0 has.0, as_many P Q each xs ys (suc i) count are.1 has.1)
-  as_many P Q each (x ∷ xs) (y ∷ ys) i (suc count) are (inr has) = inr (as_many P Q each xs ys (suc i) (suc count) are.1 has)
+  as_many P Q each (x ∷ xs) (y ∷ ys) i (suc count) are (inl has) =
+      inl (each i x y are.0 has.0, as_many P Q each xs ys (suc i) count are.1 has.1)
+  as_many P Q each (x ∷ xs) (y ∷ ys) i (suc count) are (inr has) =
+      inr (as_many P Q each xs ys (suc i) (suc count) are.1 has)
 
   -- as many pass a test of each
   pub same_count : (p : X → Bool) (q : Y → Bool) → ((j : ℕ) (x : X) (y : Y) → R j x y → q y ≡ p x)

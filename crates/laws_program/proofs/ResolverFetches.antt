@@ -27,10 +27,12 @@ of_parts x fetching = record { state = x; open_fetches = fetching }
 
 -- ---- a line
 
-module _ (t : ℕ) (calls : List Call) (x y : ResolverFacts) (fetching left : List ℕ) (told : HasReceivedCalls t calls (of_parts x fetching)) where
+module _ (t : ℕ) (calls : List Call) (x y : ResolverFacts) (fetching left : List ℕ)
+    (told : HasReceivedCalls t calls (of_parts x fetching)) where
   -- nothing is received, and nothing changes
   kept : IsUnchanged x fetching y left → HasReceivedCalls t calls (of_parts y left)
-  kept (same, same_left) = subst (λ z. HasReceivedCalls t calls (of_parts z left)) (sym same) (subst (λ views. HasReceivedCalls t calls (of_parts x views)) (sym same_left) told)
+  kept (same, same_left) = subst (λ z. HasReceivedCalls t calls (of_parts z left)) (sym same)
+      (subst (λ views. HasReceivedCalls t calls (of_parts x views)) (sym same_left) told)
 
   -- a call that is refused with memory at hand changes nothing
   refused : (v : ℕ) (f : Fault) → (f ≡ fault.OutOfMemory → ⊥) → Refused x v f y → y ≡ x
@@ -40,9 +42,11 @@ module _ (t : ℕ) (calls : List Call) (x y : ResolverFacts) (fetching left : Li
   refused v fault.TimeOverflow other is = absurd is
 
   -- a call that returns effects is received
-  called : (v : ℕ) (call : Call) (a : Answer) → NamesAView call → Calls x fetching v call a y left → HasReceivedCalls t (answered_by a (call ∷ []) ++ calls) (of_parts y left)
+  called : (v : ℕ) (call : Call) (a : Answer) → NamesAView call → Calls x fetching v call a y left
+      → HasReceivedCalls t (answered_by a (call ∷ []) ++ calls) (of_parts y left)
   called v call (answer.Effects es) names (live, effects, after, applied) =
-      still_told t calls call (of_parts x fetching) (of_parts y left) es.items told names (record { state = after; answered = effects; applied = applied })
+      still_told t calls call (of_parts x fetching) (of_parts y left) es.items told names
+      (record { state = after; answered = effects; applied = applied })
   called v call (answer.Fault f) names (other, is, same_left) = kept (refused v f other is, same_left)
   called v call (answer.Flag flag) names is = absurd is
   called v call (answer.Encoding bytes) names is = absurd is
@@ -50,13 +54,16 @@ module _ (t : ℕ) (calls : List Call) (x y : ResolverFacts) (fetching left : Li
   called v call answer.NotAllowed names is = absurd is
 
   -- a report of view 0 is not received
-  reported : (v : ℕ) (call : Call) (a : Answer) → (1 ≤ v → NamesAView call) → Reports x fetching v call a y left → HasReceivedCalls t (answered_by a (call ∷ []) ++ calls) (of_parts y left)
+  reported : (v : ℕ) (call : Call) (a : Answer) → (1 ≤ v → NamesAView call) → Reports x fetching v call a y left
+      → HasReceivedCalls t (answered_by a (call ∷ []) ++ calls) (of_parts y left)
   reported zero call a names (below, above) =
-      subst (λ b. HasReceivedCalls t (answered_by b (call ∷ []) ++ calls) (of_parts y left)) (sym (below refl).0) (kept (below refl).1)
+      subst (λ b. HasReceivedCalls t (answered_by b (call ∷ []) ++ calls) (of_parts y left)) (sym (below refl).0)
+      (kept (below refl).1)
   reported (suc v) call a names (below, above) = called (suc v) call a (names (omega arith)) (above (omega arith))
 
   -- a line that passes nothing makes no call
-  shown : (a : Answer) → IsUnchanged x fetching y left → HasReceivedCalls t (answered_by a [] ++ calls) (of_parts y left)
+  shown : (a : Answer) → IsUnchanged x fetching y left
+      → HasReceivedCalls t (answered_by a [] ++ calls) (of_parts y left)
   shown (answer.Effects es) is = kept is
   shown (answer.Fault f) is = kept is
   shown (answer.Flag flag) is = kept is
@@ -64,7 +71,8 @@ module _ (t : ℕ) (calls : List Call) (x y : ResolverFacts) (fetching left : Li
   shown (answer.Outstanding views) is = kept is
   shown answer.NotAllowed is = kept is
 
-  of_line : (line : ResolverLine) (a : Answer) → ResolverAnswers x fetching line a y left → HasReceivedCalls t (made_in line a ++ calls) (of_parts y left)
+  of_line : (line : ResolverLine) (a : Answer) → ResolverAnswers x fetching line a y left
+      → HasReceivedCalls t (made_in line a ++ calls) (of_parts y left)
   of_line (Notarization v) a is = reported v (notarization_call v) a (λ above. above) is
   of_line (Nullification v) a is = reported v (nullification_call v) a (λ above. above) is
   of_line (Finalization v) a is = reported v (finalization_call v) a (λ above. above) is
@@ -99,11 +107,15 @@ one_more t calls line lines p r q turn words extended s = record {
   fetching = s.fetching;
   left = s.left;
   spelled = (words, s.spelled);
-  written = appended p.held r.held q.held (reply_line (resolver_reply_text turn.answer)) (resolver_replies s.turns) extended s.written;
-  told = subst (λ (all : List Call). HasReceivedCalls t all (of_parts s.end s.fetching)) (sym (append_assoc (made_by s.turns) (made_in turn.line turn.answer) calls)) s.told;
+  written = appended p.held r.held q.held (reply_line (resolver_reply_text turn.answer)) (resolver_replies s.turns)
+      extended s.written;
+  told = subst (λ (all : List Call). HasReceivedCalls t all (of_parts s.end s.fetching))
+      (sym (append_assoc (made_by s.turns) (made_in turn.line turn.answer) calls)) s.told;
 }
 
-fetches_from : (t : ℕ) (calls : List Call) (lines : List (List ℕ)) (p q : Point) (x : ResolverFacts) (fetching : List ℕ) → p.asked ≡ Resolver x fetching → HasReceivedCalls t calls (of_parts x fetching) → AreAnswered p lines q → FetchesFrom t calls lines p q
+fetches_from : (t : ℕ) (calls : List Call) (lines : List (List ℕ)) (p q : Point) (x : ResolverFacts) (fetching : List ℕ)
+    → p.asked ≡ Resolver x fetching → HasReceivedCalls t calls (of_parts x fetching) → AreAnswered p lines q
+    → FetchesFrom t calls lines p q
 fetches_from t calls [] p q x fetching asked told same = record {
   turns = [];
   end = x;
@@ -113,18 +125,26 @@ fetches_from t calls [] p q x fetching asked told same = record {
   written = subst (λ (r : Point). Appends p.held r.held []) same (nothing_appended p.held);
   told = told;
 }
-fetches_from t calls (line ∷ lines) p q x fetching asked told (r, (reply, (next, replied), extended), rest) = by_asked r.asked refl (λ more y left is told_so. fetches_from t more lines r q y left is told_so rest)
+fetches_from t calls (line ∷ lines) p q x fetching asked told (r, (reply, (next, replied), extended), rest) =
+    by_asked r.asked refl (λ more y left is told_so. fetches_from t more lines r q y left is told_so rest)
   where
     given : (a : Asked) → r.asked ≡ a → Replies (Resolver x fetching) (without_feed line) reply a
-    given a is = subst (λ b. Replies b (without_feed line) reply a) asked (subst (λ b. Replies p.asked (without_feed line) reply b) is replied)
+    given a is = subst (λ b. Replies b (without_feed line) reply a) asked
+        (subst (λ b. Replies p.asked (without_feed line) reply b) is replied)
 
-    by_parts : (y : ResolverFacts) (left : List ℕ) → r.asked ≡ Resolver y left → Replies (Resolver x fetching) (without_feed line) reply (Resolver y left) → ((more : List Call) (z : ResolverFacts) (views : List ℕ) → r.asked ≡ Resolver z views → HasReceivedCalls t more (of_parts z views) → FetchesFrom t more lines r q) → FetchesFrom t calls (line ∷ lines) p q
+    by_parts : (y : ResolverFacts) (left : List ℕ) → r.asked ≡ Resolver y left
+        → Replies (Resolver x fetching) (without_feed line) reply (Resolver y left)
+        → ((more : List Call) (z : ResolverFacts) (views : List ℕ) → r.asked ≡ Resolver z views
+        → HasReceivedCalls t more (of_parts z views) → FetchesFrom t more lines r q)
+        → FetchesFrom t calls (line ∷ lines) p q
     by_parts y left is (rline, a, words, answers, text) later =
         one_more t calls line lines p r q (record { line = rline; answer = a }) words
         (subst (λ bytes. Appends p.held r.held bytes) text extended)
         (later (made_in rline a ++ calls) y left is (of_line t calls x y fetching left told rline a answers))
 
-    by_asked : (a : Asked) → r.asked ≡ a → ((more : List Call) (z : ResolverFacts) (views : List ℕ) → r.asked ≡ Resolver z views → HasReceivedCalls t more (of_parts z views) → FetchesFrom t more lines r q) → FetchesFrom t calls (line ∷ lines) p q
+    by_asked : (a : Asked) → r.asked ≡ a → ((more : List Call) (z : ResolverFacts) (views : List ℕ)
+        → r.asked ≡ Resolver z views → HasReceivedCalls t more (of_parts z views) → FetchesFrom t more lines r q)
+        → FetchesFrom t calls (line ∷ lines) p q
     by_asked (Member n m) is later = absurd (given (Member n m) is)
     by_asked (Resolver y left) is later = by_parts y left is (given (Resolver y left) is) later
 
@@ -136,11 +156,15 @@ nothing_told t some = record { long = some; named = tt; state = refl; open_fetch
 pub resolver_transcripts_keep_fetches : ResolverTranscriptsKeepFetches
 resolver_transcripts_keep_fetches t left held r after served (inl none) = inl none
 resolver_transcripts_keep_fetches t left held r after served (inr (Member n m, begins, _)) = absurd begins
-resolver_transcripts_keep_fetches t left held r after served (inr (Resolver x fetching, (new, none), (lines, q, answered, ended))) =
+resolver_transcripts_keep_fetches t left held r after served
+    (inr (Resolver x fetching, (new, none), (lines, q, answered, ended))) =
     let p : Point = record { asked = Resolver x fetching; left = left; held = held } in
-    let start : HasReceivedCalls t [] (of_parts x fetching) = rw (new, none) (nothing_told t (omega (arith, served.0))) in
+    let start : HasReceivedCalls t [] (of_parts x fetching) =
+    rw (new, none) (nothing_told t (omega (arith, served.0))) in
     let s = fetches_from t [] lines p q x fetching refl start answered in
-    let told : HasReceivedCalls t (made_by s.turns) (of_parts s.end s.fetching) = subst (λ (all : List Call). HasReceivedCalls t all (of_parts s.end s.fetching)) (append-nil (made_by s.turns)) s.told in
+    let told : HasReceivedCalls t (made_by s.turns) (of_parts s.end s.fetching) =
+    subst (λ (all : List Call). HasReceivedCalls t all (of_parts s.end s.fetching)) (append-nil (made_by s.turns))
+    s.told in
     let left_so = of_parts s.end s.fetching in
     inr (
       left_so,

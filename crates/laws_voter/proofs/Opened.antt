@@ -58,14 +58,16 @@ differ : (a b : ℕ) → eqb a b ≡ false → a ≢ b
 differ a b apart e = false≢true (sym apart ∙ eq-eqb a b e)
 
 module _ (length optimistic w : ℕ) where
-  floor_some : (low : ℕ) → issuance_floor length optimistic w ≡ Some low → (w ≢ term_start length w) × (optimistic ≢ 0) × (max (term_start length w - 1) (w - 1 - optimistic) ≡ low)
+  floor_some : (low : ℕ) → issuance_floor length optimistic w ≡ Some low
+      → (w ≢ term_start length w) × (optimistic ≢ 0) × (max (term_start length w - 1) (w - 1 - optimistic) ≡ low)
   floor_some low e =
       let found = else_some ((w == 0) || (w == term_start length w) || (optimistic == 0)) _ low e in
       let last = or_none ((w == 0) || (w == term_start length w)) _ found.0 in
       let first = or_none (w == 0) _ last.0 in
       (differ w (term_start length w) first.1, differ optimistic 0 last.1, found.1)
 
-  some_floor : w ≢ 0 → w ≢ term_start length w → optimistic ≢ 0 → issuance_floor length optimistic w ≡ Some (max (term_start length w - 1) (w - 1 - optimistic))
+  some_floor : w ≢ 0 → w ≢ term_start length w → optimistic ≢ 0
+      → issuance_floor length optimistic w ≡ Some (max (term_start length w - 1) (w - 1 - optimistic))
   some_floor a b c = rw (ne_eqb w 0 a, ne_eqb w (term_start length w) b, ne_eqb optimistic 0 c) refl
 
 module _ {K L D : Type 0} (x : StateFacts K L D) (v : ℕ) (one : 0 < v) (some : 0 < x.terms.term_length) where
@@ -75,7 +77,8 @@ module _ {K L D : Type 0} (x : StateFacts K L D) (v : ℕ) (one : 0 < v) (some :
   abbrev optimistic : ℕ
   optimistic = x.terms.optimistic_views
 
-  opened-bounds : (w : ℕ) → IsIn w (opened_views x v) → (optimistic ≢ 0) × (v < w) × (w ≤ term_end length v) × (w ≤ v + optimistic + 1)
+  opened-bounds : (w : ℕ) → IsIn w (opened_views x v)
+      → (optimistic ≢ 0) × (v < w) × (w ≤ term_end length v) × (w ≤ v + optimistic + 1)
   opened-bounds w is = elim (cases_bool (optimistic == 0)) [
     | inl none ↦ absurd (false≢true (rw none at is))
     | inr ahead ↦
@@ -83,7 +86,8 @@ module _ {K L D : Type 0} (x : StateFacts K L D) (v : ℕ) (one : 0 < v) (some :
         (differ optimistic 0 ahead, omega arith, omega arith, omega arith)
   ]
 
-  opened-each : (u : ℕ) → optimistic ≢ 0 → v < u → u ≤ term_end length v → u ≤ v + optimistic + 1 → (low : ℕ) × IsOpenedBy x v u low
+  opened-each : (u : ℕ) → optimistic ≢ 0 → v < u → u ≤ term_end length v → u ≤ v + optimistic + 1
+      → (low : ℕ) × IsOpenedBy x v u low
   opened-each u ahead above inside near =
       let start : term_start length u ≡ term_start length v = same_start length v u one (omega arith) (omega arith) in
       let begins : term_start length v ≤ v = start_below length some v one in (
@@ -94,14 +98,16 @@ module _ {K L D : Type 0} (x : StateFacts K L D) (v : ℕ) (one : 0 < v) (some :
         },
       )
 
-  pub opened_reached : (w : ℕ) → IsIn w (opened_views x v) → (v < w) × ((u : ℕ) → v < u → u ≤ w → (low : ℕ) × IsOpenedBy x v u low)
+  pub opened_reached : (w : ℕ) → IsIn w (opened_views x v)
+      → (v < w) × ((u : ℕ) → v < u → u ≤ w → (low : ℕ) × IsOpenedBy x v u low)
   opened_reached w is =
       let bounds = opened-bounds w is in
       let inside : w ≤ term_end length v = bounds.2 in
       let near : w ≤ v + optimistic + 1 = bounds.3 in
       (bounds.1, λ u above up. opened-each u bounds.0 above (omega arith) (omega arith))
 
-  pub reached_opened : (w : ℕ) → (v < w) × ((u : ℕ) → v < u → u ≤ w → (low : ℕ) × IsOpenedBy x v u low) → IsIn w (opened_views x v)
+  pub reached_opened : (w : ℕ) → (v < w) × ((u : ℕ) → v < u → u ≤ w → (low : ℕ) × IsOpenedBy x v u low)
+      → IsIn w (opened_views x v)
   reached_opened w reached =
       let above : v < w = reached.0 in
       let next = reached.1 (v + 1) (omega arith) (omega arith) in
@@ -114,4 +120,5 @@ module _ {K L D : Type 0} (x : StateFacts K L D) (v : ℕ) (one : 0 < v) (some :
       let not_next : term_start length w ≢ v + 1 = λ begins. not_start (sym (next_starts length some v w begins)) in
       let starts : term_start length w ≤ term_start length v = start_rises length some v w (omega arith) in
       let behind : w < next_term_start length w = next_above length w some (omega arith) in
-      rw (ne_eqb optimistic 0 floor.1) (bounds-in_range (min (term_end length v) (v + optimistic + 1) - v) (v + 1) w (omega arith) (omega arith))
+      rw (ne_eqb optimistic 0 floor.1)
+      (bounds-in_range (min (term_end length v) (v + optimistic + 1) - v) (v + 1) w (omega arith) (omega arith))

@@ -16,14 +16,18 @@ IsBytes-take n bytes h i =
       | inr le ↦ rw (get_or_past (take n bytes) i 0 (omega (arith, length-take n bytes))) (omega arith)
     ]
 
-pub front_8 : (bytes front rest : List ℕ) (n : ℕ) → IsBytes bytes → 8 ≤ length bytes → front ≡ take 8 bytes → rest ≡ drop 8 bytes → n ≡ from_be_bytes w64 front → bytes ≡ to_be_bytes w64 n ++ rest
+pub front_8 : (bytes front rest : List ℕ) (n : ℕ) → IsBytes bytes → 8 ≤ length bytes → front ≡ take 8 bytes
+    → rest ≡ drop 8 bytes → n ≡ from_be_bytes w64 front → bytes ≡ to_be_bytes w64 n ++ rest
 front_8 bytes front rest n fits long first second value =
-    let parts = be_bytes_8 (take 8 bytes) n (length-take-le 8 bytes long) (IsBytes-take 8 bytes fits) (value ∙ ap (from_be_bytes w64) first) in
+    let parts = be_bytes_8 (take 8 bytes) n (length-take-le 8 bytes long) (IsBytes-take 8 bytes fits)
+    (value ∙ ap (from_be_bytes w64) first) in
     sym (ap (λ xs. to_be_bytes w64 n ++ xs) second ∙ ap (λ xs. xs ++ drop 8 bytes) parts ∙ take-append-drop 8 bytes)
 
-pub front_4 : (bytes front rest : List ℕ) (n : ℕ) → IsBytes bytes → 4 ≤ length bytes → front ≡ take 4 bytes → rest ≡ drop 4 bytes → n ≡ from_be_bytes w32 front → bytes ≡ to_be_bytes w32 n ++ rest
+pub front_4 : (bytes front rest : List ℕ) (n : ℕ) → IsBytes bytes → 4 ≤ length bytes → front ≡ take 4 bytes
+    → rest ≡ drop 4 bytes → n ≡ from_be_bytes w32 front → bytes ≡ to_be_bytes w32 n ++ rest
 front_4 bytes front rest n fits long first second value =
-    let parts = be_bytes_4 (take 4 bytes) n (length-take-le 4 bytes long) (IsBytes-take 4 bytes fits) (value ∙ ap (from_be_bytes w32) first) in
+    let parts = be_bytes_4 (take 4 bytes) n (length-take-le 4 bytes long) (IsBytes-take 4 bytes fits)
+    (value ∙ ap (from_be_bytes w32) first) in
     sym (ap (λ xs. to_be_bytes w32 n ++ xs) second ∙ ap (λ xs. xs ++ drop 4 bytes) parts ∙ take-append-drop 4 bytes)
 
 pub none_left : (xs : List ℕ) → (length xs == 0) ≡ true → xs ≡ []

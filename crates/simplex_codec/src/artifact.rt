@@ -10,14 +10,14 @@ ghost use Rattle.simplex_codec.specs.Artifacts.{IsProposalVoteRefusal, IsRoundVo
 
 use crate::certificate::decode_certificate;
 use crate::error::DecodeError;
+use crate::fields::{
+    put_proposal_certificate, put_proposal_vote, put_round_certificate, put_round_vote, put_verdict,
+};
 use crate::hooks::{DigestCodec, SchemeCodec};
 use crate::kinds::{
     FINALIZATION, FINALIZE, NOTARIZATION, NOTARIZE, NULLIFICATION, NULLIFY, VERDICT,
 };
 use crate::parts::{take_proposal, take_round, take_u32};
-use crate::fields::{
-    put_proposal_certificate, put_proposal_vote, put_round_certificate, put_round_vote, put_verdict,
-};
 use bytes::{Bytes, BytesMut};
 use simplex_types::types::encoding::encoding_tells_apart;
 use simplex_types::types::{

@@ -5,10 +5,10 @@ ghost use Rattle.simplex_types.specs.Plain.{digest_bytes};
 ghost use Rattle.simplex_types.specs.Encoding.{round_bytes, proposal_bytes, subject_bytes};
 ghost use Rattle.simplex_codec.specs.Plain.{plain_signature_bytes, plain_signature_of, plain_subject_of, plain_proposal_of, plain_round_of};
 
+use crate::fields::put_subject;
 use crate::hooks::{DigestCodec, SchemeCodec};
 use crate::kinds::{FINALIZATION, NOTARIZATION, NULLIFICATION};
 use crate::parts::{take_round, take_u32, take_u64};
-use crate::fields::put_subject;
 use bytes::{BufMut, BytesMut};
 use simplex_types::types::plain::{
     PlainCertificate, PlainDigest, PlainKey, PlainScheme, PlainSignature,

@@ -55,28 +55,44 @@ module _ {S D K G C : Type 0} where
       × ((view : ℕ) → is_offered waiting view ≡ true → list_any (is_certify_of view) works ≡ true)
 
   -- among more
-  pub work_among : {these those : List (Work S D K G C)} (waiting : OutstandingWork K D) → AreAmong these those → IsWorkIn these waiting → IsWorkIn those waiting
-  work_among waiting among is = (λ view waits. among.found (is_verify_of view) (is.0 view waits), λ view waits. among.found (is_certify_of view) (is.1 view waits))
+  pub work_among : {these those : List (Work S D K G C)} (waiting : OutstandingWork K D) → AreAmong these those
+      → IsWorkIn these waiting → IsWorkIn those waiting
+  work_among waiting among is = (
+    λ view waits. among.found (is_verify_of view) (is.0 view waits),
+    λ view waits. among.found (is_certify_of view) (is.1 view waits),
+  )
 
   -- a block that was asked for still is, and one that waited was planned or waits
-  pub block_further : {works planned those : List (Work S D K G C)} (was is : Beside K D) (view : ℕ) → AreAmong works those → AreAmong planned those
-      → (awaits was view ≡ true → has_block planned is view ≡ true) → has_block works was view ≡ true → has_block those is view ≡ true
+  pub block_further : {works planned those : List (Work S D K G C)} (was is : Beside K D) (view : ℕ)
+      → AreAmong works those → AreAmong planned those
+      → (awaits was view ≡ true → has_block planned is view ≡ true) → has_block works was view ≡ true
+      → has_block those is view ≡ true
   block_further {those = those} was is view among behind waiting =
-      has_further was is view among (λ waits. has_further is is view behind (or_right (list_any (is_build_of view) those) (awaits is view)) (waiting waits))
+      has_further was is view among (λ waits.
+      has_further is is view behind (or_right (list_any (is_build_of view) those) (awaits is view)) (waiting waits))
 
   -- what was asked for still is, with what is planned
-  pub told_by : {works planned those : List (Work S D K G C)} {was is : Beside K D} {waiting : OutstandingWork K D} → AreAmong works those → AreAmong planned those
-      → ((view : ℕ) → awaits was view ≡ true → has_block planned is view ≡ true) → IsReportedIn works was waiting → IsReportedIn those is waiting
+  pub told_by : {works planned those : List (Work S D K G C)} {was is : Beside K D} {waiting : OutstandingWork K D}
+      → AreAmong works those → AreAmong planned those
+      → ((view : ℕ) → awaits was view ≡ true → has_block planned is view ≡ true) → IsReportedIn works was waiting
+      → IsReportedIn those is waiting
   told_by {was = was} {is = is} {waiting = waiting} among behind building told =
       let more = work_among waiting among (told.verified, told.certified) in
-      record { verified = more.0; certified = more.1; built = λ view waits. block_further was is view among behind (building view) (told.built view waits) }
+      record {
+        verified = more.0;
+        certified = more.1;
+        built = λ view waits. block_further was is view among behind (building view) (told.built view waits);
+      }
 
   -- among more
-  pub told_among : {these those : List (Work S D K G C)} {beside : Beside K D} {waiting : OutstandingWork K D} → AreAmong these those → IsReportedIn these beside waiting → IsReportedIn those beside waiting
-  told_among {these = these} {beside = beside} among told = told_by among among (λ view. or_right (list_any (is_build_of view) these) (awaits beside view)) told
+  pub told_among : {these those : List (Work S D K G C)} {beside : Beside K D} {waiting : OutstandingWork K D}
+      → AreAmong these those → IsReportedIn these beside waiting → IsReportedIn those beside waiting
+  told_among {these = these} {beside = beside} among told =
+      told_by among among (λ view. or_right (list_any (is_build_of view) these) (awaits beside view)) told
 
   pub told_none : (works : List (Work S D K G C)) (beside : Beside K D) → IsReportedIn works beside no_outstanding_work
-  told_none works beside = record { verified = λ view waits. cc; certified = λ view waits. cc; built = λ view waits. cc }
+  told_none works beside =
+      record { verified = λ view waits. cc; certified = λ view waits. cc; built = λ view waits. cc }
 
 -- an answer and what it opens
 
@@ -84,7 +100,8 @@ module _ (S K G C : Type 0) {D : Type 0} where
   -- the offers of some proposals
   offered_by : (view : ℕ) (proposals : List (Proposal D)) (views : List ℕ)
       → is_among view (fold (λ vs (p : Proposal D). insert_key nat_cmp vs p.round.view) views proposals) ≡ true
-      → (is_among view views ≡ true) ⊎ (list_any (is_certify_of {S = S} {D = D} {K = K} {G = G} {C = C} view) (map work.Certify proposals) ≡ true)
+      → (is_among view views ≡ true)
+      ⊎ (list_any (is_certify_of {S = S} {D = D} {K = K} {G = G} {C = C} view) (map work.Certify proposals) ≡ true)
   offered_by view [] views is = inl is
   offered_by view (p ∷ rest) views is = elim (offered_by view rest (insert_key nat_cmp views p.round.view) is) [
     | inr later ↦ inr (or_right (p.round.view == view) _ later)
@@ -98,22 +115,27 @@ module _ {S L D K G C : Type 0} (same : D → D → Bool) (elect : Elect L) (wor
   abbrev HasWorkOf : ReplyFacts K D → OutstandingWork K D → Type 0
   HasWorkOf told waiting = IsWorkIn (works ++ work_of {S = S} {D = D} {K = K} {G = G} {C = C} told) waiting
 
-  work_anyway : (told : ReplyFacts K D) (waiting : OutstandingWork K D) → IsWorkIn works waiting → HasWorkOf told waiting
+  work_anyway : (told : ReplyFacts K D) (waiting : OutstandingWork K D) → IsWorkIn works waiting
+      → HasWorkOf told waiting
   work_anyway told waiting is = work_among waiting (among_more works (work_of told)) is
 
-  work_verify : (waiting : OutstandingWork K D) (answer : Verify D K) → IsWorkIn works waiting → HasWorkOf (call.Standing answer) (with_verification waiting answer)
+  work_verify : (waiting : OutstandingWork K D) (answer : Verify D K) → IsWorkIn works waiting
+      → HasWorkOf (call.Standing answer) (with_verification waiting answer)
   work_verify waiting verify.Wait is = work_anyway (call.Standing verify.Wait) waiting is
-  work_verify waiting (verify.Resolve proposal view kind target) is = work_anyway (call.Standing (verify.Resolve proposal view kind target)) waiting is
+  work_verify waiting (verify.Resolve proposal view kind target) is =
+      work_anyway (call.Standing (verify.Resolve proposal view kind target)) waiting is
   work_verify waiting (verify.Ready context p) is =
       let more = work.Verify context p ∷ [] in (
         λ view waits. elim (now_among p.round.view view waiting.verifying waits) [
-          | inl now ↦ any_right (is_verify_of view) works more (or_left (p.round.view == view) false (eq-eqb p.round.view view (sym now)))
+          | inl now ↦ any_right (is_verify_of view) works more
+              (or_left (p.round.view == view) false (eq-eqb p.round.view view (sym now)))
           | inr there ↦ any_left (is_verify_of view) works more (is.0 view there)
         ],
         λ view waits. any_left (is_certify_of view) works more (is.1 view waits),
       )
 
-  work_offers : (waiting : OutstandingWork K D) (proposals : List (Proposal D)) → IsWorkIn works waiting → IsWorkIn (works ++ map work.Certify proposals) (with_offers waiting proposals)
+  work_offers : (waiting : OutstandingWork K D) (proposals : List (Proposal D)) → IsWorkIn works waiting
+      → IsWorkIn (works ++ map work.Certify proposals) (with_offers waiting proposals)
   work_offers waiting proposals is =
       let more : List (Work S D K G C) = map work.Certify proposals in (
         λ view waits. any_left (is_verify_of view) works more (is.0 view waits),
@@ -123,17 +145,21 @@ module _ {S L D K G C : Type 0} (same : D → D → Bool) (elect : Elect L) (wor
         ],
       )
 
-  work_less : (view : ℕ) (waiting : OutstandingWork K D) → IsWorkIn works waiting → IsWorkIn works (without_verification waiting view)
+  work_less : (view : ℕ) (waiting : OutstandingWork K D) → IsWorkIn works waiting
+      → IsWorkIn works (without_verification waiting view)
   work_less view waiting is = (λ other waits. is.0 other (among_others view other waiting.verifying waits).0, is.1)
 
-  work_fewer : (view : ℕ) (waiting : OutstandingWork K D) → IsWorkIn works waiting → IsWorkIn works (without_offer waiting view)
+  work_fewer : (view : ℕ) (waiting : OutstandingWork K D) → IsWorkIn works waiting
+      → IsWorkIn works (without_offer waiting view)
   work_fewer view waiting is = (is.0, λ other waits. is.1 other (among_others view other waiting.offered waits).0)
 
-  work_request : (waiting : OutstandingWork K D) (request : Option (ProposalRequest D K)) → IsWorkIn works waiting → IsWorkIn works (with_open_request waiting request)
+  work_request : (waiting : OutstandingWork K D) (request : Option (ProposalRequest D K)) → IsWorkIn works waiting
+      → IsWorkIn works (with_open_request waiting request)
   work_request waiting None is = is
   work_request waiting (Some request) is = is
 
-  work_superseded : (is_replaced : Bool) (view : ℕ) (waiting : OutstandingWork K D) → IsWorkIn works waiting → IsWorkIn works (cond is_replaced (without_context waiting view) waiting)
+  work_superseded : (is_replaced : Bool) (view : ℕ) (waiting : OutstandingWork K D) → IsWorkIn works waiting
+      → IsWorkIn works (cond is_replaced (without_context waiting view) waiting)
   work_superseded true view waiting is = is
   work_superseded false view waiting is = is
 
@@ -142,87 +168,121 @@ module _ {S L D K G C : Type 0} (same : D → D → Bool) (elect : Elect L) (wor
       → HasWorkOf (answer same elect x waiting asked) (outstanding_work_after same elect x waiting asked)
   work_by_answer x o call.TryVerify is = work_verify o (verify_answer same elect x) is
   work_by_answer x o call.CertifyCandidates is = work_offers o (candidates_answer same elect x).0 is
-  work_by_answer x o (call.Verified v) is = work_anyway (answer same elect x o (call.Verified v)) (without_verification o v) (work_less v o is)
-  work_by_answer x o (call.VerificationFailed v reason now) is = work_anyway (answer same elect x o (call.VerificationFailed v reason now)) (without_verification o v) (work_less v o is)
-  work_by_answer x o (call.Certified v success now) is = work_anyway (answer same elect x o (call.Certified v success now)) (without_offer o v) (work_fewer v o is)
+  work_by_answer x o (call.Verified v) is =
+      work_anyway (answer same elect x o (call.Verified v)) (without_verification o v) (work_less v o is)
+  work_by_answer x o (call.VerificationFailed v reason now) is =
+      work_anyway (answer same elect x o (call.VerificationFailed v reason now)) (without_verification o v)
+      (work_less v o is)
+  work_by_answer x o (call.Certified v success now) is =
+      work_anyway (answer same elect x o (call.Certified v success now)) (without_offer o v) (work_fewer v o is)
   work_by_answer x o call.TryPropose is =
       let request = propose_answer same elect x in
       work_anyway (call.Requested request) (with_open_request o request) (work_request o request is)
   work_by_answer x o (call.SupersedeProposalRequest v) is =
       let replaced = option_map_or (λ context. supersede_answer same elect x context) (context_at o v) false in
-      work_anyway (answer same elect x o (call.SupersedeProposalRequest v)) (cond replaced (without_context o v) o) (work_superseded replaced v o is)
-  work_by_answer x o (call.Proposed v payload now) is = work_anyway (answer same elect x o (call.Proposed v payload now)) o is
-  work_by_answer x o (call.ReleaseProposalRequest v) is = work_anyway (answer same elect x o (call.ReleaseProposalRequest v)) o is
+      work_anyway (answer same elect x o (call.SupersedeProposalRequest v)) (cond replaced (without_context o v) o)
+      (work_superseded replaced v o is)
+  work_by_answer x o (call.Proposed v payload now) is =
+      work_anyway (answer same elect x o (call.Proposed v payload now)) o is
+  work_by_answer x o (call.ReleaseProposalRequest v) is =
+      work_anyway (answer same elect x o (call.ReleaseProposalRequest v)) o is
   work_by_answer x o (call.AddNotarization c) is = work_anyway (answer same elect x o (call.AddNotarization c)) o is
-  work_by_answer x o (call.AddNullification c now) is = work_anyway (answer same elect x o (call.AddNullification c now)) o is
-  work_by_answer x o (call.AddFinalization c now) is = work_anyway (answer same elect x o (call.AddFinalization c now)) o is
+  work_by_answer x o (call.AddNullification c now) is =
+      work_anyway (answer same elect x o (call.AddNullification c now)) o is
+  work_by_answer x o (call.AddFinalization c now) is =
+      work_anyway (answer same elect x o (call.AddFinalization c now)) o is
   work_by_answer x o (call.SetProposal v p) is = work_anyway (answer same elect x o (call.SetProposal v p)) o is
-  work_by_answer x o (call.PendingHandoffAbandonment v) is = work_anyway (answer same elect x o (call.PendingHandoffAbandonment v)) o is
+  work_by_answer x o (call.PendingHandoffAbandonment v) is =
+      work_anyway (answer same elect x o (call.PendingHandoffAbandonment v)) o is
   work_by_answer x o (call.ConstructNotarize v) is = work_anyway (answer same elect x o (call.ConstructNotarize v)) o is
-  work_by_answer x o (call.SetCertifyHandle v token) is = work_anyway (answer same elect x o (call.SetCertifyHandle v token)) o is
+  work_by_answer x o (call.SetCertifyHandle v token) is =
+      work_anyway (answer same elect x o (call.SetCertifyHandle v token)) o is
   work_by_answer x o (call.ConstructNullify v) is = work_anyway (answer same elect x o (call.ConstructNullify v)) o is
   work_by_answer x o (call.ConstructFinalize v) is = work_anyway (answer same elect x o (call.ConstructFinalize v)) o is
-  work_by_answer x o (call.BroadcastNotarization v) is = work_anyway (answer same elect x o (call.BroadcastNotarization v)) o is
-  work_by_answer x o (call.BroadcastNullification v) is = work_anyway (answer same elect x o (call.BroadcastNullification v)) o is
-  work_by_answer x o (call.BroadcastFinalization v) is = work_anyway (answer same elect x o (call.BroadcastFinalization v)) o is
+  work_by_answer x o (call.BroadcastNotarization v) is =
+      work_anyway (answer same elect x o (call.BroadcastNotarization v)) o is
+  work_by_answer x o (call.BroadcastNullification v) is =
+      work_anyway (answer same elect x o (call.BroadcastNullification v)) o is
+  work_by_answer x o (call.BroadcastFinalization v) is =
+      work_anyway (answer same elect x o (call.BroadcastFinalization v)) o is
   work_by_answer x o call.GetBestCertificate is = work_anyway (answer same elect x o call.GetBestCertificate) o is
-  work_by_answer x o (call.TriggerTimeout v reason now) is = work_anyway (answer same elect x o (call.TriggerTimeout v reason now)) o is
+  work_by_answer x o (call.TriggerTimeout v reason now) is =
+      work_anyway (answer same elect x o (call.TriggerTimeout v reason now)) o is
   work_by_answer x o (call.NextTimeout now) is = work_anyway (answer same elect x o (call.NextTimeout now)) o is
   work_by_answer x o call.Prune is = work_anyway (answer same elect x o call.Prune) o is
 
   -- a call of the member
-  pub work_by_call : (m left : MemberFacts K L D) (asked : CallFacts D) (told : ReplyFacts K D) → IsCall same elect m asked told left → IsWorkIn works m.outstanding_work → HasWorkOf told left.outstanding_work
+  pub work_by_call : (m left : MemberFacts K L D) (asked : CallFacts D) (told : ReplyFacts K D)
+      → IsCall same elect m asked told left → IsWorkIn works m.outstanding_work → HasWorkOf told left.outstanding_work
   unfolding IsCall
   work_by_call m left asked told is_call is = by_life m.life is_call
     where
       unchanged : left ≡ m → HasWorkOf told left.outstanding_work
-      unchanged leaves = work_anyway told left.outstanding_work (subst (λ (n : MemberFacts K L D). IsWorkIn works n.outstanding_work) (sym leaves) is)
+      unchanged leaves = work_anyway told left.outstanding_work
+          (subst (λ (n : MemberFacts K L D). IsWorkIn works n.outstanding_work) (sym leaves) is)
 
-      by_test : (x : StateFacts K L D) (b : Bool) (due : Option Fault) → told ≡ cond b (unless_refused due (answer same elect x m.outstanding_work asked)) call.NotAllowed
-          → left ≡ cond b (unless_retained due m (with_call same elect x m asked)) m → HasWorkOf told left.outstanding_work
+      by_test : (x : StateFacts K L D) (b : Bool) (due : Option Fault)
+          → told ≡ cond b (unless_refused due (answer same elect x m.outstanding_work asked)) call.NotAllowed
+          → left ≡ cond b (unless_retained due m (with_call same elect x m asked)) m
+          → HasWorkOf told left.outstanding_work
       by_test x false due tells leaves = unchanged leaves
       by_test x true (Some due) tells leaves = unchanged leaves
       by_test x true None tells leaves =
           subst (λ t. HasWorkOf t left.outstanding_work) (sym tells)
-          (subst (λ (n : MemberFacts K L D). HasWorkOf (answer same elect x m.outstanding_work asked) n.outstanding_work) (sym leaves) (work_by_answer x m.outstanding_work asked is))
+          (subst (λ (n : MemberFacts K L D). HasWorkOf (answer same elect x m.outstanding_work asked)
+          n.outstanding_work) (sym leaves) (work_by_answer x m.outstanding_work asked is))
 
-      by_life : (life : Option (StateFacts K L D)) → AnswersAlive same elect life m asked told left → HasWorkOf told left.outstanding_work
+      by_life : (life : Option (StateFacts K L D)) → AnswersAlive same elect life m asked told left
+          → HasWorkOf told left.outstanding_work
       by_life None (tells, leaves) = unchanged leaves
-      by_life (Some x) (inl (tells, leaves)) = by_test x (is_allowed x m.outstanding_work asked) (fault_of x asked) tells leaves
+      by_life (Some x) (inl (tells, leaves)) =
+          by_test x (is_allowed x m.outstanding_work asked) (fault_of x asked) tells leaves
       by_life (Some x) (inr (_, tells, inl (_, leaves))) = unchanged leaves
       by_life (Some x) (inr (_, tells, inr (_, _, leaves))) =
-          work_anyway told left.outstanding_work (subst (λ (n : MemberFacts K L D). IsWorkIn works n.outstanding_work) (sym leaves) (λ view waits. cc, λ view waits. cc))
+          work_anyway told left.outstanding_work
+          (subst (λ (n : MemberFacts K L D). IsWorkIn works n.outstanding_work) (sym leaves)
+          (λ view waits. cc, λ view waits. cc))
 
 module _ {L D K : Type 0} (same : D → D → Bool) (elect : Elect L) where
   -- a call that opens nothing and closes nothing leaves what is open, or nothing once the member has failed
-  pub waits_as_before : (m left : MemberFacts K L D) (asked : CallFacts D) (told : ReplyFacts K D) → ((x : StateFacts K L D) (o : OutstandingWork K D) → outstanding_work_after same elect x o asked ≡ o)
-      → IsCall same elect m asked told left → (left.outstanding_work ≡ m.outstanding_work) ⊎ (left.outstanding_work ≡ no_outstanding_work)
+  pub waits_as_before : (m left : MemberFacts K L D) (asked : CallFacts D) (told : ReplyFacts K D)
+      → ((x : StateFacts K L D) (o : OutstandingWork K D) → outstanding_work_after same elect x o asked ≡ o)
+      → IsCall same elect m asked told left → (left.outstanding_work ≡ m.outstanding_work)
+      ⊎ (left.outstanding_work ≡ no_outstanding_work)
   unfolding IsCall
   waits_as_before m left asked told plain is_call = by_life m.life is_call
     where
       open_in : MemberFacts K L D → OutstandingWork K D
       open_in n = n.outstanding_work
 
-      by_test : (x : StateFacts K L D) (b : Bool) (due : Option Fault) → left ≡ cond b (unless_retained due m (with_call same elect x m asked)) m → left.outstanding_work ≡ m.outstanding_work
+      by_test : (x : StateFacts K L D) (b : Bool) (due : Option Fault)
+          → left ≡ cond b (unless_retained due m (with_call same elect x m asked)) m
+          → left.outstanding_work ≡ m.outstanding_work
       by_test x false due leaves = ap open_in leaves
       by_test x true (Some due) leaves = ap open_in leaves
       by_test x true None leaves = ap open_in leaves ∙ plain x m.outstanding_work
 
-      by_life : (life : Option (StateFacts K L D)) → AnswersAlive same elect life m asked told left → (left.outstanding_work ≡ m.outstanding_work) ⊎ (left.outstanding_work ≡ no_outstanding_work)
+      by_life : (life : Option (StateFacts K L D)) → AnswersAlive same elect life m asked told left
+          → (left.outstanding_work ≡ m.outstanding_work) ⊎ (left.outstanding_work ≡ no_outstanding_work)
       by_life None (tells, leaves) = inl (ap open_in leaves)
-      by_life (Some x) (inl (tells, leaves)) = inl (by_test x (is_allowed x m.outstanding_work asked) (fault_of x asked) leaves)
+      by_life (Some x) (inl (tells, leaves)) =
+          inl (by_test x (is_allowed x m.outstanding_work asked) (fault_of x asked) leaves)
       by_life (Some x) (inr (_, tells, inl (_, leaves))) = inl (ap open_in leaves)
       by_life (Some x) (inr (_, tells, inr (_, _, leaves))) = inr (ap open_in leaves)
 
 -- the blocks that are to be built, beside a member that is the same
-pub ahead_still : {S L D K G C : Type 0} (a b : Engine S L D K G C) → b.core.member ≡ a.core.member → b.plan.builds.buildings.items ≡ a.plan.builds.buildings.items
+pub ahead_still : {S L D K G C : Type 0} (a b : Engine S L D K G C) → b.core.member ≡ a.core.member
+    → b.plan.builds.buildings.items ≡ a.plan.builds.buildings.items
     → BuildsAhead a.core a.plan → BuildsAhead b.core b.plan
 ahead_still {D = D} {K = K} {G = G} a b member builds is =
-    subst (λ (builds : List (Building D K)). IfSome b.core.member.facts.life (λ x. builds_from x.current builds ≡ true)) (sym builds)
-    (subst (λ (m : SignedMember K _ D G). IfSome m.facts.life (λ x. builds_from x.current a.plan.builds.buildings.items ≡ true)) (sym member) is)
+    subst (λ (builds : List (Building D K)). IfSome b.core.member.facts.life (λ x. builds_from x.current builds ≡ true))
+    (sym builds)
+    (subst (λ (m : SignedMember K _ D G). IfSome m.facts.life
+    (λ x. builds_from x.current a.plan.builds.buildings.items ≡ true)) (sym member) is)
 
 -- the record, beside a member and options that are the same
-pub short_still : {S L D K G C : Type 0} (a b : Engine S L D K G C) → b.plan.options ≡ a.plan.options → b.core.member ≡ a.core.member
+pub short_still : {S L D K G C : Type 0} (a b : Engine S L D K G C) → b.plan.options ≡ a.plan.options
+    → b.core.member ≡ a.core.member
     → IsShort a.plan.options.long_record a.core.member.facts → IsShort b.plan.options.long_record b.core.member.facts
 short_still {D = D} {K = K} {G = G} a b options member is =
     subst (λ (o : Options). IsShort o.long_record b.core.member.facts) (sym options)

@@ -9,6 +9,7 @@ mod Requests
 mod ReplyWork
 mod AtRest
 mod Provenance
+mod NoMissingCertificates
 mod Tells
 mod InputResults
 mod EngineStart

@@ -1,10 +1,10 @@
 -- For the code of the engine. What is done is caused by what is at hand, step by step.
-use Rattle.std.proofs.Common.{◌≡◌, ◌∙◌, refl, ap, sym, subst, ℕ, Bool, true, false, cond, inl, inr, List, [], ◌∷◌, ◌++◌, append_assoc, append-nil, filter, Option, Some, Result, Ok, Err, ◌⊎◌, ◌≤◌, ◌||◌, arith, None, ◌&&◌, ◌==◌, unwrap_or}
+use Rattle.std.proofs.Common.{◌≡◌, ◌∙◌, refl, ap, sym, subst, ℕ, Bool, true, false, cond, inl, inr, List, [], ◌∷◌, ◌++◌, append_assoc, append-nil, filter, Option, Some, Result, Ok, Err, ◌⊎◌, ◌≤◌, ◌||◌, arith, None, ◌&&◌, ◌==◌}
 use Rattle.std.specs.Prelude.{IfErr, IfOk, IsErrAnd, OnErr, OnOk, option_map, option_to_list, nat_le}
 use Rattle.std.proofs.lemmas.Bool.{false≢true, or_cases, or_left, or_right}
 use Rattle.std.proofs.lemmas.List.{map-append}
 use Rattle.std.proofs.lemmas.Result.{err_from_is_err_and}
-use Rattle.simplex_types.specs.Certificates.{certificate_facts, CertificateFacts, Notarized, Nullified, Finalized}
+use Rattle.simplex_types.specs.Certificates.{certificate_facts}
 use Rattle.simplex_types.specs.Encoding.{certificate_subject}
 use Rattle.simplex_types.specs.MessageViews.{subject_view}
 use Rattle.simplex_types.specs.declared.types.messages.Proposal.{Proposal}
@@ -14,10 +14,8 @@ use Rattle.simplex_types.specs.declared.types.fault.Fault.{Fault}
 use Rattle.simplex_types.specs.declared.types.fault.Fault.TheVariants.{Failed}
 use Rattle.simplex_resolver.specs.CallHistory.{LawfulResolverFacts}
 use Rattle.simplex_voter.specs.Facts.{Elect, StateFacts}
-use Rattle.simplex_voter.specs.Windows.{min_active}
-use Rattle.simplex_member.specs.Calls as call
-use Rattle.simplex_member.specs.Calls.{CallFacts, told, ReplyFacts}
-use Rattle.simplex_member.specs.MemberFacts.{MemberFacts, IsCall, AnswersAlive, unless_refused}
+use Rattle.simplex_member.specs.Calls.{CallFacts, told}
+use Rattle.simplex_member.specs.MemberFacts.{MemberFacts, IsCall}
 use Rattle.simplex_member.specs.PrunedRecord.{pruned_member}
 use Rattle.simplex_member.specs.Runs.{StepFacts, Calls, Prunes, Restarts}
 use Rattle.simplex_member.specs.declared.member.calls.Reply.{Reply}
@@ -55,37 +53,35 @@ use Rattle.engine_planner.specs.declared.task.Task.TheVariants as task
 use Rattle.std.specs.List.{list_any}
 use Rattle.std.specs.Option.{option_map_or}
 use Rattle.std.proofs.lemmas.Bool.Decides.{nat_tests}
-use Rattle.engine_planner.specs.FetchRequests.{asks, ended_by, received_by, is_missing_certificate, is_plain, is_resolve, with_missing_certificate, AreMade, IsStill, KeepsFetching}
+use Rattle.engine_planner.specs.FetchRequests.{asks, ended_by, received_by, is_missing_certificate, is_resolve, with_missing_certificate, AreMade, IsStill, KeepsFetching}
 use Rattle.engine_planner.proofs.AskedSteps.{asks_beside, asks_where_same, ended_on, keeps_asking, made_on, AsksOn}
 use Rattle.laws_safety.specs.LifetimeLaws.{WhileAlive}
 use Rattle.engine_outbox.specs.Continuity.{HasRisen}
 use Rattle.engine_outbox.proofs.Continuity.{risen_not}
-use Rattle.simplex_member.specs.CallConditions.{is_allowed, fault_of}
 use Rattle.simplex_member.specs.CallSemantics.{answer}
-use Rattle.simplex_member.specs.OutstandingWork.{OutstandingWork}
 use Rattle.simplex_resolver.specs.Steps.{Call}
-use Rattle.engine_outbox.specs.CertificateCalls.{certificate_call}
-use Rattle.engine_planner.specs.Causes.{Cause, Quorum, WorkItem, MissingCertificate, Arrival, Message, reply_causes, of_blocks, of_early, of_fetches, of_step, of_steps, of_work, of_works, planned_causes, of_task}
+use Rattle.engine_planner.specs.Causes.{Cause, Quorum, WorkItem, MissingCertificate, Arrival, Message, reply_causes, of_blocks, of_early, of_fetches, of_step, of_steps, of_work, of_works, planned_causes}
 use Rattle.engine_planner.specs.PlannedWork.{AreAmong}
 use Rattle.engine_planner.specs.Tasks.{call_of}
 use Rattle.engine_planner.proofs.GivenWork.{repaired_alone}
 use Rattle.engine_planner.proofs.Causes.{among_each, among_last, among_none, closes_some, each_part, fetches_by, in_early, in_steps, opens_one, same_plan, still_blocks, still_fetches}
 use Rattle.engine_planner.proofs.PlannedWork.{among_all, among_both, among_further, among_more, among_still}
 use Rattle.simplex_engine.specs.declared.engine.Engine.{Engine}
-use Rattle.simplex_engine.specs.declared.input.Input.{Input}
 use Rattle.simplex_engine.specs.declared.input.Input.TheVariants as input
 use Rattle.simplex_engine.specs.ApplicationWork.{work_ahead}
 use Rattle.simplex_engine.specs.InputEffects.{verification_of}
 use Rattle.simplex_engine.specs.Admission.{stores_early, IsStoredEarly}
 use Rattle.simplex_engine.specs.EngineStart.{HasStartedWith}
 use Rattle.simplex_engine.proofs.Tests.{not_or, or_none, or_nothing}
-use Rattle.simplex_engine.specs.Provenance.{pending_causes, forgettable, input_causes, evidence, step_causes, received_in, of_counted, evidence_against, is_verdict, IsCallCaused, IsOnOffer, IsStepCaused, IsCaused, IsCausedBy, IsCausedWith, is_final, IsCausedWithoutInput, HasNoMissingCertificate, work_by_reply, work_by_steps}
+use Rattle.simplex_engine.specs.Provenance.{pending_causes, input_causes, evidence, step_causes, received_in, of_counted, evidence_against, IsCallCaused, IsOnOffer, IsStepCaused, IsCaused, IsCausedBy, IsCausedWith, is_final, IsCausedWithoutInput, HasNoMissingCertificate, work_by_reply, work_by_steps}
 
-module _ {S L D K G C : Type 0} (now : ℕ) {causes more : List (Cause S D K G C)} (among : AreAmong causes more) (m : MemberFacts K L D) where
+module _ {S L D K G C : Type 0} (now : ℕ) {causes more : List (Cause S D K G C)} (among : AreAmong causes more)
+    (m : MemberFacts K L D) where
   -- more causes a step
   meant_among : (call : CallFacts D) → IsCallCaused now causes m call → IsCallCaused now more m call
   meant_among call (inl (asked, is, of_these, on_offer)) = inl (asked, is, among_further of_these among, on_offer)
-  meant_among call (inr (inl (from, proposal, is, in_these, admits))) = inr (inl (from, proposal, is, among_further in_these among, admits))
+  meant_among call (inr (inl (from, proposal, is, in_these, admits))) =
+      inr (inl (from, proposal, is, among_further in_these among, admits))
   meant_among call (inr (inr (certificate, is, in_these))) = inr (inr (certificate, is, among_further in_these among))
 
   step_among : (step : StepFacts K L D) → IsStepCaused now causes m step → IsStepCaused now more m step
@@ -93,49 +89,81 @@ module _ {S L D K G C : Type 0} (now : ℕ) {causes more : List (Cause S D K G C
   step_among Prunes is = tt
   step_among (Restarts restart) is = is
 
-module _ {S L D K G C : Type 0} (same : D → D → Bool) (elect : Elect L) (bytes_of : C → List ℕ) (now : ℕ) (asks_now : FetchKind → ℕ → Bool) where
+module _ {S L D K G C : Type 0} (same : D → D → Bool) (elect : Elect L) (bytes_of : C → List ℕ) (now : ℕ)
+    (asks_now : FetchKind → ℕ → Bool) where
   -- more causes steps, where what was asked for before still is, or is over
-  by_more : (steps : List (StepFacts K L D × Reply S D K G C)) (over wider : FetchKind → ℕ → Bool) (causes more left : List (Cause S D K G C)) (asked before : FetchKind → ℕ → Bool)
-      (m end : MemberFacts K L D) → AreAmong causes more → IsStill before wider asked → ((kind : FetchKind) (view : ℕ) → wider kind view ≡ false → over kind view ≡ false)
-      → IsCausedBy same elect bytes_of now asks_now over steps causes asked m left end → IsCausedBy same elect bytes_of now asks_now wider steps more before m left end
+  by_more : (steps : List (StepFacts K L D × Reply S D K G C)) (over wider : FetchKind → ℕ → Bool)
+      (causes more left : List (Cause S D K G C)) (asked before : FetchKind → ℕ → Bool)
+      (m end : MemberFacts K L D) → AreAmong causes more → IsStill before wider asked
+      → ((kind : FetchKind) (view : ℕ) → wider kind view ≡ false → over kind view ≡ false)
+      → IsCausedBy same elect bytes_of now asks_now over steps causes asked m left end
+      → IsCausedBy same elect bytes_of now asks_now wider steps more before m left end
   by_more [] over wider causes more left asked before m end among still within is =
       (among_further is.0 among, is.1, λ kind view it un. is.2 kind view (still kind view it un) (within kind view un))
-  by_more ((step, answer) ∷ rest) over wider causes more left asked before m end among still within (meant, next, is_step, provenance) =
+  by_more ((step, answer) ∷ rest) over wider causes more left asked before m end among still within
+      (meant, next, is_step, provenance) =
       let given : List (Cause S D K G C) = step_causes {L = L} now step answer in (
         step_among now among m step meant,
         next,
         is_step,
-        by_more rest over wider (causes ++ given) (more ++ given) left (with_missing_certificate asked given) (with_missing_certificate before given) next end
-            (among_both among (among_still given)) (λ kind view it un. lacks_too kind view given (or_cases (before kind view) (list_any (is_missing_certificate kind view) given) it) un) within provenance,
+        by_more rest over wider (causes ++ given) (more ++ given) left (with_missing_certificate asked given)
+            (with_missing_certificate before given) next end
+            (among_both among (among_still given))
+            (λ kind view it un. lacks_too kind view given
+            (or_cases (before kind view) (list_any (is_missing_certificate kind view) given) it) un) within
+            provenance,
       )
     where
-      lacks_too : (kind : FetchKind) (view : ℕ) (given : List (Cause S D K G C)) → (before kind view ≡ true) ⊎ (list_any (is_missing_certificate kind view) given ≡ true) → wider kind view ≡ false
+      lacks_too : (kind : FetchKind) (view : ℕ) (given : List (Cause S D K G C))
+          → (before kind view ≡ true) ⊎ (list_any (is_missing_certificate kind view) given ≡ true)
+          → wider kind view ≡ false
           → with_missing_certificate asked given kind view ≡ true
-      lacks_too kind view given (inl it) un = or_left (asked kind view) (list_any (is_missing_certificate kind view) given) (still kind view it un)
-      lacks_too kind view given (inr it) un = or_right (asked kind view) (list_any (is_missing_certificate kind view) given) it
+      lacks_too kind view given (inl it) un =
+          or_left (asked kind view) (list_any (is_missing_certificate kind view) given) (still kind view it un)
+      lacks_too kind view given (inr it) un =
+          or_right (asked kind view) (list_any (is_missing_certificate kind view) given) it
 
-module _ {S L D K G C : Type 0} (same : D → D → Bool) (elect : Elect L) (bytes_of : C → List ℕ) (now : ℕ) (asks_now : FetchKind → ℕ → Bool) where
+module _ {S L D K G C : Type 0} (same : D → D → Bool) (elect : Elect L) (bytes_of : C → List ℕ) (now : ℕ)
+    (asks_now : FetchKind → ℕ → Bool) where
   -- what was at hand stays so beside what is left
-  left_more : (steps : List (StepFacts K L D × Reply S D K G C)) (over : FetchKind → ℕ → Bool) (causes extra left : List (Cause S D K G C)) (asked : FetchKind → ℕ → Bool) (m end : MemberFacts K L D)
-      → AreAmong extra causes → IsCausedBy same elect bytes_of now asks_now over steps causes asked m left end → IsCausedBy same elect bytes_of now asks_now over steps causes asked m (extra ++ left) end
+  left_more : (steps : List (StepFacts K L D × Reply S D K G C)) (over : FetchKind → ℕ → Bool)
+      (causes extra left : List (Cause S D K G C)) (asked : FetchKind → ℕ → Bool) (m end : MemberFacts K L D)
+      → AreAmong extra causes → IsCausedBy same elect bytes_of now asks_now over steps causes asked m left end
+      → IsCausedBy same elect bytes_of now asks_now over steps causes asked m (extra ++ left) end
   left_more [] over causes extra left asked m end among is = (among_each among is.0, is.1, is.2)
   left_more ((step, answer) ∷ rest) over causes extra left asked m end among (meant, next, is_step, provenance) =
-      let given : List (Cause S D K G C) = step_causes {L = L} now step answer in
-      (meant, next, is_step, left_more rest over (causes ++ given) extra left (with_missing_certificate asked given) next end (among_further among (among_more causes given)) provenance)
+      let given : List (Cause S D K G C) = step_causes {L = L} now step answer in (
+        meant,
+        next,
+        is_step,
+        left_more rest over (causes ++ given) extra left (with_missing_certificate asked given)
+            next end (among_further among (among_more causes given)) provenance,
+      )
 
 -- what earlier steps leave causes the steps after them
-module _ {S L D K G C : Type 0} (same : D → D → Bool) (elect : Elect L) (bytes_of : C → List ℕ) (now : ℕ) (between asks_now over later wider : FetchKind → ℕ → Bool)
+module _ {S L D K G C : Type 0} (same : D → D → Bool) (elect : Elect L) (bytes_of : C → List ℕ) (now : ℕ)
+    (between asks_now over later wider : FetchKind → ℕ → Bool)
     (first_within : (kind : FetchKind) (view : ℕ) → wider kind view ≡ false → over kind view ≡ false)
     (second_within : (kind : FetchKind) (view : ℕ) → wider kind view ≡ false → later kind view ≡ false) where
-  joined : (steps more : List (StepFacts K L D × Reply S D K G C)) (a b c : List (Cause S D K G C)) (asked : FetchKind → ℕ → Bool) (m n end : MemberFacts K L D)
-      → IsCausedBy same elect bytes_of now between over steps a asked m b n → IsCausedBy same elect bytes_of now asks_now later more b (λ kind view. between kind view || false) n c end
+  joined : (steps more : List (StepFacts K L D × Reply S D K G C)) (a b c : List (Cause S D K G C))
+      (asked : FetchKind → ℕ → Bool) (m n end : MemberFacts K L D)
+      → IsCausedBy same elect bytes_of now between over steps a asked m b n
+      → IsCausedBy same elect bytes_of now asks_now later more b (λ kind view. between kind view || false) n c end
       → IsCausedBy same elect bytes_of now asks_now wider (steps ++ more) a asked m c end
   joined [] more a b c asked m n end first second =
-      by_more same elect bytes_of now asks_now more later wider b a c (λ kind view. between kind view || false) asked m end first.0
-      (λ kind view it un. or_left (between kind view) false (first.2 kind view it (first_within kind view un))) second_within
-      (subst (λ (it : MemberFacts K L D). IsCausedBy same elect bytes_of now asks_now later more b (λ kind view. between kind view || false) it c end) first.1 second)
-  joined ((step, answer) ∷ rest) more a b c asked m n end (meant, next, is_step, provenance) second =
-      (meant, next, is_step, joined rest more (a ++ step_causes {L = L} now step answer) b c (with_missing_certificate asked (step_causes {L = L} now step answer)) next n end provenance second)
+      by_more same elect bytes_of now asks_now more later wider b a c (λ kind view. between kind view || false) asked m
+      end first.0
+      (λ kind view it un. or_left (between kind view) false (first.2 kind view it (first_within kind view un)))
+      second_within
+      (subst (λ (it : MemberFacts K L D). IsCausedBy same elect bytes_of now asks_now later more b
+      (λ kind view. between kind view || false) it c end) first.1 second)
+  joined ((step, answer) ∷ rest) more a b c asked m n end (meant, next, is_step, provenance) second = (
+    meant,
+    next,
+    is_step,
+    joined rest more (a ++ step_causes {L = L} now step answer) b c
+        (with_missing_certificate asked (step_causes {L = L} now step answer)) next n end provenance second,
+  )
 
 -- three reasons, the first two apart
 regrouped : (a b c : Bool) → (a || (b || c)) ≡ false → ((a || b) || c) ≡ false
@@ -143,59 +171,81 @@ regrouped true b c is = is
 regrouped false b c is = is
 
 -- what is final stays so
-final_further : {K L D : Type 0} (before after : MemberFacts K L D) → WhileAlive HasRisen before.life after.life → (view : ℕ) → is_final after view ≡ false → is_final before view ≡ false
+final_further : {K L D : Type 0} (before after : MemberFacts K L D) → WhileAlive HasRisen before.life after.life
+    → (view : ℕ) → is_final after view ≡ false → is_final before view ≡ false
 final_further {K = K} {L = L} {D = D} before after risen view un = by_life before.life after.life risen un
   where
     higher : (v low high : ℕ) → low ≤ high → nat_le v high ≡ false → nat_le v low ≡ false
     higher v low high up above = grind (arith, nat_tests, up, above)
 
-    by_life : (old new : Option (StateFacts K L D)) → WhileAlive HasRisen old new → option_map_or (λ x. nat_le view x.finalized) new true ≡ false
+    by_life : (old new : Option (StateFacts K L D)) → WhileAlive HasRisen old new
+        → option_map_or (λ x. nat_le view x.finalized) new true ≡ false
         → option_map_or (λ x. nat_le view x.finalized) old true ≡ false
     by_life old None risen un = absurd (false≢true (sym un))
     by_life None (Some y) risen un = absurd risen
     by_life (Some x) (Some y) risen un = higher view x.finalized y.finalized risen.views.finalized un
 
-pub risen_facts : {K L D : Type 0} {before after : MemberFacts K L D} → after ≡ before → WhileAlive HasRisen before.life after.life
-risen_facts {K = K} {L = L} {D = D} {before = before} is = subst (λ (m : MemberFacts K L D). WhileAlive HasRisen before.life m.life) (sym is) (risen_not before)
+pub risen_facts : {K L D : Type 0} {before after : MemberFacts K L D} → after ≡ before
+    → WhileAlive HasRisen before.life after.life
+risen_facts {K = K} {L = L} {D = D} {before = before} is =
+    subst (λ (m : MemberFacts K L D). WhileAlive HasRisen before.life m.life) (sym is) (risen_not before)
 
 -- the resolver receives the replies one after the other
-heard_further : {S L D K G C : Type 0} (bytes : D → List ℕ) (bytes_of : C → List ℕ) (steps more : List (StepFacts K L D × Reply S D K G C))
+heard_further : {S L D K G C : Type 0} (bytes : D → List ℕ) (bytes_of : C → List ℕ)
+    (steps more : List (StepFacts K L D × Reply S D K G C))
     → received_in bytes bytes_of (steps ++ more) ≡ received_in bytes bytes_of steps ++ received_in bytes bytes_of more
 heard_further bytes bytes_of [] more = refl
 heard_further bytes bytes_of ((Calls call, reply) ∷ rest) more =
     ap (λ calls. received_by bytes bytes_of reply call ++ calls) (heard_further bytes bytes_of rest more)
-    ∙ sym (append_assoc (received_by bytes bytes_of reply call) (received_in bytes bytes_of rest) (received_in bytes bytes_of more))
+    ∙ sym (append_assoc (received_by bytes bytes_of reply call) (received_in bytes bytes_of rest)
+    (received_in bytes bytes_of more))
 heard_further bytes bytes_of ((Prunes, reply) ∷ rest) more = heard_further bytes bytes_of rest more
 heard_further bytes bytes_of ((Restarts restart, reply) ∷ rest) more = heard_further bytes bytes_of rest more
 
 -- why a certificate is no longer asked for, after some steps
-abbrev over_since : {S L D K G C : Type 0} → (D → List ℕ) → (C → List ℕ) → (FetchKind → ℕ → Bool) → Engine S L D K G C → Plan S D K G C → List (StepFacts K L D × Reply S D K G C) → FetchKind → ℕ → Bool
-over_since bytes bytes_of held end plan steps kind view = held kind view || (is_final end.core.member.facts view || ended_by plan.repair.resolver.state (received_in bytes bytes_of steps) kind view)
+abbrev over_since : {S L D K G C : Type 0} → (D → List ℕ) → (C → List ℕ) → (FetchKind → ℕ → Bool) → Engine S L D K G C
+    → Plan S D K G C → List (StepFacts K L D × Reply S D K G C) → FetchKind → ℕ → Bool
+over_since bytes bytes_of held end plan steps kind view =
+    held kind view || (is_final end.core.member.facts view || ended_by plan.repair.resolver.state
+    (received_in bytes bytes_of steps) kind view)
 
 -- the work that they ask for
-works_further : {S L D K G C : Type 0} (steps more : List (StepFacts K L D × Reply S D K G C)) → work_by_steps (steps ++ more) ≡ work_by_steps steps ++ work_by_steps more
+works_further : {S L D K G C : Type 0} (steps more : List (StepFacts K L D × Reply S D K G C))
+    → work_by_steps (steps ++ more) ≡ work_by_steps steps ++ work_by_steps more
 works_further [] more = refl
 works_further ((Calls call, reply) ∷ rest) more =
-    ap (λ works. work_by_reply reply call ++ works) (works_further rest more) ∙ sym (append_assoc (work_by_reply reply call) (work_by_steps rest) (work_by_steps more))
+    ap (λ works. work_by_reply reply call ++ works) (works_further rest more)
+    ∙ sym (append_assoc (work_by_reply reply call) (work_by_steps rest) (work_by_steps more))
 works_further ((Prunes, reply) ∷ rest) more = works_further rest more
 works_further ((Restarts restart, reply) ∷ rest) more = works_further rest more
 
-module _ {S L D K G C : Type 0} {same : D → D → Bool} {elect : Elect L} {bytes : D → List ℕ} {bytes_of : C → List ℕ} {now : ℕ} where
+module _ {S L D K G C : Type 0} {same : D → D → Bool} {elect : Elect L} {bytes : D → List ℕ} {bytes_of : C → List ℕ}
+    {now : ℕ} where
   -- steps after others, which begin with what these leave
-  comes_joined : {came : List (Cause S D K G C)} {out : List (Work S D K G C)} {held holds : FetchKind → ℕ → Bool} {a c : Engine S L D K G C} (b : Engine S L D K G C) (mid : List (Cause S D K G C))
-      (steps more : List (StepFacts K L D × Reply S D K G C)) → AreMade a.plan.repair.resolver (received_in bytes bytes_of steps) b.plan.repair.resolver
-      → IsCausedBy same elect bytes_of now (asks b.plan) (over_since bytes bytes_of held b a.plan steps) steps (came ++ pending_causes a) (with_missing_certificate (asks a.plan) came) a.core.member.facts mid b.core.member.facts
-      → ((kind : FetchKind) (view : ℕ) → holds kind view ≡ false → held kind view ≡ false) → WhileAlive HasRisen b.core.member.facts.life c.core.member.facts.life
+  comes_joined : {came : List (Cause S D K G C)} {out : List (Work S D K G C)} {held holds : FetchKind → ℕ → Bool}
+      {a c : Engine S L D K G C} (b : Engine S L D K G C) (mid : List (Cause S D K G C))
+      (steps more : List (StepFacts K L D × Reply S D K G C))
+      → AreMade a.plan.repair.resolver (received_in bytes bytes_of steps) b.plan.repair.resolver
+      → IsCausedBy same elect bytes_of now (asks b.plan) (over_since bytes bytes_of held b a.plan steps) steps
+      (came ++ pending_causes a) (with_missing_certificate (asks a.plan) came) a.core.member.facts mid
+      b.core.member.facts
+      → ((kind : FetchKind) (view : ℕ) → holds kind view ≡ false → held kind view ≡ false)
+      → WhileAlive HasRisen b.core.member.facts.life c.core.member.facts.life
       → AreMade b.plan.repair.resolver (received_in bytes bytes_of more) c.plan.repair.resolver
-      → IsCausedBy same elect bytes_of now (asks c.plan) (over_since bytes bytes_of holds c b.plan more) more mid (λ kind view. asks b.plan kind view || false) b.core.member.facts (of_works out ++ pending_causes c) c.core.member.facts
-      → AreAmong (work_by_steps steps) (work_ahead b) → AreAmong (work_ahead b) (out ++ work_ahead c) → AreAmong (work_by_steps more) (out ++ work_ahead c)
+      → IsCausedBy same elect bytes_of now (asks c.plan) (over_since bytes bytes_of holds c b.plan more) more mid
+      (λ kind view. asks b.plan kind view || false) b.core.member.facts (of_works out ++ pending_causes c)
+      c.core.member.facts
+      → AreAmong (work_by_steps steps) (work_ahead b) → AreAmong (work_ahead b) (out ++ work_ahead c)
+      → AreAmong (work_by_steps more) (out ++ work_ahead c)
       → IsCaused same elect bytes bytes_of now came out holds a c
-  comes_joined {came = came} {out = out} {held = held} {holds = holds} {a = a} {c = c} b mid steps more first_heard first within risen second_heard second first_works works second_works = record {
-    steps = steps ++ more;
-    heard = both.1;
-    by_steps = both.0;
-    works = among_further (among_all (works_further steps more)) (among_each (among_further first_works works) second_works);
-  }
+  comes_joined {came = came} {out = out} {held = held} {holds = holds} {a = a} {c = c} b mid steps more first_heard
+      first within risen second_heard second first_works works second_works = record {
+        steps = steps ++ more;
+        heard = both.1;
+        by_steps = both.0;
+        works = among_further (among_all (works_further steps more))
+            (among_each (among_further first_works works) second_works);
+      }
     where
       heard : List (StepFacts K L D × Reply S D K G C) → List Call
       heard = received_in bytes bytes_of
@@ -208,45 +258,69 @@ module _ {S L D K G C : Type 0} {same : D → D → Bool} {elect : Elect L} {byt
       none_of false true z p q r = q
       none_of false false z p q r = r
 
-      both : IsCausedBy same elect bytes_of now (asks c.plan) (λ kind view. holds kind view || (is_final c.core.member.facts view || ends a.plan (heard (steps ++ more)) kind view))
-          (steps ++ more) (came ++ pending_causes a) (with_missing_certificate (asks a.plan) came) a.core.member.facts (of_works out ++ pending_causes c) c.core.member.facts
+      both : IsCausedBy same elect bytes_of now (asks c.plan)
+          (λ kind view.
+          holds kind view || (is_final c.core.member.facts view || ends a.plan (heard (steps ++ more)) kind view))
+          (steps ++ more) (came ++ pending_causes a) (with_missing_certificate (asks a.plan) came) a.core.member.facts
+          (of_works out ++ pending_causes c) c.core.member.facts
           × AreMade a.plan.repair.resolver (heard (steps ++ more)) c.plan.repair.resolver
       both =
-          subst (λ calls. IsCausedBy same elect bytes_of now (asks c.plan) (λ kind view. holds kind view || (is_final c.core.member.facts view || ends a.plan calls kind view))
-          (steps ++ more) (came ++ pending_causes a) (with_missing_certificate (asks a.plan) came) a.core.member.facts (of_works out ++ pending_causes c) c.core.member.facts
-          × AreMade a.plan.repair.resolver calls c.plan.repair.resolver) (sym (heard_further bytes bytes_of steps more)) (
-            joined same elect bytes_of now (asks b.plan) (asks c.plan) (over_since bytes bytes_of held b a.plan steps) (over_since bytes bytes_of holds c b.plan more)
-                (λ kind view. holds kind view || (is_final c.core.member.facts view || ends a.plan (heard steps ++ heard more) kind view))
+          subst (λ calls. IsCausedBy same elect bytes_of now (asks c.plan)
+          (λ kind view. holds kind view || (is_final c.core.member.facts view || ends a.plan calls kind view))
+          (steps ++ more) (came ++ pending_causes a) (with_missing_certificate (asks a.plan) came) a.core.member.facts
+          (of_works out ++ pending_causes c) c.core.member.facts
+          × AreMade a.plan.repair.resolver calls c.plan.repair.resolver)
+          (sym (heard_further bytes bytes_of steps more)) (
+            joined same elect bytes_of now (asks b.plan) (asks c.plan) (over_since bytes bytes_of held b a.plan steps)
+                (over_since bytes bytes_of holds c b.plan more)
+                (λ kind view. holds kind view
+                || (is_final c.core.member.facts view || ends a.plan (heard steps ++ heard more) kind view))
                 (λ kind view un.
                 let parts = not_or (holds kind view) _ un in
                 let rest = not_or (is_final c.core.member.facts view) _ parts.1 in
-                none_of (held kind view) (is_final b.core.member.facts view) _ (within kind view parts.0) (final_further b.core.member.facts c.core.member.facts risen view rest.0)
-                (ended_on a.plan.repair.resolver b.plan.repair.resolver (heard steps) (heard more) first_heard kind view rest.1).0)
+                none_of (held kind view) (is_final b.core.member.facts view) _ (within kind view parts.0)
+                (final_further b.core.member.facts c.core.member.facts risen view rest.0)
+                (ended_on a.plan.repair.resolver b.plan.repair.resolver (heard steps) (heard more) first_heard kind view
+                rest.1).0)
                 (λ kind view un.
                 let parts = not_or (holds kind view) _ un in
                 let rest = not_or (is_final c.core.member.facts view) _ parts.1 in
                 none_of (holds kind view) (is_final c.core.member.facts view) _ parts.0 rest.0
-                (ended_on a.plan.repair.resolver b.plan.repair.resolver (heard steps) (heard more) first_heard kind view rest.1).1)
-                steps more (came ++ pending_causes a) mid (of_works out ++ pending_causes c) (with_missing_certificate (asks a.plan) came) a.core.member.facts b.core.member.facts c.core.member.facts first second,
-            made_on a.plan.repair.resolver b.plan.repair.resolver c.plan.repair.resolver (heard steps) (heard more) first_heard second_heard,
+                (ended_on a.plan.repair.resolver b.plan.repair.resolver (heard steps) (heard more) first_heard kind view
+                rest.1).1)
+                steps more (came ++ pending_causes a) mid (of_works out ++ pending_causes c)
+                (with_missing_certificate (asks a.plan) came) a.core.member.facts b.core.member.facts
+                c.core.member.facts first second,
+            made_on a.plan.repair.resolver b.plan.repair.resolver c.plan.repair.resolver (heard steps) (heard more)
+                first_heard second_heard,
           )
 
-  pub comes_then : {came : List (Cause S D K G C)} {out : List (Work S D K G C)} {held holds : FetchKind → ℕ → Bool} {a b c : Engine S L D K G C}
-      → IsCaused same elect bytes bytes_of now came [] held a b → ((kind : FetchKind) (view : ℕ) → holds kind view ≡ false → held kind view ≡ false)
-      → WhileAlive HasRisen b.core.member.facts.life c.core.member.facts.life → AreAmong (work_ahead b) (out ++ work_ahead c)
-      → IsCaused same elect bytes bytes_of now [] out holds b c → IsCaused same elect bytes bytes_of now came out holds a c
+  pub comes_then : {came : List (Cause S D K G C)} {out : List (Work S D K G C)} {held holds : FetchKind → ℕ → Bool}
+      {a b c : Engine S L D K G C}
+      → IsCaused same elect bytes bytes_of now came [] held a b
+      → ((kind : FetchKind) (view : ℕ) → holds kind view ≡ false → held kind view ≡ false)
+      → WhileAlive HasRisen b.core.member.facts.life c.core.member.facts.life
+      → AreAmong (work_ahead b) (out ++ work_ahead c)
+      → IsCaused same elect bytes bytes_of now [] out holds b c
+      → IsCaused same elect bytes bytes_of now came out holds a c
   comes_then {held = held} {holds = holds} {b = b} first within risen works second =
-      comes_joined {held = held} {holds = holds} b (pending_causes b) first.steps second.steps first.heard first.by_steps within risen second.heard second.by_steps first.works works second.works
+      comes_joined {held = held} {holds = holds} b (pending_causes b) first.steps second.steps first.heard
+      first.by_steps within risen second.heard second.by_steps first.works works second.works
 
-  pub comes_on : {came : List (Cause S D K G C)} {out : List (Work S D K G C)} {holds : FetchKind → ℕ → Bool} {a b c : Engine S L D K G C}
-      → IsCausedWith same elect bytes bytes_of now came a b → WhileAlive HasRisen b.core.member.facts.life c.core.member.facts.life → AreAmong (work_ahead b) (out ++ work_ahead c)
+  pub comes_on : {came : List (Cause S D K G C)} {out : List (Work S D K G C)} {holds : FetchKind → ℕ → Bool}
+      {a b c : Engine S L D K G C}
+      → IsCausedWith same elect bytes bytes_of now came a b
+      → WhileAlive HasRisen b.core.member.facts.life c.core.member.facts.life
+      → AreAmong (work_ahead b) (out ++ work_ahead c)
       → IsCaused same elect bytes bytes_of now [] out holds b c
       → IsCaused same elect bytes bytes_of now came out holds a c
   comes_on first risen works second = comes_then first (λ kind view un. refl) risen works second
 
   -- the member is the same
-  pub comes_same : {came : List (Cause S D K G C)} {out : List (Work S D K G C)} {held : FetchKind → ℕ → Bool} {a b : Engine S L D K G C} → b.core.member.facts ≡ a.core.member.facts
-      → AreAmong (of_works out ++ pending_causes b) (came ++ pending_causes a) → KeepsFetching came (λ kind view. held kind view || is_final b.core.member.facts view) [] a.plan b.plan
+  pub comes_same : {came : List (Cause S D K G C)} {out : List (Work S D K G C)} {held : FetchKind → ℕ → Bool}
+      {a b : Engine S L D K G C} → b.core.member.facts ≡ a.core.member.facts
+      → AreAmong (of_works out ++ pending_causes b) (came ++ pending_causes a)
+      → KeepsFetching came (λ kind view. held kind view || is_final b.core.member.facts view) [] a.plan b.plan
       → IsCaused same elect bytes bytes_of now came out held a b
   comes_same {held = held} {a = a} {b = b} is among keeps = record {
     steps = [];
@@ -255,40 +329,62 @@ module _ {S L D K G C : Type 0} {same : D → D → Bool} {elect : Elect L} {byt
       among,
       is,
       λ kind view it un. keeps.still kind view it
-          (regrouped (held kind view) (is_final b.core.member.facts view) (ended_by a.plan.repair.resolver.state [] kind view) un),
+          (regrouped (held kind view) (is_final b.core.member.facts view)
+          (ended_by a.plan.repair.resolver.state [] kind view) un),
     );
     works = among_none _;
   }
 
   -- and the plan
-  pub comes_still : {came : List (Cause S D K G C)} {out : List (Work S D K G C)} {held : FetchKind → ℕ → Bool} {a b : Engine S L D K G C} → b.core.member.facts ≡ a.core.member.facts → b.plan ≡ a.plan
-      → HasNoMissingCertificate came → AreAmong (of_works out ++ pending_causes b) (came ++ pending_causes a) → IsCaused same elect bytes bytes_of now came out held a b
-  comes_still {came = came} {held = held} {b = b} is plan none among = comes_same is among (asks_beside came none (asks_where_same (λ kind view. held kind view || is_final b.core.member.facts view) plan))
+  pub comes_still : {came : List (Cause S D K G C)} {out : List (Work S D K G C)} {held : FetchKind → ℕ → Bool}
+      {a b : Engine S L D K G C} → b.core.member.facts ≡ a.core.member.facts → b.plan ≡ a.plan
+      → HasNoMissingCertificate came → AreAmong (of_works out ++ pending_causes b) (came ++ pending_causes a)
+      → IsCaused same elect bytes bytes_of now came out held a b
+  comes_still {came = came} {held = held} {b = b} is plan none among =
+      comes_same is among
+      (asks_beside came none (asks_where_same (λ kind view. held kind view || is_final b.core.member.facts view) plan))
 
   -- a call is made
-  pub comes_called : {came : List (Cause S D K G C)} {a b : Engine S L D K G C} (asked : CallFacts D) (answer : Reply S D K G C) → HasNoMissingCertificate came
-      → IsCallCaused now (came ++ pending_causes a) a.core.member.facts asked → IsCall same elect a.core.member.facts asked (told bytes_of answer) b.core.member.facts
-      → AreAmong (pending_causes b) ((came ++ pending_causes a) ++ reply_causes now answer asked) → KeepsFetching (reply_causes now answer asked) (λ kind view. is_final b.core.member.facts view) (received_by bytes bytes_of answer asked) a.plan b.plan
+  pub comes_called : {came : List (Cause S D K G C)} {a b : Engine S L D K G C} (asked : CallFacts D)
+      (answer : Reply S D K G C) → HasNoMissingCertificate came
+      → IsCallCaused now (came ++ pending_causes a) a.core.member.facts asked
+      → IsCall same elect a.core.member.facts asked (told bytes_of answer) b.core.member.facts
+      → AreAmong (pending_causes b) ((came ++ pending_causes a) ++ reply_causes now answer asked)
+      → KeepsFetching (reply_causes now answer asked) (λ kind view. is_final b.core.member.facts view)
+      (received_by bytes bytes_of answer asked) a.plan b.plan
       → AreAmong (work_by_reply answer asked) (work_ahead b) → IsCausedWith same elect bytes bytes_of now came a b
   comes_called {came = came} {a = a} {b = b} asked answer none meant called among keeps works = record {
     steps = (Calls asked, answer) ∷ [];
     heard = alone.told;
-    by_steps = (meant, b.core.member.facts, called, (among, refl, λ kind view it un. alone.still kind view (without kind view it) un));
+    by_steps = (
+      meant,
+      b.core.member.facts,
+      called,
+      (among, refl, λ kind view it un. alone.still kind view (without kind view it) un),
+    );
     works = among_each works (among_none (work_ahead b));
   }
     where
       -- nothing else is received
-      alone : KeepsFetching (reply_causes now answer asked) (λ kind view. is_final b.core.member.facts view) (received_by bytes bytes_of answer asked ++ []) a.plan b.plan
+      alone : KeepsFetching (reply_causes now answer asked) (λ kind view. is_final b.core.member.facts view)
+          (received_by bytes bytes_of answer asked ++ []) a.plan b.plan
       alone =
-          subst (λ calls. KeepsFetching (reply_causes now answer asked) (λ kind view. is_final b.core.member.facts view) calls a.plan b.plan)
+          subst (λ calls. KeepsFetching (reply_causes now answer asked) (λ kind view. is_final b.core.member.facts view)
+          calls a.plan b.plan)
           (sym (append-nil (received_by bytes bytes_of answer asked))) keeps
 
-      without : (kind : FetchKind) (view : ℕ) → with_missing_certificate (with_missing_certificate (asks a.plan) came) (reply_causes now answer asked) kind view ≡ true
+      without : (kind : FetchKind) (view : ℕ)
+          → with_missing_certificate (with_missing_certificate (asks a.plan) came) (reply_causes now answer asked) kind
+          view ≡ true
           → with_missing_certificate (asks a.plan) (reply_causes now answer asked) kind view ≡ true
-      without kind view it = sym (ap (λ t. t || list_any (is_missing_certificate kind view) (reply_causes now answer asked)) (ap (λ t. asks a.plan kind view || t) (none kind view) ∙ or_none (asks a.plan kind view))) ∙ it
+      without kind view it = sym (ap (λ t. t || list_any (is_missing_certificate kind view)
+          (reply_causes now answer asked))
+          (ap (λ t. asks a.plan kind view || t) (none kind view) ∙ or_none (asks a.plan kind view))) ∙ it
 
   -- the record is pruned
-  pub comes_pruned : {a b : Engine S L D K G C} → b.core.member.facts ≡ pruned_member a.core.member.facts → b.plan ≡ a.plan → AreAmong (pending_causes b) (pending_causes a) → IsCausedWithoutInput same elect bytes bytes_of now a b
+  pub comes_pruned : {a b : Engine S L D K G C} → b.core.member.facts ≡ pruned_member a.core.member.facts
+      → b.plan ≡ a.plan → AreAmong (pending_causes b) (pending_causes a)
+      → IsCausedWithoutInput same elect bytes bytes_of now a b
   comes_pruned {a = a} {b = b} is plan among = record {
     steps = (Prunes, reply.Unit) ∷ [];
     heard = ap (λ (p : Plan S D K G C). p.repair.resolver) plan;
@@ -299,82 +395,126 @@ module _ {S L D K G C : Type 0} {same : D → D → Bool} {elect : Elect L} {byt
       (
         among_further among (among_more (pending_causes a) []),
         refl,
-        λ kind view it un. ap (λ (p : Plan S D K G C). asks p kind view) plan ∙ or_nothing (asks a.plan kind view) (or_nothing (asks a.plan kind view || false) it),
+        λ kind view it un. ap (λ (p : Plan S D K G C). asks p kind view) plan
+            ∙ or_nothing (asks a.plan kind view) (or_nothing (asks a.plan kind view || false) it),
       ),
     );
     works = among_none _;
   }
 
   -- of more
-  pub comes_wider : {came more : List (Cause S D K G C)} {a b : Engine S L D K G C} → AreAmong came more → HasNoMissingCertificate more → IsCausedWith same elect bytes bytes_of now came a b
+  pub comes_wider : {came more : List (Cause S D K G C)} {a b : Engine S L D K G C} → AreAmong came more
+      → HasNoMissingCertificate more → IsCausedWith same elect bytes bytes_of now came a b
       → IsCausedWith same elect bytes bytes_of now more a b
   comes_wider {came = came} {more = more} {a = a} {b = b} among none is = record {
     steps = is.steps;
     heard = is.heard;
-    by_steps = by_more same elect bytes_of now (asks b.plan) is.steps (over_by (received_in bytes bytes_of is.steps)) (over_by (received_in bytes bytes_of is.steps)) (came ++ pending_causes a) (more ++ pending_causes a) (pending_causes b) (with_missing_certificate (asks a.plan) came)
-        (with_missing_certificate (asks a.plan) more) a.core.member.facts b.core.member.facts (among_both among (among_still (pending_causes a)))
+    by_steps = by_more same elect bytes_of now (asks b.plan) is.steps (over_by (received_in bytes bytes_of is.steps))
+        (over_by (received_in bytes bytes_of is.steps)) (came ++ pending_causes a) (more ++ pending_causes a)
+        (pending_causes b) (with_missing_certificate (asks a.plan) came)
+        (with_missing_certificate (asks a.plan) more) a.core.member.facts b.core.member.facts
+        (among_both among (among_still (pending_causes a)))
         (λ kind view it un. or_left (asks a.plan kind view) (list_any (is_missing_certificate kind view) came)
-        (or_nothing (asks a.plan kind view) (sym (ap (λ t. asks a.plan kind view || t) (none kind view)) ∙ it))) (λ kind view un. un) is.by_steps;
+        (or_nothing (asks a.plan kind view) (sym (ap (λ t. asks a.plan kind view || t) (none kind view)) ∙ it)))
+        (λ kind view un. un) is.by_steps;
     works = is.works;
   }
     where
       over_by : List Call → FetchKind → ℕ → Bool
-      over_by calls kind view = is_final b.core.member.facts view || ended_by a.plan.repair.resolver.state calls kind view
+      over_by calls kind view = is_final b.core.member.facts view || ended_by a.plan.repair.resolver.state calls kind
+          view
 
   -- what comes in between is as if it had come in before
-  pub comes_later : {came : List (Cause S D K G C)} {out : List (Work S D K G C)} {holds : FetchKind → ℕ → Bool} {a b c : Engine S L D K G C} → HasNoMissingCertificate came
-      → IsCausedWithoutInput same elect bytes bytes_of now a b → WhileAlive HasRisen b.core.member.facts.life c.core.member.facts.life → AreAmong (work_ahead b) (out ++ work_ahead c)
+  pub comes_later : {came : List (Cause S D K G C)} {out : List (Work S D K G C)} {holds : FetchKind → ℕ → Bool}
+      {a b c : Engine S L D K G C} → HasNoMissingCertificate came
+      → IsCausedWithoutInput same elect bytes bytes_of now a b
+      → WhileAlive HasRisen b.core.member.facts.life c.core.member.facts.life
+      → AreAmong (work_ahead b) (out ++ work_ahead c)
       → IsCaused same elect bytes bytes_of now came out holds b c
       → IsCaused same elect bytes bytes_of now came out holds a c
   comes_later {came = came} {out = out} {holds = holds} {a = a} {b = b} {c = c} none first risen works second =
       let wider = comes_wider (among_none came) none first in
-      comes_joined {held = λ kind view. false} {holds = holds} b (came ++ pending_causes b) wider.steps second.steps wider.heard
-      (left_more same elect bytes_of now (asks b.plan) wider.steps (over_since bytes bytes_of (λ kind view. false) b a.plan wider.steps) (came ++ pending_causes a) came (pending_causes b) (with_missing_certificate (asks a.plan) came) a.core.member.facts b.core.member.facts
+      comes_joined {held = λ kind view. false} {holds = holds} b (came ++ pending_causes b) wider.steps second.steps
+      wider.heard
+      (left_more same elect bytes_of now (asks b.plan) wider.steps
+      (over_since bytes bytes_of (λ kind view. false) b a.plan wider.steps) (came ++ pending_causes a) came
+      (pending_causes b) (with_missing_certificate (asks a.plan) came) a.core.member.facts b.core.member.facts
       (among_more came (pending_causes a)) wider.by_steps) (λ kind view un. refl) risen second.heard
-      (by_more same elect bytes_of now (asks c.plan) second.steps (over_since bytes bytes_of holds c b.plan second.steps) (over_since bytes bytes_of holds c b.plan second.steps) (came ++ pending_causes b) (came ++ pending_causes b) (of_works out ++ pending_causes c)
-      (with_missing_certificate (asks b.plan) came) (λ kind view. asks b.plan kind view || false) b.core.member.facts c.core.member.facts (among_still (came ++ pending_causes b))
-      (λ kind view it un. or_left (asks b.plan kind view) (list_any (is_missing_certificate kind view) came) (or_nothing (asks b.plan kind view) it)) (λ kind view un. un) second.by_steps)
+      (by_more same elect bytes_of now (asks c.plan) second.steps
+      (over_since bytes bytes_of holds c b.plan second.steps)
+      (over_since bytes bytes_of holds c b.plan second.steps) (came ++ pending_causes b) (came ++ pending_causes b)
+      (of_works out ++ pending_causes c)
+      (with_missing_certificate (asks b.plan) came) (λ kind view. asks b.plan kind view || false) b.core.member.facts
+      c.core.member.facts (among_still (came ++ pending_causes b))
+      (λ kind view it un. or_left (asks b.plan kind view) (list_any (is_missing_certificate kind view) came)
+      (or_nothing (asks b.plan kind view) it)) (λ kind view un. un) second.by_steps)
       wider.works works second.works
 
   -- before it nothing was done
-  pub comes_before : {came : List (Cause S D K G C)} {out : List (Work S D K G C)} {held : FetchKind → ℕ → Bool} {a mid b : Engine S L D K G C} → mid.core.member.facts ≡ a.core.member.facts → mid.plan ≡ a.plan
-      → AreAmong (pending_causes mid) (pending_causes a) → IsCaused same elect bytes bytes_of now came out held mid b → IsCaused same elect bytes bytes_of now came out held a b
+  pub comes_before : {came : List (Cause S D K G C)} {out : List (Work S D K G C)} {held : FetchKind → ℕ → Bool}
+      {a mid b : Engine S L D K G C} → mid.core.member.facts ≡ a.core.member.facts → mid.plan ≡ a.plan
+      → AreAmong (pending_causes mid) (pending_causes a) → IsCaused same elect bytes bytes_of now came out held mid b
+      → IsCaused same elect bytes bytes_of now came out held a b
   comes_before {came = came} {out = out} {held = held} {a = a} {mid = mid} {b = b} facts plan among is = record {
     steps = is.steps;
-    heard = subst (λ (p : Plan S D K G C). AreMade p.repair.resolver (received_in bytes bytes_of is.steps) b.plan.repair.resolver) plan is.heard;
-    by_steps = subst (λ (m : MemberFacts K L D). IsCausedBy same elect bytes_of now (asks b.plan) (over_by a.plan) is.steps (came ++ pending_causes a) (with_missing_certificate (asks a.plan) came) m (of_works out ++ pending_causes b)
+    heard = subst (λ (p : Plan S D K G C). AreMade p.repair.resolver (received_in bytes bytes_of is.steps)
+        b.plan.repair.resolver) plan is.heard;
+    by_steps = subst (λ (m : MemberFacts K L D).
+        IsCausedBy same elect bytes_of now (asks b.plan) (over_by a.plan) is.steps (came ++ pending_causes a)
+        (with_missing_certificate (asks a.plan) came) m (of_works out ++ pending_causes b)
         b.core.member.facts) facts
-        (by_more same elect bytes_of now (asks b.plan) is.steps (over_by mid.plan) (over_by a.plan) (came ++ pending_causes mid) (came ++ pending_causes a) (of_works out ++ pending_causes b) (with_missing_certificate (asks mid.plan) came)
-        (with_missing_certificate (asks a.plan) came) mid.core.member.facts b.core.member.facts (among_both (among_still came) among) (λ kind view it un. ap (λ (p : Plan S D K G C). with_missing_certificate (asks p) came kind view) plan ∙ it)
+        (by_more same elect bytes_of now (asks b.plan) is.steps (over_by mid.plan) (over_by a.plan)
+        (came ++ pending_causes mid) (came ++ pending_causes a) (of_works out ++ pending_causes b)
+        (with_missing_certificate (asks mid.plan) came)
+        (with_missing_certificate (asks a.plan) came) mid.core.member.facts b.core.member.facts
+        (among_both (among_still came) among)
+        (λ kind view it un. ap (λ (p : Plan S D K G C). with_missing_certificate (asks p) came kind view) plan ∙ it)
         (λ kind view un. ap (λ (p : Plan S D K G C). over_by p kind view) plan ∙ un) is.by_steps);
     works = is.works;
   }
     where
       over_by : Plan S D K G C → FetchKind → ℕ → Bool
-      over_by p kind view = held kind view || (is_final b.core.member.facts view || ended_by p.repair.resolver.state (received_in bytes bytes_of is.steps) kind view)
+      over_by p kind view = held kind view ||
+          (is_final b.core.member.facts view || ended_by p.repair.resolver.state (received_in bytes bytes_of is.steps)
+          kind view)
 
   -- the step in front is taken
-  pub comes_taken : (front : Step S D K G C) {a mid b : Engine S L D K G C} → mid.core ≡ a.core → AreAmong (of_step front ++ pending_causes mid) (pending_causes a) → AsksOn (front ∷ []) a.plan mid.plan
-      → IsCausedWith same elect bytes bytes_of now (of_step front) mid b → IsCausedWithoutInput same elect bytes bytes_of now a b
+  pub comes_taken : (front : Step S D K G C) {a mid b : Engine S L D K G C} → mid.core ≡ a.core
+      → AreAmong (of_step front ++ pending_causes mid) (pending_causes a) → AsksOn (front ∷ []) a.plan mid.plan
+      → IsCausedWith same elect bytes bytes_of now (of_step front) mid b
+      → IsCausedWithoutInput same elect bytes bytes_of now a b
   comes_taken front {a = a} {mid = mid} {b = b} core among asks_as is = record {
     steps = is.steps;
-    heard = subst (λ (r : LawfulResolverFacts). AreMade r (received_in bytes bytes_of is.steps) b.plan.repair.resolver) asks_as.0 is.heard;
-    by_steps = subst (λ (it : Journaled S L D K G C). IsCausedBy same elect bytes_of now (asks b.plan) (over_by a.plan.repair.resolver) is.steps (pending_causes a) (λ kind view. asks a.plan kind view || false) it.member.facts (pending_causes b)
+    heard = subst (λ (r : LawfulResolverFacts). AreMade r (received_in bytes bytes_of is.steps) b.plan.repair.resolver)
+        asks_as.0 is.heard;
+    by_steps = subst (λ (it : Journaled S L D K G C).
+        IsCausedBy same elect bytes_of now (asks b.plan) (over_by a.plan.repair.resolver) is.steps (pending_causes a)
+        (λ kind view. asks a.plan kind view || false) it.member.facts (pending_causes b)
         b.core.member.facts) core
-        (by_more same elect bytes_of now (asks b.plan) is.steps (over_by mid.plan.repair.resolver) (over_by a.plan.repair.resolver) (of_step front ++ pending_causes mid) (pending_causes a) (pending_causes b)
-        (with_missing_certificate (asks mid.plan) (of_step front)) (λ kind view. asks a.plan kind view || false) mid.core.member.facts b.core.member.facts among
-        (λ kind view it un. from_step kind view front (or_cases (list_any (is_resolve kind view) (front ∷ [])) (asks mid.plan kind view) (asks_as.1 kind view (or_nothing (asks a.plan kind view) it))))
-        (λ kind view un. ap (λ (r : LawfulResolverFacts). is_final b.core.member.facts view || ended_by r.state (received_in bytes bytes_of is.steps) kind view) asks_as.0 ∙ un) is.by_steps);
+        (by_more same elect bytes_of now (asks b.plan) is.steps (over_by mid.plan.repair.resolver)
+        (over_by a.plan.repair.resolver) (of_step front ++ pending_causes mid) (pending_causes a) (pending_causes b)
+        (with_missing_certificate (asks mid.plan) (of_step front)) (λ kind view. asks a.plan kind view || false)
+        mid.core.member.facts b.core.member.facts among
+        (λ kind view it un. from_step kind view front
+        (or_cases (list_any (is_resolve kind view) (front ∷ [])) (asks mid.plan kind view)
+        (asks_as.1 kind view (or_nothing (asks a.plan kind view) it))))
+        (λ kind view un. ap (λ (r : LawfulResolverFacts).
+        is_final b.core.member.facts view || ended_by r.state (received_in bytes bytes_of is.steps) kind view)
+        asks_as.0 ∙ un) is.by_steps);
     works = is.works;
   }
     where
       over_by : LawfulResolverFacts → FetchKind → ℕ → Bool
-      over_by r kind view = is_final b.core.member.facts view || ended_by r.state (received_in bytes bytes_of is.steps) kind view
+      over_by r kind view = is_final b.core.member.facts view || ended_by r.state (received_in bytes bytes_of is.steps)
+          kind view
 
-      from_step : (kind : FetchKind) (view : ℕ) (it : Step S D K G C) → (list_any (is_resolve kind view) (it ∷ []) ≡ true) ⊎ (asks mid.plan kind view ≡ true)
+      from_step : (kind : FetchKind) (view : ℕ) (it : Step S D K G C)
+          → (list_any (is_resolve kind view) (it ∷ []) ≡ true) ⊎ (asks mid.plan kind view ≡ true)
           → with_missing_certificate (asks mid.plan) (of_step it) kind view ≡ true
-      from_step kind view it (inr before) = or_left (asks mid.plan kind view) (list_any (is_missing_certificate kind view) (of_step it)) before
-      from_step kind view (step.Resolve k v proposal) (inl this) = or_right (asks mid.plan kind view) ((same_kind k kind && v == view) || false) this
+      from_step kind view it (inr before) = or_left (asks mid.plan kind view)
+          (list_any (is_missing_certificate kind view) (of_step it)) before
+      from_step kind view (step.Resolve k v proposal) (inl this) =
+          or_right (asks mid.plan kind view) ((same_kind k kind && v == view) || false) this
       from_step kind view (step.Ask asked) (inl this) = absurd (false≢true this)
       from_step kind view (step.Offer from proposal) (inl this) = absurd (false≢true this)
       from_step kind view (step.Repeat v) (inl this) = absurd (false≢true this)
@@ -385,16 +525,19 @@ pub fails : {T E : Type 0} (Q : E → Type 0) (P : Type 0) (r : Result T E) → 
 fails Q P r is = subst (λ it. OnOk it P) (sym (err_from_is_err_and r is).1) tt
 
 -- what holds of an answer for two reasons
-pub both_ok : {X E : Type 0} (r : Result X E) {P Q R : X → Type 0} → IfOk r P → IfOk r Q → ((x : X) → P x → Q x → R x) → IfOk r R
+pub both_ok : {X E : Type 0} (r : Result X E) {P Q R : X → Type 0} → IfOk r P → IfOk r Q → ((x : X) → P x → Q x → R x)
+    → IfOk r R
 both_ok (Ok x) one other holds = holds x one other
 both_ok (Err e) one other holds = tt
 
 -- ---- what an engine has at hand
 
 module _ {S D K G C : Type 0} where
-  pub of_works-append : (works more : List (Work S D K G C)) → of_works (works ++ more) ≡ of_works works ++ of_works more
+  pub of_works-append : (works more : List (Work S D K G C))
+      → of_works (works ++ more) ≡ of_works works ++ of_works more
   of_works-append [] more = refl
-  of_works-append (it ∷ works) more = ap (λ rest. of_work it ++ rest) (of_works-append works more) ∙ sym (append_assoc (of_work it) (of_works works) (of_works more))
+  of_works-append (it ∷ works) more = ap (λ rest. of_work it ++ rest) (of_works-append works more)
+      ∙ sym (append_assoc (of_work it) (of_works works) (of_works more))
 
   swapped : (these those : List (Cause S D K G C)) → AreAmong (these ++ those) (those ++ these)
   swapped these those = among_each (among_last those these) (among_more those these)
@@ -410,61 +553,89 @@ module _ {S L D K G C : Type 0} where
 
   module _ (a b : Engine S L D K G C) where
     -- the same work is queued, and more causes what is planned besides
-    pub hand_by : (more : List (Cause S D K G C)) → work_in b.core.outbox.queue.items ≡ work_in a.core.outbox.queue.items → AreAmong (planned_causes b.plan) (planned_causes a.plan ++ more)
+    pub hand_by : (more : List (Cause S D K G C))
+        → work_in b.core.outbox.queue.items ≡ work_in a.core.outbox.queue.items
+        → AreAmong (planned_causes b.plan) (planned_causes a.plan ++ more)
         → AreAmong (pending_causes b) (pending_causes a ++ more)
     hand_by more same planned =
         let before = among_more (pending_causes a) more in
-        among_each (among_further (among_all (ap of_works same)) (among_further (among_more (queued a) (planned_causes a.plan)) before))
-        (among_further planned (among_each (among_further (among_last (queued a) (planned_causes a.plan)) before) (among_last (pending_causes a) more)))
+        among_each (among_further (among_all (ap of_works same))
+        (among_further (among_more (queued a) (planned_causes a.plan)) before))
+        (among_further planned (among_each (among_further (among_last (queued a) (planned_causes a.plan)) before)
+        (among_last (pending_causes a) more)))
 
-    pub hand_with : (came : List (Cause S D K G C)) → work_in b.core.outbox.queue.items ≡ work_in a.core.outbox.queue.items → AreAmong (planned_causes b.plan) (planned_causes a.plan ++ came)
+    pub hand_with : (came : List (Cause S D K G C))
+        → work_in b.core.outbox.queue.items ≡ work_in a.core.outbox.queue.items
+        → AreAmong (planned_causes b.plan) (planned_causes a.plan ++ came)
         → AreAmong (pending_causes b) (came ++ pending_causes a)
     hand_with came same planned = among_further (hand_by came same planned) (swapped (pending_causes a) came)
 
-    pub hand_alone : work_in b.core.outbox.queue.items ≡ work_in a.core.outbox.queue.items → AreAmong (planned_causes b.plan) (planned_causes a.plan) → AreAmong (pending_causes b) (pending_causes a)
-    hand_alone same planned = among_further (hand_by [] same (among_further planned (among_more (planned_causes a.plan) []))) (among_all (append-nil (pending_causes a)))
+    pub hand_alone : work_in b.core.outbox.queue.items ≡ work_in a.core.outbox.queue.items
+        → AreAmong (planned_causes b.plan) (planned_causes a.plan) → AreAmong (pending_causes b) (pending_causes a)
+    hand_alone same planned = among_further (hand_by [] same
+        (among_further planned (among_more (planned_causes a.plan) []))) (among_all (append-nil (pending_causes a)))
 
     -- after what came in, where a call returned
-    pub hand_asked : (came given : List (Cause S D K G C)) → work_in b.core.outbox.queue.items ≡ work_in a.core.outbox.queue.items
-        → AreAmong (planned_causes b.plan) (planned_causes a.plan ++ given) → AreAmong (pending_causes b) ((came ++ pending_causes a) ++ given)
+    pub hand_asked : (came given : List (Cause S D K G C))
+        → work_in b.core.outbox.queue.items ≡ work_in a.core.outbox.queue.items
+        → AreAmong (planned_causes b.plan) (planned_causes a.plan ++ given)
+        → AreAmong (pending_causes b) ((came ++ pending_causes a) ++ given)
     hand_asked came given same planned =
-        among_further (hand_by given same planned) (among_each (among_further (among_last came (pending_causes a)) (among_more (came ++ pending_causes a) given)) (among_last (came ++ pending_causes a) given))
+        among_further (hand_by given same planned)
+        (among_each (among_further (among_last came (pending_causes a))
+        (among_more (came ++ pending_causes a) given)) (among_last (came ++ pending_causes a) given))
 
     -- work is queued
-    pub hand_pushed : (it : Work S D K G C) → b.core.outbox.queue.items ≡ a.core.outbox.queue.items ++ output.Work it ∷ [] → b.plan ≡ a.plan → AreAmong (pending_causes b) (of_work it ++ pending_causes a)
+    pub hand_pushed : (it : Work S D K G C) → b.core.outbox.queue.items ≡ a.core.outbox.queue.items ++ output.Work it
+        ∷ [] → b.plan ≡ a.plan → AreAmong (pending_causes b) (of_work it ++ pending_causes a)
     hand_pushed it more same_plans =
         among_each
-        (among_further (among_all (ap of_works (ap work_in more ∙ work_in-append a.core.outbox.queue.items (output.Work it ∷ [])) ∙ of_works-append (work_in a.core.outbox.queue.items) (it ∷ [])))
-        (among_each (among_further (among_more (queued a) (planned_causes a.plan)) (among_last (of_work it) (pending_causes a)))
+        (among_further (among_all (ap of_works (ap work_in more
+        ∙ work_in-append a.core.outbox.queue.items (output.Work it ∷ []))
+        ∙ of_works-append (work_in a.core.outbox.queue.items) (it ∷ [])))
+        (among_each
+        (among_further (among_more (queued a) (planned_causes a.plan)) (among_last (of_work it) (pending_causes a)))
         (among_further (among_all (append-nil (of_work it))) (among_more (of_work it) (pending_causes a)))))
-        (among_further (among_all (ap planned_causes same_plans)) (among_further (among_last (queued a) (planned_causes a.plan)) (among_last (of_work it) (pending_causes a))))
+        (among_further (among_all (ap planned_causes same_plans))
+        (among_further (among_last (queued a) (planned_causes a.plan))
+        (among_last (of_work it) (pending_causes a))))
 
     -- outputs are returned
-    pub hand_given : (out : List (Output S D Stored K G C)) → a.core.outbox.queue.items ≡ out ++ b.core.outbox.queue.items → b.plan ≡ a.plan
+    pub hand_given : (out : List (Output S D Stored K G C))
+        → a.core.outbox.queue.items ≡ out ++ b.core.outbox.queue.items → b.plan ≡ a.plan
         → AreAmong (of_works (work_in out) ++ pending_causes b) (pending_causes a)
     hand_given out front same_plans =
         among_further (among_all (sym (append_assoc (of_works (work_in out)) (queued b) (planned_causes b.plan))))
-        (among_both (among_all (sym (ap of_works (ap work_in front ∙ work_in-append out b.core.outbox.queue.items) ∙ of_works-append (work_in out) (work_in b.core.outbox.queue.items))))
+        (among_both (among_all (sym (ap of_works (ap work_in front ∙ work_in-append out b.core.outbox.queue.items)
+        ∙ of_works-append (work_in out) (work_in b.core.outbox.queue.items))))
         (among_all (ap planned_causes same_plans)))
 
     -- the step in front is taken
-    pub taken_hand_of : (taken : List (Cause S D K G C)) → b.core ≡ a.core → AreAmong (taken ++ planned_causes b.plan) (planned_causes a.plan) → AreAmong (taken ++ pending_causes b) (pending_causes a)
+    pub taken_hand_of : (taken : List (Cause S D K G C)) → b.core ≡ a.core
+        → AreAmong (taken ++ planned_causes b.plan) (planned_causes a.plan)
+        → AreAmong (taken ++ pending_causes b) (pending_causes a)
     taken_hand_of taken same among =
-        among_each (among_further (among_more taken (planned_causes b.plan)) (among_further among (among_last (queued a) (planned_causes a.plan))))
-        (hand_alone (ap (λ (core : Journaled S L D K G C). work_in core.outbox.queue.items) same) (among_further (among_last taken (planned_causes b.plan)) among))
+        among_each (among_further (among_more taken (planned_causes b.plan))
+        (among_further among (among_last (queued a) (planned_causes a.plan))))
+        (hand_alone (ap (λ (core : Journaled S L D K G C). work_in core.outbox.queue.items) same)
+        (among_further (among_last taken (planned_causes b.plan)) among))
 
-  pub taken_hand : (step : Step S D K G C) (a b : Engine S L D K G C) → b.core ≡ a.core → AreAmong (of_steps (step ∷ []) ++ planned_causes b.plan) (planned_causes a.plan)
+  pub taken_hand : (step : Step S D K G C) (a b : Engine S L D K G C) → b.core ≡ a.core
+      → AreAmong (of_steps (step ∷ []) ++ planned_causes b.plan) (planned_causes a.plan)
       → AreAmong (of_step step ++ pending_causes b) (pending_causes a)
   taken_hand step a b same among =
-      taken_hand_of a b (of_step step) same (among_further (among_both (among_all (sym (append-nil (of_step step)))) (among_still (planned_causes b.plan))) among)
+      taken_hand_of a b (of_step step) same (among_further
+      (among_both (among_all (sym (append-nil (of_step step)))) (among_still (planned_causes b.plan))) among)
 
   -- an early proposal is stored, or is not
-  pub kept_early : (from : ℕ) (proposal : Proposal D) (a b : Engine S L D K G C) → IsStoredEarly from proposal a b → AreAmong (planned_causes b.plan) (planned_causes a.plan ++ Arrival from proposal ∷ [])
+  pub kept_early : (from : ℕ) (proposal : Proposal D) (a b : Engine S L D K G C) → IsStoredEarly from proposal a b
+      → AreAmong (planned_causes b.plan) (planned_causes a.plan ++ Arrival from proposal ∷ [])
   kept_early from proposal a b is =
       let old = a.plan.early.proposals.items in
       let more : List (Cause S D K G C) = Arrival from proposal ∷ [] in
       let before = among_more (planned_causes a.plan) more in
-      each_part b.plan (among_further (among_all (ap (λ (p : Plan S D K G C). of_steps p.steps.items) plan_is)) (among_further (in_steps a.plan) before))
+      each_part b.plan (among_further (among_all (ap (λ (p : Plan S D K G C). of_steps p.steps.items) plan_is))
+      (among_further (in_steps a.plan) before))
       (among_further (still_blocks a.plan b.plan (ap (λ (p : Plan S D K G C). p.builds) plan_is)) before)
       (among_further (among_all (ap of_early is.kept)) (by_test (stores_early a proposal)))
       (among_further (still_fetches a.plan b.plan (ap (λ (p : Plan S D K G C). p.repair) plan_is)) before)
@@ -475,20 +646,28 @@ module _ {S L D K G C : Type 0} where
       it : Early D
       it = record { from = from; view = proposal.round.view; proposal = proposal }
 
-      by_test : (t : Bool) → AreAmong (of_early (cond t (a.plan.early.proposals.items ++ it ∷ []) a.plan.early.proposals.items)) (planned_causes a.plan ++ Arrival from proposal ∷ [])
-      by_test true = among_further (among_all (map-append (λ (e : Early D). Arrival e.from e.proposal) a.plan.early.proposals.items (it ∷ [])))
+      by_test : (t : Bool) → AreAmong (of_early
+          (cond t (a.plan.early.proposals.items ++ it ∷ []) a.plan.early.proposals.items))
+          (planned_causes a.plan ++ Arrival from proposal ∷ [])
+      by_test true = among_further
+          (among_all (map-append (λ (e : Early D). Arrival e.from e.proposal) a.plan.early.proposals.items (it ∷ [])))
           (among_both (in_early a.plan) (among_still (Arrival from proposal ∷ [])))
       by_test false = among_further (in_early a.plan) (among_more (planned_causes a.plan) (Arrival from proposal ∷ []))
 
-module _ {S L D K G C : Type 0} (same : D → D → Bool) (elect : Elect L) (bytes : D → List ℕ) (bytes_of : C → List ℕ) (now : ℕ) where
+module _ {S L D K G C : Type 0} (same : D → D → Bool) (elect : Elect L) (bytes : D → List ℕ) (bytes_of : C → List ℕ)
+    (now : ℕ) where
   -- whether the application found a proposal valid was received
-  pub told_verified : {X E : Type 0} (is_valid : Bool) (view : ℕ) (a b : Engine S L D K G C) {asked : Task D} (r : Result X E) → asked ≡ verification_of is_valid view
-      → OnOk r ((came : List (Cause S D K G C)) → HasNoMissingCertificate came → IsCallCaused now (came ++ pending_causes a) a.core.member.facts (call_of asked now) → IsCausedWith same elect bytes bytes_of now came a b)
+  pub told_verified : {X E : Type 0} (is_valid : Bool) (view : ℕ) (a b : Engine S L D K G C) {asked : Task D}
+      (r : Result X E) → asked ≡ verification_of is_valid view
+      → OnOk r ((came : List (Cause S D K G C)) → HasNoMissingCertificate came
+      → IsCallCaused now (came ++ pending_causes a) a.core.member.facts (call_of asked now)
+      → IsCausedWith same elect bytes bytes_of now came a b)
       → OnOk r (IsCausedWith same elect bytes bytes_of now (Message (verification_of is_valid view) ∷ []) a b)
   told_verified is_valid view a b (Err e) is provenance = tt
   told_verified is_valid view a b {asked} (Ok x) is provenance = by_test is_valid is
     where
-      by_test : (t : Bool) → asked ≡ verification_of t view → IsCausedWith same elect bytes bytes_of now (Message (verification_of t view) ∷ []) a b
+      by_test : (t : Bool) → asked ≡ verification_of t view
+          → IsCausedWith same elect bytes bytes_of now (Message (verification_of t view) ∷ []) a b
       by_test true is_it =
           provenance (Message (task.Verified view) ∷ []) (λ kind v. refl)
           (inl (
@@ -509,39 +688,52 @@ module _ {S L D K G C : Type 0} (same : D → D → Bool) (elect : Elect L) (byt
 -- ---- fetches
 
 module _ {S D K G C : Type 0} where
-  pub asks_none : {old new : Plan S D K G C} {over : FetchKind → ℕ → Bool} → AsksOn [] old new → KeepsFetching [] over [] old new
+  pub asks_none : {old new : Plan S D K G C} {over : FetchKind → ℕ → Bool} → AsksOn [] old new
+      → KeepsFetching [] over [] old new
   asks_none {over = over} is = keeps_asking over is.0 (λ kind view asked un. is.1 kind view asked)
 
-  pub resolved : {X E : Type 0} (r : Result X E) (kind : FetchKind) (view first moment : ℕ) (old new : Plan S D K G C) → new ≡ record old { repair = new.repair }
-      → OnOk r (HasFetches (opened kind view first moment old.repair.fetches.wanted.items) old.repair new.repair) → OnErr r (HasFetches old.repair.fetches.wanted.items old.repair new.repair)
+  pub resolved : {X E : Type 0} (r : Result X E) (kind : FetchKind) (view first moment : ℕ) (old new : Plan S D K G C)
+      → new ≡ record old { repair = new.repair }
+      → OnOk r (HasFetches (opened kind view first moment old.repair.fetches.wanted.items) old.repair new.repair)
+      → OnErr r (HasFetches old.repair.fetches.wanted.items old.repair new.repair)
       → AreAmong (planned_causes new) (planned_causes old ++ MissingCertificate kind view ∷ [])
   resolved (Ok x) kind view first moment old new is opens refused = opens_one kind view first moment is opens
   resolved (Err e) kind view first moment old new is opens refused =
-      among_further (repaired_alone old new is (among_all (ap (of_fetches new.repair.resolver.open_fetches) refused.fetches_now ∙ ap (λ (r : LawfulResolverFacts). of_fetches r.open_fetches old.repair.fetches.wanted.items) refused.resolver)))
+      among_further (repaired_alone old new is
+      (among_all (ap (of_fetches new.repair.resolver.open_fetches) refused.fetches_now
+      ∙ ap (λ (r : LawfulResolverFacts). of_fetches r.open_fetches old.repair.fetches.wanted.items)
+      refused.resolver)))
       (among_more (planned_causes old) (MissingCertificate kind view ∷ []))
 
-  pub lets_go : {X : Type 0} (r : Result X Fault) (finalized : ℕ) (keep : Fetch → Bool) (old new : Plan S D K G C) → new ≡ record old { repair = new.repair }
-      → OnOk r (HasPassed finalized (filter keep old.repair.fetches.wanted.items) old.repair new.repair) → IfErr r (λ fault. (fault ≡ Failed) × (new ≡ old))
+  pub lets_go : {X : Type 0} (r : Result X Fault) (finalized : ℕ) (keep : Fetch → Bool) (old new : Plan S D K G C)
+      → new ≡ record old { repair = new.repair }
+      → OnOk r (HasPassed finalized (filter keep old.repair.fetches.wanted.items) old.repair new.repair)
+      → IfErr r (λ fault. (fault ≡ Failed) × (new ≡ old))
       → AreAmong (planned_causes new) (planned_causes old)
   lets_go (Ok x) finalized keep old new is passes refused = closes_some keep is passes
   lets_go (Err e) finalized keep old new is passes refused = same_plan refused.1
 
 -- ---- a vote
 
-is_made_on : (S K G : Type 0) {D C : Type 0} (bytes_of : C → List ℕ) (on : Subject D) (c : C) → certificate_subject (certificate_facts bytes_of (certificate_of {S = S} {K = K} {G = G} on c)) ≡ on
+is_made_on : (S K G : Type 0) {D C : Type 0} (bytes_of : C → List ℕ) (on : Subject D) (c : C)
+    → certificate_subject (certificate_facts bytes_of (certificate_of {S = S} {K = K} {G = G} on c)) ≡ on
 is_made_on S K G bytes_of (subject.Notarize p) c = refl
 is_made_on S K G bytes_of (subject.Nullify round) c = refl
 is_made_on S K G bytes_of (subject.Finalize p) c = refl
 
-module _ {S D K G C : Type 0} (same : D → D → Bool) (IsMadeOf : Subject D → List (ℕ × G) → C → Type 0) (bytes_of : C → List ℕ) (members : ℕ) where
+module _ {S D K G C : Type 0} (same : D → D → Bool) (IsMadeOf : Subject D → List (ℕ × G) → C → Type 0)
+    (bytes_of : C → List ℕ) (members : ℕ) where
   -- the result of counting a vote is caused by the vote, and by the stored one of its signer
-  pub counted_of : (old new : Batcher S D K G C) (vote : Vote D G) (what : Counted S D K G C) → IsCounted same IsMadeOf members true old vote new what
+  pub counted_of : (old new : Batcher S D K G C) (vote : Vote D G) (what : Counted S D K G C)
+      → IsCounted same IsMadeOf members true old vote new what
       → AreAmong (of_counted bytes_of what) (input_causes bytes_of old (input.Vote vote))
   counted_of old new vote counted.Taken is = among_none (input_causes bytes_of old (input.Vote vote))
   counted_of old new vote counted.Known is = among_none (input_causes bytes_of old (input.Vote vote))
   counted_of old new vote counted.Refused is = among_none (input_causes bytes_of old (input.Vote vote))
   counted_of old new vote (counted.Certified made) is =
-      among_further (among_all (ap (λ it. Quorum it ∷ []) (ap (λ it. certificate_subject (certificate_facts bytes_of it)) is.counted.2.1 ∙ is_made_on S K G bytes_of vote.subject is.counted.2.0)))
+      among_further (among_all (ap (λ it. Quorum it ∷ [])
+      (ap (λ it. certificate_subject (certificate_facts bytes_of it)) is.counted.2.1
+      ∙ is_made_on S K G bytes_of vote.subject is.counted.2.0)))
       (among_more (Quorum vote.subject ∷ []) (evidence old vote))
   counted_of old new vote (counted.Equivocated first second) is =
       let both = is.counted.0 in
@@ -551,24 +743,32 @@ module _ {S D K G C : Type 0} (same : D → D → Bool) (IsMadeOf : Subject D �
       slots : List (Option (Ballot D G))
       slots = held old (kind_of vote.subject) (subject_view vote.subject)
 
-      shown : ballot_of slots first.signer ≡ Some (record { subject = first.subject; signature = first.signature; is_contradicted = false }) → first.signer ≡ vote.signer
+      shown : ballot_of slots first.signer ≡ Some
+          (record { subject = first.subject; signature = first.signature; is_contradicted = false })
+          → first.signer ≡ vote.signer
           → WorkItem (work.Equivocated first vote) ∷ [] ≡ evidence old vote
       shown is_held signed =
-          ap (λ (it : Vote D G). WorkItem (work.Equivocated it vote) ∷ []) (ap (λ signer. record { subject = first.subject; signer = signer; signature = first.signature }) signed)
-          ∙ sym (ap (λ it. option_to_list (option_map (evidence_against vote) it)) (ap (ballot_of slots) (sym signed) ∙ is_held))
+          ap (λ (it : Vote D G). WorkItem (work.Equivocated it vote) ∷ [])
+          (ap (λ signer. record { subject = first.subject; signer = signer; signature = first.signature }) signed)
+          ∙ sym (ap (λ it. option_to_list (option_map (evidence_against vote) it))
+          (ap (ballot_of slots) (sym signed) ∙ is_held))
 
 -- ---- the begin
 
 module _ {S L D K G C : Type 0} (bytes : D → List ℕ) (bytes_of : C → List ℕ) where
   -- nothing is at hand
-  pub nothing_held : (keys_of : S → List K) (keys : List K) (me : Option ℕ) (term_length : ℕ) (options : Options) (engine : Engine S L D K G C)
-      → BeginsWith bytes_of engine.core.member engine.core.outbox.queue.items → HasStartedWith bytes keys_of keys me term_length options engine → pending_causes engine ≡ []
+  pub nothing_held : (keys_of : S → List K) (keys : List K) (me : Option ℕ) (term_length : ℕ) (options : Options)
+      (engine : Engine S L D K G C)
+      → BeginsWith bytes_of engine.core.member engine.core.outbox.queue.items
+      → HasStartedWith bytes keys_of keys me term_length options engine → pending_causes engine ≡ []
   nothing_held keys_of keys me term_length options engine begins begun =
       let nothing = begun.plan.nothing in
       only (pending_causes engine)
       (among_each (among_all (ap (λ outs. of_works (work_in outs)) begins.outs_are))
-      (each_part engine.plan (among_all (ap of_steps nothing.0)) (among_all (ap of_blocks nothing.1)) (among_all (ap of_early nothing.2))
-      (among_further (among_all (ap (of_fetches open_views) begun.plan.repair.fetched)) (fetches_by open_views (wanting open_views []) []
+      (each_part engine.plan (among_all (ap of_steps nothing.0)) (among_all (ap of_blocks nothing.1))
+      (among_all (ap of_early nothing.2))
+      (among_further (among_all (ap (of_fetches open_views) begun.plan.repair.fetched))
+      (fetches_by open_views (wanting open_views []) []
       (λ kind view is unwanted. elim (open_wanting kind view open_views [] is) [
         | inl before ↦ absurd (false≢true before)
         | inr wanted ↦ absurd (false≢true (sym unwanted ∙ wanted))
@@ -576,145 +776,3 @@ module _ {S L D K G C : Type 0} (bytes : D → List ℕ) (bytes_of : C → List 
     where
       open_views : List ℕ
       open_views = engine.plan.repair.resolver.open_fetches
-
--- ---- matters that are no missing certificates
-
-module _ (S K G C : Type 0) {D : Type 0} where
-  pub task_lacks_none : (asked : Task D) → HasNoMissingCertificate (of_task {S = S} {D = D} {K = K} {G = G} {C = C} asked)
-  task_lacks_none (task.SetProposal v p) kind view = refl
-  task_lacks_none task.TryPropose kind view = refl
-  task_lacks_none (task.Proposed v payload) kind view = refl
-  task_lacks_none (task.SupersedeProposalRequest v) kind view = refl
-  task_lacks_none (task.PendingHandoffAbandonment v) kind view = refl
-  task_lacks_none (task.ReleaseProposalRequest v) kind view = refl
-  task_lacks_none task.TryVerify kind view = refl
-  task_lacks_none (task.Verified v) kind view = refl
-  task_lacks_none (task.VerificationFailed v) kind view = refl
-  task_lacks_none task.CertifyCandidates kind view = refl
-  task_lacks_none (task.SetCertifyHandle v) kind view = refl
-  task_lacks_none (task.Certified v is_success) kind view = refl
-  task_lacks_none (task.ConstructNotarize v) kind view = refl
-  task_lacks_none (task.ConstructFinalize v) kind view = refl
-  task_lacks_none (task.ConstructNullify v reason) kind view = refl
-  task_lacks_none (task.BroadcastNotarization v) kind view = refl
-  task_lacks_none (task.BroadcastNullification v) kind view = refl
-  task_lacks_none (task.BroadcastFinalization v) kind view = refl
-  task_lacks_none task.GetBestCertificate kind view = refl
-  task_lacks_none (task.TriggerTimeout v reason) kind view = refl
-  task_lacks_none task.NextTimeout kind view = refl
-  task_lacks_none task.Prune kind view = refl
-
--- a task that passes no verdict needs no offer
-pub needs_no_offer : {K L D : Type 0} (m : MemberFacts K L D) (now : ℕ) (asked : Task D) → is_verdict asked ≡ false → IsOnOffer m (call_of asked now)
-needs_no_offer m now (task.Certified view is_success) is = absurd (false≢true (sym is))
-needs_no_offer m now asked is = tt
-
-module _ (S K C : Type 0) {D G : Type 0} where
-  evidence_lacks_none : (vote : Vote D G) (ballot : Option (Ballot D G)) → HasNoMissingCertificate (option_to_list (option_map (evidence_against {S = S} {K = K} {C = C} vote) ballot))
-  evidence_lacks_none vote None kind view = refl
-  evidence_lacks_none vote (Some ballot) kind view = refl
-
-pub forgets_no_lack : (S G C : Type 0) {K L D : Type 0} (m : MemberFacts K L D) → HasNoMissingCertificate (forgettable {S = S} {G = G} {C = C} m)
-forgets_no_lack S G C {K = K} {L = L} {D = D} m = by_life m.life
-  where
-    by_life : (life : Option (StateFacts K L D)) → HasNoMissingCertificate {S = S} {D = D} {K = K} {G = G} {C = C} (option_map_or (λ x. WorkItem (work.Forget (min_active x)) ∷ []) life [])
-    by_life None kind view = refl
-    by_life (Some x) kind view = refl
-
--- a living member's lowest view
-pub forgets_lowest : {S L D K G C : Type 0} (m : MemberFacts K L D) (lowest : ℕ) → option_map min_active m.life ≡ Some lowest → of_work {S = S} {G = G} {C = C} (work.Forget lowest) ≡ forgettable m
-forgets_lowest {S = S} {L = L} {D = D} {K = K} {G = G} {C = C} m lowest is = by_life m.life is
-  where
-    by_life : (life : Option (StateFacts K L D)) → option_map min_active life ≡ Some lowest → ◌≡◌ {A = List (Cause S D K G C)} (WorkItem (work.Forget lowest) ∷ []) (option_map_or (λ x. WorkItem (work.Forget (min_active x)) ∷ []) life [])
-    by_life None is = absurd (cc)
-    by_life (Some x) is = ap (λ o. WorkItem (work.Forget (unwrap_or o 0)) ∷ []) (sym is)
-
-pub vote_lacks_none : {S D K G C : Type 0} (bytes_of : C → List ℕ) (batcher : Batcher S D K G C) (vote : Vote D G) → HasNoMissingCertificate (input_causes bytes_of batcher (input.Vote vote))
-vote_lacks_none {S = S} {K = K} {C = C} bytes_of batcher vote =
-    evidence_lacks_none S K C vote (ballot_of (held batcher (kind_of vote.subject) (subject_view vote.subject)) vote.signer)
-
-pub input_lacks_none : {S D K G C : Type 0} (bytes_of : C → List ℕ) (batcher : Batcher S D K G C) (what : Input S D K G C) → HasNoMissingCertificate (input_causes bytes_of batcher what)
-input_lacks_none bytes_of batcher (input.Proposal from proposal) kind view = refl
-input_lacks_none bytes_of batcher (input.Vote vote) kind view = vote_lacks_none bytes_of batcher vote kind view
-input_lacks_none bytes_of batcher (input.Certificate certificate) kind view = refl
-input_lacks_none bytes_of batcher (input.Verified v is_valid) kind view = refl
-input_lacks_none bytes_of batcher (input.Built context payload) kind view = refl
-input_lacks_none bytes_of batcher (input.Certified v success) kind view = refl
-input_lacks_none bytes_of batcher (input.GivenUp v reason) kind view = refl
-
-pub counted_lacks_none : {S D K G C : Type 0} (bytes_of : C → List ℕ) (what : Counted S D K G C) → HasNoMissingCertificate (of_counted bytes_of what)
-counted_lacks_none bytes_of (counted.Certified made) kind view = refl
-counted_lacks_none bytes_of (counted.Equivocated first second) kind view = refl
-counted_lacks_none bytes_of counted.Taken kind view = refl
-counted_lacks_none bytes_of counted.Known kind view = refl
-counted_lacks_none bytes_of counted.Refused kind view = refl
-
-pub work_lacks_none : {S D K G C : Type 0} (it : Work S D K G C) → HasNoMissingCertificate (of_work it)
-work_lacks_none (work.Broadcast certificate) kind view = refl
-work_lacks_none (work.Verify context proposal) kind view = refl
-work_lacks_none (work.Build context) kind view = refl
-work_lacks_none (work.StopBuilding v) kind view = refl
-work_lacks_none (work.Certify proposal) kind view = refl
-work_lacks_none (work.Fetch ask) kind view = refl
-work_lacks_none (work.Equivocated first second) kind view = refl
-work_lacks_none (work.ProposedTwice v leader) kind view = refl
-work_lacks_none (work.Forget v) kind view = refl
-
--- ---- the answer to a certificate
-
-module _ {K D : Type 0} where
-  abbrev tells_plain : ReplyFacts K D → Bool
-  tells_plain (call.Standing _) = false
-  tells_plain (call.Requested _) = false
-  tells_plain (call.Candidates _ _) = false
-  tells_plain (call.Returned _) = false
-  tells_plain (call.TimesOut _) = false
-  tells_plain (call.Judged _ _) = false
-  tells_plain _ = true
-
-module _ {K L D : Type 0} (same : D → D → Bool) (elect : Elect L) (m left : MemberFacts K L D) (now : ℕ) (tells : ReplyFacts K D) where
-  handed_tells : (certificate : CertificateFacts D) → IsCall same elect m (certificate_call certificate now) tells left → tells_plain tells ≡ true
-  unfolding IsCall
-  handed_tells certificate is_call = by_life m.life is_call
-    where
-      by_answer : (x : StateFacts K L D) (o : OutstandingWork K D) (c : CertificateFacts D) → tells_plain (answer same elect x o (certificate_call c now)) ≡ true
-      by_answer x o (Notarized c) = refl
-      by_answer x o (Nullified c) = refl
-      by_answer x o (Finalized c) = refl
-
-      by_test : (x : StateFacts K L D) (b : Bool) (due : Option Fault) → tells ≡ cond b (unless_refused due (answer same elect x m.outstanding_work (certificate_call certificate now))) call.NotAllowed
-          → tells_plain tells ≡ true
-      by_test x false due is = ap tells_plain is
-      by_test x true (Some fault) is = ap tells_plain is
-      by_test x true None is = ap tells_plain is ∙ by_answer x m.outstanding_work certificate
-
-      by_life : (life : Option (StateFacts K L D)) → AnswersAlive same elect life m (certificate_call certificate now) tells left → tells_plain tells ≡ true
-      by_life None (is, leaves) = ap tells_plain is
-      by_life (Some x) (inl (is, leaves)) = by_test x (is_allowed x m.outstanding_work (certificate_call certificate now)) (fault_of x (certificate_call certificate now)) is
-      by_life (Some x) (inr (allowed, is, leaves)) = ap tells_plain is
-
-plain_as : {S D K G C : Type 0} (bytes_of : C → List ℕ) (it : Reply S D K G C) → is_plain it ≡ tells_plain (told bytes_of it)
-plain_as bytes_of reply.Unit = refl
-plain_as bytes_of (reply.Flag taken) = refl
-plain_as bytes_of (reply.Added newly leader) = refl
-plain_as bytes_of (reply.AddedNullification newly) = refl
-plain_as bytes_of (reply.Request request) = refl
-plain_as bytes_of (reply.Work verify) = refl
-plain_as bytes_of (reply.Candidates proposals fetches) = refl
-plain_as bytes_of (reply.Certified success notarization) = refl
-plain_as bytes_of (reply.Notarize vote) = refl
-plain_as bytes_of (reply.Nullify vote) = refl
-plain_as bytes_of (reply.Finalize vote) = refl
-plain_as bytes_of (reply.Certificate certificate) = refl
-plain_as bytes_of (reply.Timeout at reason) = refl
-plain_as bytes_of (reply.Views views) = refl
-plain_as bytes_of (reply.Released was_open) = refl
-plain_as bytes_of (reply.Triggered latched) = refl
-plain_as bytes_of (reply.Abandoned reason) = refl
-plain_as bytes_of reply.Restarted = refl
-plain_as bytes_of (reply.Fault fault) = refl
-plain_as bytes_of reply.NotAllowed = refl
-
-pub handed_plain : {S K L D G C : Type 0} (same : D → D → Bool) (elect : Elect L) (bytes_of : C → List ℕ) (m left : MemberFacts K L D) (now : ℕ) (certificate : CertificateFacts D) (it : Reply S D K G C)
-    → IsCall same elect m (certificate_call certificate now) (told bytes_of it) left → is_plain it ≡ true
-handed_plain same elect bytes_of m left now certificate it called = plain_as bytes_of it ∙ handed_tells same elect m left now (told bytes_of it) certificate called

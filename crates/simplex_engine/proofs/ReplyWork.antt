@@ -31,22 +31,27 @@ use Rattle.simplex_engine.specs.ApplicationWork.{work_ahead}
 use Rattle.simplex_engine.specs.Provenance.{evidence_in, work_by_reply}
 
 -- an answer that holds for three reasons
-pub on_ok_all : {X E : Type 0} (r : Result X E) {P Q T R : Type 0} → OnOk r P → OnOk r Q → OnOk r T → (P → Q → T → R) → OnOk r R
+pub on_ok_all : {X E : Type 0} (r : Result X E) {P Q T R : Type 0} → OnOk r P → OnOk r Q → OnOk r T → (P → Q → T → R)
+    → OnOk r R
 on_ok_all (Ok x) first second third more = more first second third
 on_ok_all (Err e) first second third more = tt
 
 -- what is planned is ahead
-pub planned_ahead : {S L D K G C : Type 0} (engine : Engine S L D K G C) {these : List (Work S D K G C)} → AreAmong these (work_planned engine.plan.steps.items) → AreAmong these (work_ahead engine)
-planned_ahead engine among = among_further among (among_last (work_in engine.core.outbox.queue.items) (work_planned engine.plan.steps.items))
+pub planned_ahead : {S L D K G C : Type 0} (engine : Engine S L D K G C) {these : List (Work S D K G C)}
+    → AreAmong these (work_planned engine.plan.steps.items) → AreAmong these (work_ahead engine)
+planned_ahead engine among = among_further among
+    (among_last (work_in engine.core.outbox.queue.items) (work_planned engine.plan.steps.items))
 
 module _ {S D K G C : Type 0} (bytes : D → List ℕ) (bytes_of : C → List ℕ) (now : ℕ) where
-  one_planned : (it : Work S D K G C) (old new : Plan S D K G C) → HasPlanned (step.Push it ∷ []) old new → AreAmong (it ∷ []) (work_planned new.steps.items)
+  one_planned : (it : Work S D K G C) (old new : Plan S D K G C) → HasPlanned (step.Push it ∷ []) old new
+      → AreAmong (it ∷ []) (work_planned new.steps.items)
   one_planned it old new is =
       among_further (among_last (work_planned old.steps.items) (it ∷ []))
       (among_all (sym (ap work_planned is.steps ∙ planned-append old.steps.items (step.Push it ∷ []))))
 
   -- no task passes a certificate to the member
-  evidence_by_task : (asked : Task D) (leader : K) → AreAmong (evidence_in {S = S} {D = D} {K = K} {G = G} {C = C} (call_of asked now) leader) []
+  evidence_by_task : (asked : Task D) (leader : K)
+      → AreAmong (evidence_in {S = S} {D = D} {K = K} {G = G} {C = C} (call_of asked now) leader) []
   evidence_by_task (task.SetProposal v p) leader = among_none []
   evidence_by_task task.TryPropose leader = among_none []
   evidence_by_task (task.Proposed v payload) leader = among_none []
@@ -71,25 +76,32 @@ module _ {S D K G C : Type 0} (bytes : D → List ℕ) (bytes_of : C → List �
   evidence_by_task task.Prune leader = among_none []
 
   -- by the reply to a task
-  pub planned_reply : (asked : Task D) (answer : Reply S D K G C) (old new : Plan S D K G C) → IsFollowed bytes bytes_of now asked answer old new
+  pub planned_reply : (asked : Task D) (answer : Reply S D K G C) (old new : Plan S D K G C)
+      → IsFollowed bytes bytes_of now asked answer old new
       → AreAmong (work_by_reply answer (call_of asked now)) (work_planned new.steps.items)
-  planned_reply asked (reply.Work (verify.Ready context proposal)) old new is = one_planned (work.Verify context proposal) old new is
+  planned_reply asked (reply.Work (verify.Ready context proposal)) old new is =
+      one_planned (work.Verify context proposal) old new is
   planned_reply asked (reply.Candidates proposals wanted) old new is =
       among_further (among_last (work_planned old.steps.items) (map work.Certify proposals.items))
       (followed_plans old new bytes bytes_of now asked (reply.Candidates proposals wanted) is).found
-  planned_reply asked (reply.Certificate (Some certificate)) old new is = one_planned (work.Broadcast certificate) old new is
-  planned_reply asked (reply.Added is_new (Some leader)) old new is = among_further (evidence_by_task asked leader) (among_none (work_planned new.steps.items))
+  planned_reply asked (reply.Certificate (Some certificate)) old new is =
+      one_planned (work.Broadcast certificate) old new is
+  planned_reply asked (reply.Added is_new (Some leader)) old new is =
+      among_further (evidence_by_task asked leader) (among_none (work_planned new.steps.items))
   planned_reply asked answer old new is = among_none (work_planned new.steps.items)
 
   evidence_by : (passed : Certificate S D K G C) (leader : K)
-      → evidence_in {S = S} {D = D} {K = K} {G = G} {C = C} (certificate_call (certificate_facts bytes_of passed) now) leader ≡ work.ProposedTwice (certificate_view passed) leader ∷ []
+      → evidence_in {S = S} {D = D} {K = K} {G = G} {C = C} (certificate_call (certificate_facts bytes_of passed) now)
+      leader ≡ work.ProposedTwice (certificate_view passed) leader ∷ []
   evidence_by (certificate.Notarization n) leader = refl
   evidence_by (certificate.Nullification n) leader = refl
   evidence_by (certificate.Finalization n) leader = refl
 
   -- by the reply to a certificate
-  pub planned_certificate : (passed : Certificate S D K G C) (answer : Reply S D K G C) (old new : Plan S D K G C) → is_plain answer ≡ true → IsCertificateFollowed bytes bytes_of now passed answer old new
-      → AreAmong (work_by_reply answer (certificate_call (certificate_facts bytes_of passed) now)) (work_planned new.steps.items)
+  pub planned_certificate : (passed : Certificate S D K G C) (answer : Reply S D K G C) (old new : Plan S D K G C)
+      → is_plain answer ≡ true → IsCertificateFollowed bytes bytes_of now passed answer old new
+      → AreAmong (work_by_reply answer (certificate_call (certificate_facts bytes_of passed) now))
+      (work_planned new.steps.items)
   planned_certificate passed (reply.Work standing) old new plain is = absurd (false≢true plain)
   planned_certificate passed (reply.Candidates proposals wanted) old new plain is = absurd (false≢true plain)
   planned_certificate passed (reply.Certificate returned) old new plain is = absurd (false≢true plain)

@@ -32,7 +32,8 @@ use Rattle.engine_planner.specs.PlannedWork.{ended_in, ends, views_requested}
 use Rattle.engine_planner.specs.Tasks.{call_of}
 
 -- nothing is ended
-touched : (D : Type 0) (is_taken : Bool) (view other : ℕ) → ended_in {D = D} (cond is_taken (Touched view) Nothing) other ≡ false
+touched : (D : Type 0) (is_taken : Bool) (view other : ℕ)
+    → ended_in {D = D} (cond is_taken (Touched view) Nothing) other ≡ false
 touched D true view other = refl
 touched D false view other = refl
 
@@ -44,24 +45,34 @@ module _ {K D : Type 0} where
   abbrev pub AreOpen : Task D → ReplyFacts K D → OutstandingWork K D → OutstandingWork K D → Type 0
   AreOpen asked told before left =
       (view : ℕ) → is_open left view ≡ true
-      → ((list_any (λ v. v == view) (views_requested told) ≡ true) ⊎ (is_open before view ≡ true)) × (ends asked told view ≡ false)
+      → ((list_any (λ v. v == view) (views_requested told) ≡ true) ⊎ (is_open before view ≡ true))
+      × (ends asked told view ≡ false)
 
   -- what is open after a close was open, and is of another view
-  closed_other : (o : OutstandingWork K D) (v w : ℕ) → is_open (without_context o v) w ≡ true → (is_open o w ≡ true) × ((v == w) ≡ false)
-  closed_other o v w is = (still_open o v w is, false_from_ne_true (v == w) (λ at. false≢true (sym (gone (eqb-true v w at)) ∙ is)))
+  closed_other : (o : OutstandingWork K D) (v w : ℕ) → is_open (without_context o v) w ≡ true
+      → (is_open o w ≡ true) × ((v == w) ≡ false)
+  closed_other o v w is =
+      (still_open o v w is, false_from_ne_true (v == w) (λ at. false≢true (sym (gone (eqb-true v w at)) ∙ is)))
     where
       gone : v ≡ w → is_open (without_context o v) w ≡ false
-      gone at = ap is_some (find-filtered (λ k. not (k == v)) w o.contexts ∙ ap (λ b. cond (not b) (find nat_cmp w o.contexts) None) (eq-eqb w v (sym at)))
+      gone at = ap is_some (find-filtered (λ k. not (k == v)) w o.contexts
+          ∙ ap (λ b. cond (not b) (find nat_cmp w o.contexts) None) (eq-eqb w v (sym at)))
 
 module _ {K L D : Type 0} (same : D → D → Bool) (elect : Elect L) (x : StateFacts K L D) (o : OutstandingWork K D) where
-  by_request : (request : Option (ProposalRequest D K)) → AreOpen task.TryPropose (call.Requested request) o (with_open_request o request)
+  by_request : (request : Option (ProposalRequest D K))
+      → AreOpen task.TryPropose (call.Requested request) o (with_open_request o request)
   by_request None view is = (inr is, refl)
   by_request (Some request) view is = elim (now_open o (request_context request) view is) [
-    | inl now ↦ (inl (or_left ((request_context request).round.view == view) false (eq-eqb (request_context request).round.view view (sym now))), refl)
+    | inl now ↦ (
+      inl (or_left ((request_context request).round.view == view) false
+          (eq-eqb (request_context request).round.view view (sym now))),
+      refl,
+    )
     | inr before ↦ (inr before, refl)
   ]
 
-  superseded : (v : ℕ) (replaced : Bool) → AreOpen (task.SupersedeProposalRequest v) (call.Answered replaced) o (cond replaced (without_context o v) o)
+  superseded : (v : ℕ) (replaced : Bool) → AreOpen (task.SupersedeProposalRequest v) (call.Answered replaced) o
+      (cond replaced (without_context o v) o)
   superseded v true view is = (let kept = closed_other o v view is in (inr kept.0, kept.1))
   superseded v false view is = (inr is, refl)
 
@@ -71,11 +82,15 @@ module _ {K L D : Type 0} (same : D → D → Bool) (elect : Elect L) (x : State
   by_verify verify.Wait view is = (inr is, refl)
 
   -- a call that returns
-  open_by_answer : (asked : Task D) (now : ℕ) → AreOpen asked (answer same elect x o (call_of asked now)) o (outstanding_work_after same elect x o (call_of asked now))
+  open_by_answer : (asked : Task D) (now : ℕ)
+      → AreOpen asked (answer same elect x o (call_of asked now)) o
+      (outstanding_work_after same elect x o (call_of asked now))
   open_by_answer task.TryPropose now view is = by_request (propose_answer same elect x) view is
   open_by_answer (task.Proposed v payload) now view is = (let kept = closed_other o v view is in (inr kept.0, kept.1))
-  open_by_answer (task.SupersedeProposalRequest v) now view is = superseded v (option_map_or (λ context. supersede_answer same elect x context) (context_at o v) false) view is
-  open_by_answer (task.ReleaseProposalRequest v) now view is = (let kept = closed_other o v view is in (inr kept.0, kept.1))
+  open_by_answer (task.SupersedeProposalRequest v) now view is =
+      superseded v (option_map_or (λ context. supersede_answer same elect x context) (context_at o v) false) view is
+  open_by_answer (task.ReleaseProposalRequest v) now view is =
+      (let kept = closed_other o v view is in (inr kept.0, kept.1))
   open_by_answer (task.PendingHandoffAbandonment v) now view is = (inr is, refl)
   open_by_answer task.TryVerify now view is = by_verify (verify_answer same elect x) view is
   open_by_answer (task.SetProposal v p) now view is = (inr is, touched D (set_proposal_answer x v) v view)
@@ -97,12 +112,14 @@ module _ {K L D : Type 0} (same : D → D → Bool) (elect : Elect L) (x : State
 
   -- a call on a request that is not open is not allowed
   not_open : (v view : ℕ) → is_open o v ≡ false → is_open o view ≡ true → (v == view) ≡ false
-  not_open v view none is = false_from_ne_true (v == view) (λ at. false≢true (sym none ∙ subst (λ w. is_open o w ≡ true) (sym (eqb-true v view at)) is))
+  not_open v view none is = false_from_ne_true (v == view)
+      (λ at. false≢true (sym none ∙ subst (λ w. is_open o w ≡ true) (sym (eqb-true v view at)) is))
 
   abbrev refusal : ReplyFacts K D
   refusal = call.NotAllowed
 
-  open_by_refusal : (asked : Task D) (now view : ℕ) → is_allowed x o (call_of asked now) ≡ false → is_open o view ≡ true → ends asked refusal view ≡ false
+  open_by_refusal : (asked : Task D) (now view : ℕ) → is_allowed x o (call_of asked now) ≡ false → is_open o view ≡ true
+      → ends asked refusal view ≡ false
   open_by_refusal (task.Proposed v payload) now view none is = not_open v view none is
   open_by_refusal (task.SupersedeProposalRequest v) now view none is = not_open v view none is
   open_by_refusal (task.PendingHandoffAbandonment v) now view none is = not_open v view none is
@@ -127,14 +144,18 @@ module _ {K L D : Type 0} (same : D → D → Bool) (elect : Elect L) (x : State
   open_by_refusal task.Prune now view none is = refl
 
   -- what is requested is not above the first view of the next term
-  none_above : (w : ℕ) → next_term_start x.terms.term_length x.current ≤ w → (request : Option (ProposalRequest D K)) → propose_answer same elect x ≡ request
+  none_above : (w : ℕ) → next_term_start x.terms.term_length x.current ≤ w → (request : Option (ProposalRequest D K))
+      → propose_answer same elect x ≡ request
       → list_any (nat_lt w) (views_requested (call.Requested request)) ≡ false
   none_above w up None is = refl
   none_above w up (Some request) is =
       or_from (nat_lt w (request_context request).round.view) false
-      (false_from_ne_true _ (λ above. absurd (omega (arith, ltb-true w (request_context request).round.view above, requested_ahead x same elect request is, up)))) refl
+      (false_from_ne_true _ (λ above. absurd (omega
+      (arith, ltb-true w (request_context request).round.view above, requested_ahead x same elect request is, up))))
+      refl
 
-  near_by_answer : (w : ℕ) → next_term_start x.terms.term_length x.current ≤ w → (asked : Task D) (now : ℕ) → list_any (nat_lt w) (views_requested (answer same elect x o (call_of asked now))) ≡ false
+  near_by_answer : (w : ℕ) → next_term_start x.terms.term_length x.current ≤ w → (asked : Task D) (now : ℕ)
+      → list_any (nat_lt w) (views_requested (answer same elect x o (call_of asked now))) ≡ false
   near_by_answer w up task.TryPropose now = none_above w up (propose_answer same elect x) refl
   near_by_answer w up task.TryVerify now = refl
   near_by_answer w up (task.Proposed v payload) now = refl
@@ -158,9 +179,11 @@ module _ {K L D : Type 0} (same : D → D → Bool) (elect : Elect L) (x : State
   near_by_answer w up task.NextTimeout now = refl
   near_by_answer w up task.Prune now = refl
 
-module _ {K L D : Type 0} (same : D → D → Bool) (elect : Elect L) (m left : MemberFacts K L D) (asked : Task D) (now : ℕ) (told : ReplyFacts K D) where
+module _ {K L D : Type 0} (same : D → D → Bool) (elect : Elect L) (m left : MemberFacts K L D) (asked : Task D)
+    (now : ℕ) (told : ReplyFacts K D) where
   -- a call of the member
-  pub open_by_call : IsCall same elect m (call_of asked now) told left → AreOpen asked told m.outstanding_work left.outstanding_work
+  pub open_by_call : IsCall same elect m (call_of asked now) told left
+      → AreOpen asked told m.outstanding_work left.outstanding_work
   unfolding IsCall
   open_by_call is_call = by_life m.life is_call
     where
@@ -168,39 +191,51 @@ module _ {K L D : Type 0} (same : D → D → Bool) (elect : Elect L) (m left : 
       Leaves t n = AreOpen asked t m.outstanding_work n.outstanding_work
 
       refused : (fault : Fault) → told ≡ call.Refused fault → left ≡ m → Leaves told left
-      refused fault tells leaves = subst (λ t. Leaves t left) (sym tells) (subst (Leaves (call.Refused fault)) (sym leaves) (λ view is. (inr is, refl)))
+      refused fault tells leaves = subst (λ t. Leaves t left) (sym tells)
+          (subst (Leaves (call.Refused fault)) (sym leaves) (λ view is. (inr is, refl)))
 
-      by_test : (x : StateFacts K L D) (b : Bool) (due : Option Fault) → is_allowed x m.outstanding_work (call_of asked now) ≡ b
-          → told ≡ cond b (unless_refused due (answer same elect x m.outstanding_work (call_of asked now))) call.NotAllowed
+      by_test : (x : StateFacts K L D) (b : Bool) (due : Option Fault)
+          → is_allowed x m.outstanding_work (call_of asked now) ≡ b
+          → told ≡ cond b (unless_refused due (answer same elect x m.outstanding_work (call_of asked now)))
+          call.NotAllowed
           → left ≡ cond b (unless_retained due m (with_call same elect x m (call_of asked now))) m → Leaves told left
       by_test x false due allowed tells leaves =
           subst (λ t. Leaves t left) (sym tells) (subst (Leaves call.NotAllowed) (sym leaves)
           (λ view is. (inr is, open_by_refusal same elect x m.outstanding_work asked now view allowed is)))
       by_test x true (Some due) allowed tells leaves = refused due tells leaves
       by_test x true None allowed tells leaves =
-          subst (λ t. Leaves t left) (sym tells) (subst (Leaves (answer same elect x m.outstanding_work (call_of asked now))) (sym leaves)
+          subst (λ t. Leaves t left) (sym tells)
+          (subst (Leaves (answer same elect x m.outstanding_work (call_of asked now))) (sym leaves)
           (open_by_answer same elect x m.outstanding_work asked now))
 
-      by_life : (life : Option (StateFacts K L D)) → AnswersAlive same elect life m (call_of asked now) told left → Leaves told left
+      by_life : (life : Option (StateFacts K L D)) → AnswersAlive same elect life m (call_of asked now) told left
+          → Leaves told left
       by_life None (tells, leaves) = refused fault.Failed tells leaves
-      by_life (Some x) (inl (tells, leaves)) = by_test x (is_allowed x m.outstanding_work (call_of asked now)) (fault_of x (call_of asked now)) refl tells leaves
+      by_life (Some x) (inl (tells, leaves)) =
+          by_test x (is_allowed x m.outstanding_work (call_of asked now)) (fault_of x (call_of asked now)) refl tells
+          leaves
       by_life (Some x) (inr (_, tells, inl (_, leaves))) = refused fault.OutOfMemory tells leaves
-      by_life (Some x) (inr (_, tells, inr (_, _, leaves))) = subst (Leaves told) (sym leaves) (λ view is. absurd (false≢true is))
+      by_life (Some x) (inr (_, tells, inr (_, _, leaves))) =
+          subst (Leaves told) (sym leaves) (λ view is. absurd (false≢true is))
 
   -- what it requests is not above the first view of the next term
   pub near_by_call : IsCall same elect m (call_of asked now) told left → (x : StateFacts K L D) → m.life ≡ Some x
       → (w : ℕ) → next_term_start x.terms.term_length x.current ≤ w → list_any (nat_lt w) (views_requested told) ≡ false
   unfolding IsCall
-  near_by_call is_call x lives w up = by_answer (subst (λ life. AnswersAlive same elect life m (call_of asked now) told left) lives is_call)
+  near_by_call is_call x lives w up = by_answer
+      (subst (λ life. AnswersAlive same elect life m (call_of asked now) told left) lives is_call)
     where
       IsNear : ReplyFacts K D → Type 0
       IsNear t = list_any (nat_lt w) (views_requested t) ≡ false
 
-      by_test : (b : Bool) (due : Option Fault) → told ≡ cond b (unless_refused due (answer same elect x m.outstanding_work (call_of asked now))) call.NotAllowed → IsNear told
+      by_test : (b : Bool) (due : Option Fault)
+          → told ≡ cond b (unless_refused due (answer same elect x m.outstanding_work (call_of asked now)))
+          call.NotAllowed → IsNear told
       by_test false due tells = subst IsNear (sym tells) refl
       by_test true (Some due) tells = subst IsNear (sym tells) refl
       by_test true None tells = subst IsNear (sym tells) (near_by_answer same elect x m.outstanding_work w up asked now)
 
       by_answer : AnswersAlive same elect (Some x) m (call_of asked now) told left → IsNear told
-      by_answer (inl (tells, leaves)) = by_test (is_allowed x m.outstanding_work (call_of asked now)) (fault_of x (call_of asked now)) tells
+      by_answer (inl (tells, leaves)) = by_test (is_allowed x m.outstanding_work (call_of asked now))
+          (fault_of x (call_of asked now)) tells
       by_answer (inr (_, tells, leaves)) = subst IsNear (sym tells) refl

@@ -1,4 +1,5 @@
--- Calls of a member by the definitions: the reply to each, and the record after it; of four members who lead terms of one view round-robin, from
+-- Calls of a member by the definitions: the reply to each, and the record after it; of four members who lead terms of
+-- one view round-robin, from
 -- genesis on.
 use Rattle.std.proofs.Common.{◌≡◌, refl, ℕ, ◌^◌, true, false, List, [], ◌∷◌, Option, Some, None, nat_eq}
 use Rattle.simplex_types.specs.Certificates.{ProposalFacts, NullifyVote}
@@ -31,7 +32,8 @@ State = StateFacts ℕ ℕ ℕ
 abbrev started_at : FloorFacts ℕ → ℕ → Member
 started_at floor me =
     started_member nat_eq in_turn
-    (new_facts settings (Some me) (0 ∷ 1 ∷ 2 ∷ 3 ∷ []) 1 (record { term_length = 1; optimistic_views = 0; stall_timeout = None }) true)
+    (new_facts settings (Some me) (0 ∷ 1 ∷ 2 ∷ 3 ∷ []) 1
+    (record { term_length = 1; optimistic_views = 0; stall_timeout = None }) true)
     floor 0
 
 -- and at genesis
@@ -49,7 +51,10 @@ next (Some x) m call = left_of nat_eq in_turn x m call
 
 -- the replies to some calls, one after another
 unfoldable replies_of : Member → List (CallFacts ℕ) → List (ReplyFacts ℕ ℕ)
-unfolding standing propose_answer proposed_answer find_parent captured_parent_valid has_valid_parent_span ancestry_payload_for_child first_unnullified_view explicit_ancestry_payload optimistic_ancestry_payload is_handoff_parent is_voted_ancestor can_chain_on in_issuance_window is_admitted verification_matches parent_payload_for may_notarize may_nullify may_finalize has_conflicting_nullify required_certification_parent
+unfolding standing propose_answer proposed_answer find_parent captured_parent_valid has_valid_parent_span
+    ancestry_payload_for_child first_unnullified_view explicit_ancestry_payload optimistic_ancestry_payload
+    is_handoff_parent is_voted_ancestor can_chain_on in_issuance_window is_admitted verification_matches
+    parent_payload_for may_notarize may_nullify may_finalize has_conflicting_nullify required_certification_parent
 replies_of m [] = []
 replies_of m (call ∷ calls) = told m.life m call ∷ replies_of (next m.life m call) calls
 
@@ -68,13 +73,15 @@ notarization v = record { proposal = proposal v 0 7; bytes = [] }
 -- a request to build is answered once, though the block comes too late to be recorded
 built_too_late :
     replies_of (started 0) (TryPropose ∷ ConstructNullify 1 ∷ Proposed 1 7 5 ∷ Proposed 1 7 5 ∷ [])
-    ≡ Requested (Some (request.Propose first_context)) ∷ Nullify (Some (false, NullifyVote (round 1) 0)) ∷ Answered false ∷ NotAllowed ∷ []
+    ≡ Requested (Some (request.Propose first_context)) ∷ Nullify (Some (false, NullifyVote (round 1) 0)) ∷ Answered
+    false ∷ NotAllowed ∷ []
 unfolding replies_of
 built_too_late = refl
 
 -- so is a request to verify
 verified_too_late :
-    replies_of (started 1) (SetProposal 1 (proposal 1 0 7) ∷ TryVerify ∷ ConstructNullify 1 ∷ Verified 1 ∷ Verified 1 ∷ [])
+    replies_of (started 1)
+    (SetProposal 1 (proposal 1 0 7) ∷ TryVerify ∷ ConstructNullify 1 ∷ Verified 1 ∷ Verified 1 ∷ [])
     ≡ Answered true
     ∷ Standing (verify.Ready first_context (proposal 1 0 7))
     ∷ Nullify (Some (false, NullifyVote (round 1) 1))
@@ -86,8 +93,10 @@ verified_too_late = refl
 
 -- an offer stays open while others are made
 offered_before :
-    replies_of (started 0) (AddNotarization (notarization 1) ∷ CertifyCandidates ∷ AddNotarization (notarization 2) ∷ CertifyCandidates ∷ SetCertifyHandle 1 9 ∷ SetCertifyHandle 3 9 ∷ [])
-    ≡ Added true None ∷ Candidates (proposal 1 0 7 ∷ []) [] ∷ Added true None ∷ Candidates (proposal 2 0 7 ∷ []) [] ∷ Done ∷ NotAllowed ∷ []
+    replies_of (started 0) (AddNotarization (notarization 1) ∷ CertifyCandidates ∷ AddNotarization (notarization 2)
+    ∷ CertifyCandidates ∷ SetCertifyHandle 1 9 ∷ SetCertifyHandle 3 9 ∷ [])
+    ≡ Added true None ∷ Candidates (proposal 1 0 7 ∷ []) [] ∷ Added true None ∷ Candidates (proposal 2 0 7 ∷ []) []
+    ∷ Done ∷ NotAllowed ∷ []
 unfolding replies_of
 offered_before = refl
 
@@ -108,7 +117,9 @@ unfolding replies_of
 not_asked = refl
 
 -- a call that is refused records nothing and opens nothing: a certificate of another epoch is not allowed
-recorded_by_none : recorded (started 0) (AddNotarization (record { proposal = record { round = record { epoch = 2; view = 1 }; parent = 0; payload = 7 }; bytes = [] }) ∷ []) ≡ []
+recorded_by_none : recorded (started 0) (AddNotarization
+    (record { proposal = record { round = record { epoch = 2; view = 1 }; parent = 0; payload = 7 }; bytes = [] }) ∷ [])
+    ≡ []
 unfolding recorded
 recorded_by_none = refl
 
@@ -116,7 +127,8 @@ recorded_by_none = refl
 abbrev too_large : ProposalFacts ℕ
 too_large = record { proposal = proposal 1 (2 ^ 63) 7; bytes = [] }
 
-refused_first : replies_of (started 0) (AddNotarization too_large ∷ AddNotarization (notarization 1) ∷ []) ≡ Refused ViewTooLarge ∷ Added true None ∷ []
+refused_first : replies_of (started 0) (AddNotarization too_large ∷ AddNotarization (notarization 1) ∷ []) ≡ Refused
+    ViewTooLarge ∷ Added true None ∷ []
 unfolding replies_of
 refused_first = refl
 

@@ -16,19 +16,24 @@ module _ {K L D : Type 0} (same : D → D → Bool) (elect : Elect L) (x : State
   after_one [] = x
   after_one (e ∷ _) = after_event same elect x e
 
-  by_any : (P : StateFacts K L D → Type 0) → P x → ((e : Event K D) → P (after_event same elect x e)) → (es : List (Event K D)) → P (after_one es)
+  by_any : (P : StateFacts K L D → Type 0) → P x → ((e : Event K D) → P (after_event same elect x e))
+      → (es : List (Event K D)) → P (after_one es)
   by_any P still each [] = still
   by_any P still each (e ∷ rest) = each e
 
-  in_context_is : (f : Context D K → StateFacts K L D) (event : Context D K → Event K D) → ((c : Context D K) → f c ≡ after_event same elect x (event c)) → (context : Option (Context D K)) → option_map_or f context x ≡ after_one (in_context event context)
+  in_context_is : (f : Context D K → StateFacts K L D) (event : Context D K → Event K D)
+      → ((c : Context D K) → f c ≡ after_event same elect x (event c)) → (context : Option (Context D K))
+      → option_map_or f context x ≡ after_one (in_context event context)
   in_context_is f event is None = refl
   in_context_is f event is (Some c) = is c
 
-  pub call_is : (o : OutstandingWork K D) (call : CallFacts D) → after_call same elect x o call ≡ after_one (events_of o call)
+  pub call_is : (o : OutstandingWork K D) (call : CallFacts D)
+      → after_call same elect x o call ≡ after_one (events_of o call)
   call_is o (calls.Proposed v payload now) = in_context_is _ (λ c. Proposed c payload now) (λ c. refl) (context_at o v)
   call_is o (calls.SupersedeProposalRequest v) = in_context_is _ Supersede (λ c. refl) (context_at o v)
   call_is o _ = refl
 
   -- a claim that holds of each event in any case, for each call
-  pub call_by_any : (o : OutstandingWork K D) (P : StateFacts K L D → Type 0) → P x → ((e : Event K D) → P (after_event same elect x e)) → (call : CallFacts D) → P (after_call same elect x o call)
+  pub call_by_any : (o : OutstandingWork K D) (P : StateFacts K L D → Type 0) → P x
+      → ((e : Event K D) → P (after_event same elect x e)) → (call : CallFacts D) → P (after_call same elect x o call)
   call_by_any o P still each call = subst P (sym (call_is o call)) (by_any P still each (events_of o call))

@@ -1,4 +1,5 @@
--- The reply to a call is of its kind; if it is an answer, it is by the definitions, and if it is a refusal, nothing is lost.
+-- The reply to a call is of its kind; if it is an answer, it is by the definitions, and if it is a refusal, nothing is
+-- lost.
 use Rattle.std.proofs.Common.{◌≡◌, refl, ap, sym, ◌∙◌, Bool, true, false, cond, [], Option, Some, None, inl, inr}
 use Rattle.std.proofs.lemmas.List.{append-nil}
 use Rattle.simplex_types.specs.declared.types.fault.Fault.{Fault}
@@ -34,7 +35,8 @@ module _ {K L D : Type 0} where
 
   keeps_grown : (m left : MemberFacts K L D) (refused : Refusal) → UnchangedButLifetime m refused left → HasGrown m left
   keeps_grown m left (refusal.Fault fault.OutOfMemory) (inl same) = same_grown m left same
-  keeps_grown m left (refusal.Fault fault.OutOfMemory) (inr fell) = ([], ap (λ (n : MemberFacts K L D). n.entries) fell ∙ sym (append-nil m.entries))
+  keeps_grown m left (refusal.Fault fault.OutOfMemory) (inr fell) =
+      ([], ap (λ (n : MemberFacts K L D). n.entries) fell ∙ sym (append-nil m.entries))
   keeps_grown m left (refusal.Fault fault.Failed) same = same_grown m left same
   keeps_grown m left (refusal.Fault fault.ViewTooLarge) same = same_grown m left same
   keeps_grown m left (refusal.Fault fault.TimeOverflow) same = same_grown m left same
@@ -42,7 +44,9 @@ module _ {K L D : Type 0} where
 
 module _ {K L D : Type 0} (same : D → D → Bool) (elect : Elect L) where
   -- an answer is of its call's kind, and is no refusal
-  of_kind : (x : StateFacts K L D) (o : OutstandingWork K D) (call : CallFacts D) → (is_reply_to (answer same elect x o call) call ≡ true) × ((claim : Refusal → Type 0) → IfRefused (answer same elect x o call) claim)
+  of_kind : (x : StateFacts K L D) (o : OutstandingWork K D) (call : CallFacts D)
+      → (is_reply_to (answer same elect x o call) call ≡ true)
+      × ((claim : Refusal → Type 0) → IfRefused (answer same elect x o call) claim)
   of_kind x o (AddNotarization _) = (refl, λ claim. tt)
   of_kind x o (AddNullification _ _) = (refl, λ claim. tt)
   of_kind x o (AddFinalization _ _) = (refl, λ claim. tt)
@@ -76,32 +80,45 @@ module _ {K L D : Type 0} (same : D → D → Bool) (elect : Elect L) where
       pub kept : IfRefused told (λ refused. UnchangedButLifetime m refused left)
       pub grown : HasGrown m left
 
-    refused_so : (due : Fault) (left : MemberFacts K L D) → UnchangedButLifetime m (refusal.Fault due) left → Typed (Refused due) left
-    refused_so due left keeps = record { of_its_kind = refl; answered = tt; kept = keeps; grown = keeps_grown m left (refusal.Fault due) keeps }
+    refused_so : (due : Fault) (left : MemberFacts K L D) → UnchangedButLifetime m (refusal.Fault due) left
+        → Typed (Refused due) left
+    refused_so due left keeps =
+        record { of_its_kind = refl; answered = tt; kept = keeps; grown = keeps_grown m left (refusal.Fault due) keeps }
 
     module _ (x : StateFacts K L D) (alive : m.life ≡ Some x) where
-      by_definition : (b : Bool) → is_allowed x m.outstanding_work call ≡ b → (due : Option Fault) → fault_of x call ≡ due
-          → Typed (cond b (unless_refused due (answer same elect x m.outstanding_work call)) NotAllowed) (cond b (unless_retained due m (with_call same elect x m call)) m)
+      by_definition : (b : Bool) → is_allowed x m.outstanding_work call ≡ b → (due : Option Fault)
+          → fault_of x call ≡ due
+          → Typed (cond b (unless_refused due (answer same elect x m.outstanding_work call)) NotAllowed)
+          (cond b (unless_retained due m (with_call same elect x m call)) m)
       by_definition true allowed None not_due =
           let told = answer same elect x m.outstanding_work call in
           record {
             of_its_kind = (of_kind x m.outstanding_work call).0;
-            answered = so_answered told (record { state = x; alive = alive; allowed = allowed; not_due = not_due; told_so = refl; left_so = refl });
-            kept = (of_kind x m.outstanding_work call).1 (λ refused. UnchangedButLifetime m refused (with_call same elect x m call));
+            answered = so_answered told (record
+                { state = x; alive = alive; allowed = allowed; not_due = not_due; told_so = refl; left_so = refl });
+            kept = (of_kind x m.outstanding_work call).1
+                (λ refused. UnchangedButLifetime m refused (with_call same elect x m call));
             grown = (recorded_by same elect x call, refl);
           }
       by_definition true allowed (Some due) is_due = refused_so due m (keeps_same m m (refusal.Fault due) refl)
-      by_definition false forbidden due is_due = record { of_its_kind = refl; answered = tt; kept = refl; grown = same_grown m m refl }
+      by_definition false forbidden due is_due =
+          record { of_its_kind = refl; answered = tt; kept = refl; grown = same_grown m m refl }
 
-      by_answers : (told : ReplyFacts K D) (left : MemberFacts K L D) → Answers same elect x m call told left → Typed told left
-      by_answers told left (inl (told_so, left_so)) = rw (told_so, left_so) (by_definition (is_allowed x m.outstanding_work call) refl (fault_of x call) refl)
-      by_answers told left (inr (allowed, told_so, inl (needs, same_left))) = rw told_so (refused_so fault.OutOfMemory left (inl same_left))
-      by_answers told left (inr (allowed, told_so, inr (not_due, falls, lost))) = rw told_so (refused_so fault.OutOfMemory left (inr lost))
+      by_answers : (told : ReplyFacts K D) (left : MemberFacts K L D) → Answers same elect x m call told left
+          → Typed told left
+      by_answers told left (inl (told_so, left_so)) =
+          rw (told_so, left_so) (by_definition (is_allowed x m.outstanding_work call) refl (fault_of x call) refl)
+      by_answers told left (inr (allowed, told_so, inl (needs, same_left))) =
+          rw told_so (refused_so fault.OutOfMemory left (inl same_left))
+      by_answers told left (inr (allowed, told_so, inr (not_due, falls, lost))) =
+          rw told_so (refused_so fault.OutOfMemory left (inr lost))
 
-    by_life : (life : Option (StateFacts K L D)) → m.life ≡ life → (told : ReplyFacts K D) (left : MemberFacts K L D) → AnswersAlive same elect life m call told left → Typed told left
+    by_life : (life : Option (StateFacts K L D)) → m.life ≡ life → (told : ReplyFacts K D) (left : MemberFacts K L D)
+        → AnswersAlive same elect life m call told left → Typed told left
     by_life None dead told left (told_so, left_so) = rw (told_so, left_so) (refused_so fault.Failed m refl)
     by_life (Some x) alive told left made = by_answers x alive told left made
 
-    pub typed : (told : ReplyFacts K D) (left : MemberFacts K L D) → IsCall same elect m call told left → Typed told left
+    pub typed : (told : ReplyFacts K D) (left : MemberFacts K L D) → IsCall same elect m call told left
+        → Typed told left
     unfolding IsCall
     typed told left made = by_life m.life refl told left made

@@ -19,30 +19,37 @@ module _ {V : Type 0} where
   none_newest (Some e) room = absurd (false≢true room)
 
   -- the newest is found at its view, and the others elsewhere
-  pub found_newest : (m : map.FinMap nat_cmp V) (k v : ℕ) (x : V) → eqb k v ≡ true → Some x ≡ find nat_cmp v (map.entries (map.insert m k x))
-  found_newest m k v x same = sym (sym (map.get-entries (map.insert m k x) v) ∙ get-insert m k x v ∙ ap (λ b. cond b (Some x) (map.get m v)) at_v)
+  pub found_newest : (m : map.FinMap nat_cmp V) (k v : ℕ) (x : V) → eqb k v ≡ true
+      → Some x ≡ find nat_cmp v (map.entries (map.insert m k x))
+  found_newest m k v x same = sym
+      (sym (map.get-entries (map.insert m k x) v) ∙ get-insert m k x v ∙ ap (λ b. cond b (Some x) (map.get m v)) at_v)
     where
       at_v : eqb v k ≡ true
       at_v = grind (arith, nat_tests)
 
-  pub found_other : (m : map.FinMap nat_cmp V) (k v : ℕ) (x : V) → eqb k v ≡ false → map.get m v ≡ find nat_cmp v (map.entries (map.insert m k x))
-  found_other m k v x other = sym (sym (map.get-entries (map.insert m k x) v) ∙ get-insert m k x v ∙ ap (λ b. cond b (Some x) (map.get m v)) at_v)
+  pub found_other : (m : map.FinMap nat_cmp V) (k v : ℕ) (x : V) → eqb k v ≡ false
+      → map.get m v ≡ find nat_cmp v (map.entries (map.insert m k x))
+  found_other m k v x other = sym
+      (sym (map.get-entries (map.insert m k x) v) ∙ get-insert m k x v ∙ ap (λ b. cond b (Some x) (map.get m v)) at_v)
     where
       at_v : eqb v k ≡ false
       at_v = grind (arith, nat_tests)
 
-  pub entries-insert : (m : map.FinMap nat_cmp V) (v : ℕ) (x : V) → map.entries (map.insert m v x) ≡ put nat_cmp v x (map.entries m)
+  pub entries-insert : (m : map.FinMap nat_cmp V) (v : ℕ) (x : V)
+      → map.entries (map.insert m v x) ≡ put nat_cmp v x (map.entries m)
   entries-insert m v x = map.entries-insert nat_cmp_total m v x
 
   -- a value stored after another was removed
   insert-removed : (m : map.FinMap nat_cmp V) (v : ℕ) (x : V) → map.insert (map.remove m v) v x ≡ map.insert m v x
-  insert-removed m v x = same_maps _ _ (λ q. rw (get-insert (map.remove m v) v x q, get-insert m v x q, get-remove m v q) (by_test (eqb q v) (map.get m q)))
+  insert-removed m v x = same_maps _ _ (λ q.
+      rw (get-insert (map.remove m v) v x q, get-insert m v x q, get-remove m v q) (by_test (eqb q v) (map.get m q)))
     where
       by_test : (b : Bool) (found : Option V) → cond b (Some x) (cond b None found) ≡ cond b (Some x) found
       by_test true found = refl
       by_test false found = refl
 
-  pub entries-put : (m : map.FinMap nat_cmp V) (v : ℕ) (x : V) → map.entries (map.insert (map.remove m v) v x) ≡ put nat_cmp v x (map.entries m)
+  pub entries-put : (m : map.FinMap nat_cmp V) (v : ℕ) (x : V)
+      → map.entries (map.insert (map.remove m v) v x) ≡ put nat_cmp v x (map.entries m)
   entries-put m v x = ap map.entries (insert-removed m v x) ∙ entries-insert m v x
 
   pub none_removed : (m : map.FinMap nat_cmp V) (v : ℕ) → is_some (map.get (map.remove m v) v) ≡ false
@@ -56,11 +63,14 @@ module _ {V : Type 0} where
   without_view v None = None
   without_view v (Some e) = cond (eqb e.0 v) None (Some e)
 
-  pub entries-without : (newest : Option (ℕ × V)) (m : map.FinMap nat_cmp V) (v : ℕ) → map.entries (with_newest (without_view v newest) (map.remove m v)) ≡ filter (λ e. not (eqb e.0 v)) (map.entries (with_newest newest m))
+  pub entries-without : (newest : Option (ℕ × V)) (m : map.FinMap nat_cmp V) (v : ℕ)
+      → map.entries (with_newest (without_view v newest) (map.remove m v)) ≡ filter (λ e. not (eqb e.0 v))
+      (map.entries (with_newest newest m))
   entries-without None m v = entries-remove m v
   entries-without (Some e) m v = ap map.entries (by_view (eqb e.0 v) refl) ∙ entries-remove (map.insert m e.0 e.1) v
     where
-      by_tests : (q : ℕ) (is_v is_e : Bool) (found : Option V) → eqb q v ≡ is_v → eqb q e.0 ≡ is_e → eqb e.0 v ≡ false → cond is_e (Some e.1) (cond is_v None found) ≡ cond is_v None (cond is_e (Some e.1) found)
+      by_tests : (q : ℕ) (is_v is_e : Bool) (found : Option V) → eqb q v ≡ is_v → eqb q e.0 ≡ is_e → eqb e.0 v ≡ false
+          → cond is_e (Some e.1) (cond is_v None found) ≡ cond is_v None (cond is_e (Some e.1) found)
       by_tests q true true found at_v at_e apart = absurd (false≢true (sym apart ∙ both))
         where
           both : eqb e.0 v ≡ true
@@ -69,13 +79,22 @@ module _ {V : Type 0} where
       by_tests q false true found at_v at_e apart = refl
       by_tests q false false found at_v at_e apart = refl
 
-      same_tests : (q : ℕ) (is_v : Bool) (found : Option V) → cond is_v None found ≡ cond is_v None (cond is_v (Some e.1) found)
+      same_tests : (q : ℕ) (is_v : Bool) (found : Option V)
+          → cond is_v None found ≡ cond is_v None (cond is_v (Some e.1) found)
       same_tests q true found = refl
       same_tests q false found = refl
 
-      by_view : (b : Bool) → eqb e.0 v ≡ b → with_newest (cond b None (Some e)) (map.remove m v) ≡ map.remove (map.insert m e.0 e.1) v
-      by_view true is = same_maps _ _ (λ q. rw (get-remove (map.insert m e.0 e.1) v q, get-insert m e.0 e.1 q, get-remove m v q, alike q) (same_tests q (eqb q v) (map.get m q)))
+      by_view : (b : Bool) → eqb e.0 v ≡ b → with_newest (cond b None (Some e)) (map.remove m v) ≡ map.remove
+          (map.insert m e.0 e.1) v
+      by_view true is = same_maps _ _ (λ q. rw
+          (get-remove (map.insert m e.0 e.1) v q, get-insert m e.0 e.1 q, get-remove m v q, alike q)
+          (same_tests q (eqb q v) (map.get m q)))
         where
           alike : (q : ℕ) → eqb q e.0 ≡ eqb q v
           alike q = grind (arith, nat_tests)
-      by_view false is = same_maps _ _ (λ q. rw (get-remove (map.insert m e.0 e.1) v q, get-insert m e.0 e.1 q, get-insert (map.remove m v) e.0 e.1 q, get-remove m v q) (by_tests q (eqb q v) (eqb q e.0) (map.get m q) refl refl is))
+      by_view false is = same_maps _ _ (λ q. rw (
+        get-remove (map.insert m e.0 e.1) v q,
+        get-insert m e.0 e.1 q,
+        get-insert (map.remove m v) e.0 e.1 q,
+        get-remove m v q,
+      ) (by_tests q (eqb q v) (eqb q e.0) (map.get m q) refl refl is))

@@ -19,10 +19,19 @@ Member = MemberFacts ℕ ℕ ℕ
 
 -- a member that failed, whose record was not pruned yet
 abbrev member : List Entry → Member
-member entries = record { life = None; outstanding_work = no_outstanding_work; entries = entries; closed = 0; is_pruned = false; retention = 10; least_retention = 10 }
+member entries = record {
+  life = None;
+  outstanding_work = no_outstanding_work;
+  entries = entries;
+  closed = 0;
+  is_pruned = false;
+  retention = 10;
+  least_retention = 10;
+}
 
 -- pruned entries are gone, and the rest is closed
-behind_the_finalized_view : (cut_member (member (nullify 1 ∷ finalization 20 ∷ [])) 0 true).entries ≡ finalization 20 ∷ []
+behind_the_finalized_view : (cut_member (member (nullify 1 ∷ finalization 20 ∷ [])) 0 true).entries ≡ finalization 20
+    ∷ []
 unfolding may_drop pruned_entries
 behind_the_finalized_view = refl
 
@@ -31,22 +40,26 @@ unfolding may_drop pruned_entries
 closed_now = refl
 
 -- no later drop takes it, only what was recorded since
-not_dropped : (cut_member (record (member (finalization 20 ∷ [])) { closed = 1; is_pruned = true }) 9 true).entries ≡ finalization 20 ∷ []
+not_dropped : (cut_member (record (member (finalization 20 ∷ [])) { closed = 1; is_pruned = true }) 9 true).entries
+    ≡ finalization 20 ∷ []
 unfolding may_drop pruned_entries
 not_dropped = refl
 
-dropped_since : (cut_member (record (member (finalization 20 ∷ nullification 10 ∷ [])) { closed = 1; is_pruned = true }) 1 false).entries ≡ finalization 20 ∷ []
+dropped_since : (cut_member (record (member (finalization 20 ∷ nullification 10 ∷ [])) { closed = 1; is_pruned = true })
+    1 false).entries ≡ finalization 20 ∷ []
 unfolding may_drop
 dropped_since = refl
 
 -- the retention of the lifetime that ended counts, not that of the next one
-kept_by_the_last_life : (cut_member (member (finalization 20 ∷ notarization 12 ∷ [])) 0 true).entries ≡ finalization 20 ∷ notarization 12 ∷ []
+kept_by_the_last_life : (cut_member (member (finalization 20 ∷ notarization 12 ∷ [])) 0 true).entries ≡ finalization 20
+    ∷ notarization 12 ∷ []
 unfolding may_drop pruned_entries
 kept_by_the_last_life = refl
 
 -- a lifetime that retains 5 views takes an entry below those again, until it prunes
 abbrev narrow : StateFacts ℕ ℕ ℕ
-narrow = new_facts (record settings { view_retention = 5 }) (Some 0) (0 ∷ 1 ∷ 2 ∷ 3 ∷ []) 1 (record { term_length = 1; optimistic_views = 0; stall_timeout = None }) true
+narrow = new_facts (record settings { view_retention = 5 }) (Some 0) (0 ∷ 1 ∷ 2 ∷ 3 ∷ []) 1
+    (record { term_length = 1; optimistic_views = 0; stall_timeout = None }) true
 
 abbrev narrow_life : StateFacts ℕ ℕ ℕ
 narrow_life = recovered_state nat_eq in_turn narrow (Genesis 0) 0 (notarization 12 ∷ finalization 20 ∷ [])
@@ -65,13 +78,15 @@ pruned_then = refl
 
 -- within a lifetime an entry stays whose view the state still tracks; after the state's own prune it goes
 abbrev within_life : Member
-within_life = record (member (nullify 2 ∷ notarization 12 ∷ finalization 20 ∷ [])) { life = Some narrow_life; retention = 5; least_retention = 5 }
+within_life = record (member (nullify 2 ∷ notarization 12 ∷ finalization 20 ∷ []))
+    { life = Some narrow_life; retention = 5; least_retention = 5 }
 
 stays_while_tracked : (pruned_member within_life).entries ≡ notarization 12 ∷ finalization 20 ∷ []
 unfolding recovered_state after_kept_entry
 stays_while_tracked = refl
 
-goes_behind_prune : (pruned_member (record within_life { life = Some (after_prune narrow_life) })).entries ≡ finalization 20 ∷ []
+goes_behind_prune : (pruned_member (record within_life { life = Some (after_prune narrow_life) })).entries
+    ≡ finalization 20 ∷ []
 unfolding recovered_state after_kept_entry
 goes_behind_prune = refl
 
@@ -103,8 +118,10 @@ least_of_all_lives : retention_grows (record (member []) { is_pruned = true; lea
 least_of_all_lives = refl
 
 -- a journal that holds fewer entries than were closed has lost some
-lost : has_lost (record { closed = 2; is_pruned = true; retention = 10; least_retention = 10 }) (finalization 20 ∷ []) ≡ true
+lost : has_lost (record { closed = 2; is_pruned = true; retention = 10; least_retention = 10 })
+    (finalization 20 ∷ []) ≡ true
 lost = refl
 
-not_lost : has_lost (record { closed = 1; is_pruned = true; retention = 10; least_retention = 10 }) (finalization 20 ∷ []) ≡ false
+not_lost : has_lost (record { closed = 1; is_pruned = true; retention = 10; least_retention = 10 })
+    (finalization 20 ∷ []) ≡ false
 not_lost = refl

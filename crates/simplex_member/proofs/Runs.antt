@@ -15,7 +15,8 @@ use Rattle.simplex_member.specs.Start.{started_member}
 use Rattle.simplex_member.specs.Runs.{IsSetUp, AreSetUp, StepFacts, is_refusal, IsStep, IsRun, IsRefused, EndsRun, IsRunFrom, EndsRunFrom}
 
 -- no reply says that a restart was refused
-pub replies_answer : {S D K G C : Type 0} (bytes_of : C → List ℕ) (r : Reply S D K G C) → is_refusal (told bytes_of r) ≡ false
+pub replies_answer : {S D K G C : Type 0} (bytes_of : C → List ℕ) (r : Reply S D K G C)
+    → is_refusal (told bytes_of r) ≡ false
 replies_answer bytes_of reply.Unit = refl
 replies_answer bytes_of (reply.Flag taken) = refl
 replies_answer bytes_of (reply.Added newly leader) = refl
@@ -39,50 +40,66 @@ replies_answer bytes_of reply.NotAllowed = refl
 
 module _ {K L D : Type 0} (same : D → D → Bool) (elect : Elect L) where
   -- one more step
-  pub run_extends : (m : MemberFacts K L D) (steps : List (StepFacts K L D)) (replies : List (ReplyFacts K D)) (e : MemberFacts K L D) (step : StepFacts K L D) (told : ReplyFacts K D) (next : MemberFacts K L D)
-      → IsRun same elect m steps replies e → IsStep same elect e step told next → IsRun same elect m (steps ++ step ∷ []) (replies ++ told ∷ []) next
+  pub run_extends : (m : MemberFacts K L D) (steps : List (StepFacts K L D)) (replies : List (ReplyFacts K D))
+      (e : MemberFacts K L D) (step : StepFacts K L D) (told : ReplyFacts K D) (next : MemberFacts K L D)
+      → IsRun same elect m steps replies e → IsStep same elect e step told next
+      → IsRun same elect m (steps ++ step ∷ []) (replies ++ told ∷ []) next
   run_extends m [] [] e step told next is taken = (next, rw is taken, refl)
   run_extends m [] (r ∷ replies) e step told next is taken = absurd is
   run_extends m (s ∷ steps) [] e step told next is taken = absurd is
-  run_extends m (s ∷ steps) (r ∷ replies) e step told next is taken = (is.0, is.1, run_extends is.0 steps replies e step told next is.2 taken)
+  run_extends m (s ∷ steps) (r ∷ replies) e step told next is taken =
+      (is.0, is.1, run_extends is.0 steps replies e step told next is.2 taken)
 
   -- a refused step after those that had replies, whatever comes after it
-  pub run_ends : {R : Type 0} (told_of : R → ReplyFacts K D) (m : MemberFacts K L D) (steps : List (StepFacts K L D)) (replies : List R) (e : MemberFacts K L D) (step : StepFacts K L D) (rest : List (StepFacts K L D)) (found : RecoverError)
-      → ((r : R) → is_refusal (told_of r) ≡ false) → IsRun same elect m steps (map told_of replies) e → IsRefused same elect e step found → EndsRun same elect m (steps ++ step ∷ rest) found
+  pub run_ends : {R : Type 0} (told_of : R → ReplyFacts K D) (m : MemberFacts K L D) (steps : List (StepFacts K L D))
+      (replies : List R) (e : MemberFacts K L D) (step : StepFacts K L D) (rest : List (StepFacts K L D))
+      (found : RecoverError)
+      → ((r : R) → is_refusal (told_of r) ≡ false) → IsRun same elect m steps (map told_of replies) e
+      → IsRefused same elect e step found → EndsRun same elect m (steps ++ step ∷ rest) found
   run_ends told_of m [] [] e step rest found answers is refused = inl (rw is refused)
   run_ends told_of m [] (r ∷ replies) e step rest found answers is refused = absurd is
   run_ends told_of m (s ∷ steps) [] e step rest found answers is refused = absurd is
-  run_ends told_of m (s ∷ steps) (r ∷ replies) e step rest found answers is refused = inr (told_of r, is.0, is.1, answers r, run_ends told_of is.0 steps replies e step rest found answers is.2 refused)
+  run_ends told_of m (s ∷ steps) (r ∷ replies) e step rest found answers is refused =
+      inr (told_of r, is.0, is.1, answers r, run_ends told_of is.0 steps replies e step rest found answers is.2 refused)
 
   module _ (start : StartFacts K L D) (steps : List (StepFacts K L D)) where
     -- a member that started, and took all steps
-    pub run_from : (m : MemberFacts K L D) (replies : List (ReplyFacts K D)) (e : MemberFacts K L D) → m ≡ started_member same elect (new_state start.setup) start.floor start.now → recover_error same (new_state start.setup) start.floor start.now [] ≡ None
+    pub run_from : (m : MemberFacts K L D) (replies : List (ReplyFacts K D)) (e : MemberFacts K L D)
+        → m ≡ started_member same elect (new_state start.setup) start.floor start.now
+        → recover_error same (new_state start.setup) start.floor start.now [] ≡ None
         → IsRun same elect m steps replies e → IsRunFrom same elect start steps replies
     unfolding IsRunFrom
     run_from m replies e begun accepted is = (accepted, e, rw begun at is)
 
     -- a run whose later lifetime was refused
-    pub ends_later : (m : MemberFacts K L D) (found : RecoverError) → m ≡ started_member same elect (new_state start.setup) start.floor start.now → (found ≡ error.OutOfMemory) ⊎ EndsRun same elect m steps found → EndsRunFrom same elect start steps found
+    pub ends_later : (m : MemberFacts K L D) (found : RecoverError)
+        → m ≡ started_member same elect (new_state start.setup) start.floor start.now
+        → (found ≡ error.OutOfMemory) ⊎ EndsRun same elect m steps found → EndsRunFrom same elect start steps found
     unfolding EndsRunFrom
     ends_later m found begun (inl memory) = inl memory
     ends_later m found begun (inr is) = inr (inr (rw begun at is))
 
     -- one that could not start
-    pub ends_at_once : (due : Option RecoverError) (found : RecoverError) → recover_error same (new_state start.setup) start.floor start.now [] ≡ due → IsErrorDue due found → EndsRunFrom same elect start steps found
+    pub ends_at_once : (due : Option RecoverError) (found : RecoverError)
+        → recover_error same (new_state start.setup) start.floor start.now [] ≡ due → IsErrorDue due found
+        → EndsRunFrom same elect start steps found
     unfolding EndsRunFrom
     ends_at_once None found is memory = inl memory
     ends_at_once (Some e) found is refused = inr (inl (is ∙ ap Some (sym refused)))
 
 -- the elements that a loop over a list has met, and the one that it meets next
-pub met_next : {A : Type 0} (items met : List A) (x : A) → met ≡ take (length met) items → length met < length items → x ≡ get_or items (length met) x → items ≡ met ++ x ∷ drop (length met + 1) items
+pub met_next : {A : Type 0} (items met : List A) (x : A) → met ≡ take (length met) items → length met < length items
+    → x ≡ get_or items (length met) x → items ≡ met ++ x ∷ drop (length met + 1) items
 met_next items met x is within at =
     sym (take-append-drop (length met) items) ∙ rw (← is, drop_more items (length met) x within, ← at) refl
 
 module _ {S L D K G C : Type 0} (participants : S → List K) (members : L → ℕ) where
   -- one of the steps
-  pub set_up_at : (steps met : List (Step S L D K G C)) (x : Step S L D K G C) (rest : List (Step S L D K G C)) → steps ≡ met ++ x ∷ rest → AreSetUp participants members steps → IsSetUp participants members x
+  pub set_up_at : (steps met : List (Step S L D K G C)) (x : Step S L D K G C) (rest : List (Step S L D K G C))
+      → steps ≡ met ++ x ∷ rest → AreSetUp participants members steps → IsSetUp participants members x
   set_up_at steps met x rest is all = behind met (rw is at all)
     where
-      behind : (ys : List (Step S L D K G C)) → AreSetUp participants members (ys ++ x ∷ rest) → IsSetUp participants members x
+      behind : (ys : List (Step S L D K G C)) → AreSetUp participants members (ys ++ x ∷ rest)
+          → IsSetUp participants members x
       behind [] all_of = all_of.0
       behind (y ∷ ys) all_of = behind ys all_of.1

@@ -54,7 +54,10 @@ module _ {K L D : Type 0} (x : StateFacts K L D) (v : ℕ) where
   none_to_nullify : may_nullify x v ≡ false → nullify_vote x v ≡ None
   none_to_nullify forbidden = by_key x.me (is_some x.me) (may_nullify x v) forbidden
     where
-      by_key : (me : Option ℕ) (key may : Bool) → may ≡ false → option_and_then {U = Bool × ArtifactFacts D} (λ m. option_map (λ retry. (retry, NullifyVote (round_number x v) m)) (cond (key && may) (Some (is_nullify (round_of x v).decision)) None)) me ≡ None
+      by_key : (me : Option ℕ) (key may : Bool) → may ≡ false
+          → option_and_then {U = Bool × ArtifactFacts D}
+          (λ m. option_map (λ retry. (retry, NullifyVote (round_number x v) m))
+          (cond (key && may) (Some (is_nullify (round_of x v).decision)) None)) me ≡ None
       by_key None key may forbids = refl
       by_key (Some m) true may forbids = rw forbids refl
       by_key (Some m) false may forbids = refl
@@ -63,7 +66,8 @@ module _ {K L D : Type 0} (x : StateFacts K L D) (v : ℕ) where
   round_nullified : may_nullify x v ≡ true → is_nullify (round_of (after_construct_nullify x v) v).decision ≡ true
   round_nullified may =
       let r = after_nullify (round_of x v) in
-      rw may (ap (λ (s : RoundFacts K D). is_nullify s.decision) (round_cast (with_round x v r) ∙ round_of-same x v r) ∙ decided (round_of x v) (nullify_parts x v may).no_finalize)
+      rw may (ap (λ (s : RoundFacts K D). is_nullify s.decision) (round_cast (with_round x v r) ∙ round_of-same x v r)
+      ∙ decided (round_of x v) (nullify_parts x v may).no_finalize)
     where
       decided : (r : RoundFacts K D) → is_finalize r.decision ≡ false → is_nullify (after_nullify r).decision ≡ true
       decided r undecided = rw undecided refl
@@ -71,7 +75,9 @@ module _ {K L D : Type 0} (x : StateFacts K L D) (v : ℕ) where
       round_cast : (y : StateFacts K L D) → round_of (nullify_cast y v) v ≡ round_of y v
       round_cast y = by_key (is_some y.me)
         where
-          by_key : (b : Bool) → round_of (cond b (record y { nullify_votes = (nullify_cast (record y { me = Some 0 }) v).nullify_votes }) y) v ≡ round_of y v
+          by_key : (b : Bool) → round_of (cond b
+              (record y { nullify_votes = (nullify_cast (record y { me = Some 0 }) v).nullify_votes }) y) v ≡ round_of y
+              v
           by_key true = refl
           by_key false = refl
 
@@ -79,29 +85,38 @@ module _ {K L D : Type 0} (elect : Elect L) (x : StateFacts K L D) (v : ℕ) whe
   none_to_finalize : may_finalize elect x v ≡ false → finalize_vote elect x v ≡ None
   none_to_finalize forbidden = by_key x.me (is_some x.me) (may_finalize elect x v) (round_of x v).slot.held forbidden
     where
-      by_key : (me : Option ℕ) (key may : Bool) (held : Option (Proposal D)) → may ≡ false → option_and_then {U = ArtifactFacts D} (λ m. option_map (λ p. FinalizeVote p m) (cond (key && may) held None)) me ≡ None
+      by_key : (me : Option ℕ) (key may : Bool) (held : Option (Proposal D)) → may ≡ false
+          → option_and_then {U = ArtifactFacts D}
+          (λ m. option_map (λ p. FinalizeVote p m) (cond (key && may) held None)) me ≡ None
       by_key None key may held forbids = refl
       by_key (Some m) true may held forbids = rw forbids refl
       by_key (Some m) false may held forbids = refl
 
-  round_finalized : may_finalize elect x v ≡ true → is_finalize (round_of (after_construct_finalize elect x v) v).decision ≡ true
+  round_finalized : may_finalize elect x v ≡ true
+      → is_finalize (round_of (after_construct_finalize elect x v) v).decision ≡ true
   round_finalized may = rw may (ap (λ (s : RoundFacts K D). is_finalize s.decision) (round_of-same x v _))
 
 module _ {K L D : Type 0} (same : D → D → Bool) (elect : Elect L) (x : StateFacts K L D) (v : ℕ) where
   none_to_notarize : may_notarize same elect x v ≡ false → notarize_vote same elect x v ≡ None
-  none_to_notarize forbidden = by_key x.me (is_some x.me) (may_notarize same elect x v) (round_of x v).slot.held forbidden
+  none_to_notarize forbidden = by_key x.me (is_some x.me) (may_notarize same elect x v) (round_of x v).slot.held
+      forbidden
     where
-      by_key : (me : Option ℕ) (key may : Bool) (held : Option (Proposal D)) → may ≡ false → option_and_then {U = ArtifactFacts D} (λ m. option_map (λ p. NotarizeVote p m) (cond (key && may) held None)) me ≡ None
+      by_key : (me : Option ℕ) (key may : Bool) (held : Option (Proposal D)) → may ≡ false
+          → option_and_then {U = ArtifactFacts D}
+          (λ m. option_map (λ p. NotarizeVote p m) (cond (key && may) held None)) me ≡ None
       by_key None key may held forbids = refl
       by_key (Some m) true may held forbids = rw forbids refl
       by_key (Some m) false may held forbids = refl
 
-  round_notarized : may_notarize same elect x v ≡ true → (round_of (after_construct_notarize same elect x v) v).notarize_decided ≡ true
+  round_notarized : may_notarize same elect x v ≡ true
+      → (round_of (after_construct_notarize same elect x v) v).notarize_decided ≡ true
   round_notarized may =
-      rw may (ap (λ (s : RoundFacts K D). s.notarize_decided) (round_of-prepared elect (notarize_cast x v) v ∙ round_of-same x v _))
+      rw may (ap (λ (s : RoundFacts K D). s.notarize_decided)
+      (round_of-prepared elect (notarize_cast x v) v ∙ round_of-same x v _))
 
 -- a value that is there was allowed
-was_allowed : {A : Type 0} (may : Bool) (vote : Option A) (a : A) → (may ≡ false → vote ≡ None) → Some a ≡ vote → may ≡ true
+was_allowed : {A : Type 0} (may : Bool) (vote : Option A) (a : A) → (may ≡ false → vote ≡ None) → Some a ≡ vote
+    → may ≡ true
 was_allowed true vote a forbids is = refl
 was_allowed false vote a forbids is = absurd (nothing (is ∙ forbids refl))
   where
@@ -139,69 +154,93 @@ module _ {K D : Type 0} (r : RoundFacts K D) where
 
 module _ {K L D : Type 0} (same : D → D → Bool) (elect : Elect L) (m left : MemberFacts K L D) (v : ℕ) where
   -- a vote to nullify, as the reply has it
-  module _ (told : Option (Bool × ArtifactFacts D)) (is : IsAnswered same elect m (ConstructNullify v) (Nullify told) left) where
+  module _ (told : Option (Bool × ArtifactFacts D))
+      (is : IsAnswered same elect m (ConstructNullify v) (Nullify told) left) where
     nullify_is : told ≡ nullify_vote is.state v
     nullify_is = nullify_same {K = K} told (nullify_vote is.state v) is.told_so
 
-    pub nullify_decided : {A : Type 0} (f : A → Bool × ArtifactFacts D) (vote : Option A) → told ≡ option_map f vote → IfSome vote (λ _. HasNullifyVote left v)
+    pub nullify_decided : {A : Type 0} (f : A → Bool × ArtifactFacts D) (vote : Option A) → told ≡ option_map f vote
+        → IfSome vote (λ _. HasNullifyVote left v)
     nullify_decided f None so = tt
-    nullify_decided f (Some a) so = has (was_allowed (may_nullify is.state v) (nullify_vote is.state v) (f a) (none_to_nullify is.state v) (sym so ∙ nullify_is))
+    nullify_decided f (Some a) so = has (was_allowed (may_nullify is.state v) (nullify_vote is.state v) (f a)
+        (none_to_nullify is.state v) (sym so ∙ nullify_is))
       where
         has : may_nullify is.state v ≡ true → HasNullifyVote left v
         has may =
-            at_life (λ (x : StateFacts K L D). is_nullify (round_of x v).decision ≡ true) left.life (after_construct_nullify is.state v)
+            at_life (λ (x : StateFacts K L D). is_nullify (round_of x v).decision ≡ true) left.life
+            (after_construct_nullify is.state v)
             (ap (λ (l : MemberFacts K L D). l.life) is.left_so) (round_nullified is.state v may)
 
-    pub nullify_barred : HasFinalizeVote m v → {A : Type 0} (f : A → Bool × ArtifactFacts D) (vote : Option A) → told ≡ option_map f vote → IsNone vote
+    pub nullify_barred : HasFinalizeVote m v → {A : Type 0} (f : A → Bool × ArtifactFacts D) (vote : Option A)
+        → told ≡ option_map f vote → IsNone vote
     nullify_barred was f vote so =
-        let finalized = from_life (λ (x : StateFacts K L D). is_finalize (round_of x v).decision ≡ true) m.life is.state is.alive was in
+        let finalized = from_life (λ (x : StateFacts K L D). is_finalize (round_of x v).decision ≡ true) m.life is.state
+        is.alive was in
         none_told f vote (sym so ∙ nullify_is ∙ none_to_nullify is.state v
         (false_from_ne_true _ (λ may. not_both _ finalized (nullify_parts is.state v may).no_finalize)))
 
   -- a vote to finalize
-  module _ (told : Option (ArtifactFacts D)) (is : IsAnswered same elect m (ConstructFinalize v) (Finalize told) left) where
+  module _ (told : Option (ArtifactFacts D))
+      (is : IsAnswered same elect m (ConstructFinalize v) (Finalize told) left) where
     finalize_is : told ≡ finalize_vote elect is.state v
     finalize_is = finalize_same {K = K} told (finalize_vote elect is.state v) is.told_so
 
-    pub finalize_decided : {A : Type 0} (f : A → ArtifactFacts D) (vote : Option A) → told ≡ option_map f vote → IfSome vote (λ _. HasFinalizeVote left v)
+    pub finalize_decided : {A : Type 0} (f : A → ArtifactFacts D) (vote : Option A) → told ≡ option_map f vote
+        → IfSome vote (λ _. HasFinalizeVote left v)
     finalize_decided f None so = tt
-    finalize_decided f (Some a) so = has (was_allowed (may_finalize elect is.state v) (finalize_vote elect is.state v) (f a) (none_to_finalize elect is.state v) (sym so ∙ finalize_is))
+    finalize_decided f (Some a) so = has (was_allowed (may_finalize elect is.state v) (finalize_vote elect is.state v)
+        (f a) (none_to_finalize elect is.state v) (sym so ∙ finalize_is))
       where
         has : may_finalize elect is.state v ≡ true → HasFinalizeVote left v
         has may =
-            at_life (λ (x : StateFacts K L D). is_finalize (round_of x v).decision ≡ true) left.life (after_construct_finalize elect is.state v)
+            at_life (λ (x : StateFacts K L D). is_finalize (round_of x v).decision ≡ true) left.life
+            (after_construct_finalize elect is.state v)
             (ap (λ (l : MemberFacts K L D). l.life) is.left_so) (round_finalized elect is.state v may)
 
     -- if another decision was made
-    not_pending : (is_pending (round_of is.state v).decision ≡ true → ⊥) → {A : Type 0} (f : A → ArtifactFacts D) (vote : Option A) → told ≡ option_map f vote → IsNone vote
+    not_pending : (is_pending (round_of is.state v).decision ≡ true → ⊥)
+        → {A : Type 0} (f : A → ArtifactFacts D) (vote : Option A) → told ≡ option_map f vote → IsNone vote
     not_pending decided f vote so =
         none_told f vote (sym so ∙ finalize_is ∙ none_to_finalize elect is.state v
         (false_from_ne_true _ (λ may. decided (finalize_parts elect is.state v may).undecided)))
 
-    pub finalize_once : HasFinalizeVote m v → {A : Type 0} (f : A → ArtifactFacts D) (vote : Option A) → told ≡ option_map f vote → IsNone vote
+    pub finalize_once : HasFinalizeVote m v → {A : Type 0} (f : A → ArtifactFacts D) (vote : Option A)
+        → told ≡ option_map f vote → IsNone vote
     finalize_once was =
-        not_pending (finalized_is_decided (round_of is.state v) (from_life (λ (x : StateFacts K L D). is_finalize (round_of x v).decision ≡ true) m.life is.state is.alive was))
+        not_pending (finalized_is_decided (round_of is.state v)
+        (from_life (λ (x : StateFacts K L D). is_finalize (round_of x v).decision ≡ true) m.life is.state is.alive
+        was))
 
-    pub finalize_barred : HasNullifyVote m v → {A : Type 0} (f : A → ArtifactFacts D) (vote : Option A) → told ≡ option_map f vote → IsNone vote
+    pub finalize_barred : HasNullifyVote m v → {A : Type 0} (f : A → ArtifactFacts D) (vote : Option A)
+        → told ≡ option_map f vote → IsNone vote
     finalize_barred was =
-        not_pending (nullified_is_decided (round_of is.state v) (from_life (λ (x : StateFacts K L D). is_nullify (round_of x v).decision ≡ true) m.life is.state is.alive was))
+        not_pending (nullified_is_decided (round_of is.state v)
+        (from_life (λ (x : StateFacts K L D). is_nullify (round_of x v).decision ≡ true) m.life is.state is.alive
+        was))
 
   -- a vote to notarize
-  module _ (told : Option (ArtifactFacts D)) (is : IsAnswered same elect m (ConstructNotarize v) (Notarize told) left) where
+  module _ (told : Option (ArtifactFacts D))
+      (is : IsAnswered same elect m (ConstructNotarize v) (Notarize told) left) where
     notarize_is : told ≡ notarize_vote same elect is.state v
     notarize_is = notarize_same {K = K} told (notarize_vote same elect is.state v) is.told_so
 
-    pub notarize_decided : {A : Type 0} (f : A → ArtifactFacts D) (vote : Option A) → told ≡ option_map f vote → IfSome vote (λ _. HasNotarizeVote left v)
+    pub notarize_decided : {A : Type 0} (f : A → ArtifactFacts D) (vote : Option A) → told ≡ option_map f vote
+        → IfSome vote (λ _. HasNotarizeVote left v)
     notarize_decided f None so = tt
-    notarize_decided f (Some a) so = has (was_allowed (may_notarize same elect is.state v) (notarize_vote same elect is.state v) (f a) (none_to_notarize same elect is.state v) (sym so ∙ notarize_is))
+    notarize_decided f (Some a) so = has (was_allowed (may_notarize same elect is.state v)
+        (notarize_vote same elect is.state v) (f a) (none_to_notarize same elect is.state v) (sym so ∙ notarize_is))
       where
         has : may_notarize same elect is.state v ≡ true → HasNotarizeVote left v
         has may =
-            at_life (λ (x : StateFacts K L D). (round_of x v).notarize_decided ≡ true) left.life (after_construct_notarize same elect is.state v)
+            at_life (λ (x : StateFacts K L D). (round_of x v).notarize_decided ≡ true) left.life
+            (after_construct_notarize same elect is.state v)
             (ap (λ (l : MemberFacts K L D). l.life) is.left_so) (round_notarized same elect is.state v may)
 
-    pub notarize_once : HasNotarizeVote m v → {A : Type 0} (f : A → ArtifactFacts D) (vote : Option A) → told ≡ option_map f vote → IsNone vote
+    pub notarize_once : HasNotarizeVote m v → {A : Type 0} (f : A → ArtifactFacts D) (vote : Option A)
+        → told ≡ option_map f vote → IsNone vote
     notarize_once was f vote so =
-        let decided = from_life (λ (x : StateFacts K L D). (round_of x v).notarize_decided ≡ true) m.life is.state is.alive was in
+        let decided = from_life (λ (x : StateFacts K L D). (round_of x v).notarize_decided ≡ true) m.life is.state
+        is.alive was in
         none_told f vote (sym so ∙ notarize_is ∙ none_to_notarize same elect is.state v
-        (false_from_ne_true _ (λ may. not_both _ (notarize_round same elect is.state v may) (decided_once (round_of is.state v) decided))))
+        (false_from_ne_true _ (λ may. not_both _ (notarize_round same elect is.state v may)
+        (decided_once (round_of is.state v) decided))))

@@ -5,6 +5,7 @@ mod calls;
 mod journal;
 mod life;
 mod outstanding_work;
+mod pending;
 mod prune;
 mod recorded_calls;
 mod refusal;
@@ -12,7 +13,6 @@ mod restart;
 mod resume;
 mod runs;
 mod votes;
-mod pending;
 
 pub use calls::{Call, Reply};
 pub use journal::Stored;

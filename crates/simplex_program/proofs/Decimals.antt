@@ -24,7 +24,8 @@ decimal-IsUnpadded zero small = rw (decimal_digit 0 (omega arith)) (search rules
 decimal-IsUnpadded (suc n) small = high_first _ (first_decimal (suc n) (omega arith) small)
 
 -- what `parse` gives for an unpadded word
-pub reads : {E : Type 0} (bs : List ℕ) (r : Result ℕ E) → ParsesUnsigned 64 10 bs r → IsUnpadded bs → ReadsDecimal bs (result_ok r)
+pub reads : {E : Type 0} (bs : List ℕ) (r : Result ℕ E) → ParsesUnsigned 64 10 bs r → IsUnpadded bs
+    → ReadsDecimal bs (result_ok r)
 reads bs (Ok x) h plain =
     let (no_plus, no_zero) = first_of bs plain in
     let whole : without_leading_plus bs ≡ bs = without_leading_plus_none bs no_plus in

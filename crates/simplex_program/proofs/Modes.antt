@@ -11,7 +11,8 @@ pub no_member : (members me term optimistic : List ℕ) (m : ℕ) → m ≤ 1000
     → ((i : Option ℕ) → IfSome i (λ index. index < m) → me ≢ member_word i)
     → (mode : Mode) → IsServed mode → (codes "voter" ∷ members ∷ me ∷ term ∷ optimistic ∷ []) ≢ mode_words mode
 no_member members me term optimistic m small is none (Voter n i t o) served e =
-    let same : n ≡ m = decimal_injective n m (omega (arith, served.0.1)) (omega arith) (sym (ap (λ l. get_or l 1 []) e) ∙ is) in
+    let same : n ≡ m = decimal_injective n m (omega (arith, served.0.1)) (omega arith)
+    (sym (ap (λ l. get_or l 1 []) e) ∙ is) in
     none i (rw same at served.0.2) (ap (λ l. get_or l 2 []) e)
 no_member members me term optimistic m small is none (Resolver t) served e = absurd (omega (arith, ap length e))
 

@@ -16,7 +16,10 @@ use Rattle.simplex_program.specs.ResolverReplies.{Reports, IsProposedAt, nullifi
 use Rattle.simplex_program.specs.Plain.{round_in_epoch}
 
 -- `made` is the call that was made, `call` the line's call
-pub reported : {E : Type 0} (r : Result Answer E) (x y : ResolverFacts) (fetching left : List ℕ) (v : ℕ) (made call : Call) (es : Vec Effect Global) → 1 ≤ v → made ≡ call → x.is_failed ≡ false → es.items ≡ effects x made → y ≡ after x made → IfOk r (λ a. a ≡ Effects es) → OnOk r (IsApplied fetching es.items left) → IfOk r (λ a. Reports x fetching v call a y left)
+pub reported : {E : Type 0} (r : Result Answer E) (x y : ResolverFacts) (fetching left : List ℕ) (v : ℕ)
+    (made call : Call) (es : Vec Effect Global) → 1 ≤ v → made ≡ call → x.is_failed ≡ false → es.items ≡ effects x made
+    → y ≡ after x made → IfOk r (λ a. a ≡ Effects es) → OnOk r (IsApplied fetching es.items left)
+    → IfOk r (λ a. Reports x fetching v call a y left)
 reported (Err e) x y fetching left v made call es above same live told is answer applied = tt
 reported (Ok a) x y fetching left v made call es above same live told is answer applied =
     rw (answer, ← same) ((λ zero. absurd (lt_irrefl _ (rw zero at above))), (λ _. (live, told, is, applied)))
@@ -25,8 +28,11 @@ reported (Ok a) x y fetching left v made call es above same live told is answer 
 pub named_at : (v : ℕ) (p : Proposal PlainDigest) → IsProposedAt v p → highest_named p ≡ v
 named_at v p at = rw (at.round, at.parent) (max-eq_left (omega arith))
 
-pub same_verdict : (v : ℕ) (success : Bool) (p : Proposal PlainDigest) (good : Bool) → IsProposedAt v p → good ≡ true → verdict digest_bytes (record { proposal = p; bytes = cond good 1 0 ∷ [] }) success ≡ verdict_call v success
+pub same_verdict : (v : ℕ) (success : Bool) (p : Proposal PlainDigest) (good : Bool) → IsProposedAt v p → good ≡ true
+    → verdict digest_bytes (record { proposal = p; bytes = cond good 1 0 ∷ [] }) success ≡ verdict_call v success
 same_verdict v success p good at is = rw (at.round, at.parent, at.payload, is) refl
 
-pub same_nullification : (v : ℕ) (round : Round) (good : Bool) → round ≡ round_in_epoch v → good ≡ true → update {D = PlainDigest} digest_bytes (Nullified (record { round = round; bytes = cond good 1 0 ∷ [] })) ≡ nullification_call v
+pub same_nullification : (v : ℕ) (round : Round) (good : Bool) → round ≡ round_in_epoch v → good ≡ true
+    → update {D = PlainDigest} digest_bytes (Nullified (record { round = round; bytes = cond good 1 0 ∷ [] }))
+    ≡ nullification_call v
 same_nullification v round good at is = rw (at, is) refl

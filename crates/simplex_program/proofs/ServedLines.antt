@@ -30,35 +30,45 @@ appended_kept (Some a) (Some b) (Some c) xs p q = q ∙ p
 abbrev pub IsWritten : Option (List ℕ) → Option (List ℕ) → List ℕ → List ℕ → Type 0
 IsWritten old new bytes rest = (front : List ℕ) × (bytes ≡ front ++ rest) × Appends old new front
 
-pub more_written : (a b c : Option (List ℕ)) (bytes rest left : List ℕ) (n : ℕ) → IsWritten a b bytes rest → Appends b c (take n rest) → left ≡ drop n rest → IsWritten a c bytes left
+pub more_written : (a b c : Option (List ℕ)) (bytes rest left : List ℕ) (n : ℕ) → IsWritten a b bytes rest
+    → Appends b c (take n rest) → left ≡ drop n rest → IsWritten a c bytes left
 more_written a b c bytes rest left n before now is =
     let whole : bytes ≡ (before.0 ++ take n rest) ++ drop n rest =
-    before.1 ∙ (ap (λ (others : List ℕ). before.0 ++ others) (sym (take-append-drop n rest)) ∙ sym (append_assoc before.0 (take n rest) (drop n rest))) in
+    before.1 ∙ (ap (λ (others : List ℕ). before.0 ++ others) (sym (take-append-drop n rest))
+    ∙ sym (append_assoc before.0 (take n rest) (drop n rest))) in
     rw is (before.0 ++ take n rest, whole, appended a b c before.0 (take n rest) before.2 now)
 
-pub as_much_written : (a b c : Option (List ℕ)) (bytes rest left : List ℕ) → IsWritten a b bytes rest → Keeps b c → left ≡ rest → IsWritten a c bytes left
-as_much_written a b c bytes rest left before now is = rw is (before.0, before.1, appended_kept a b c before.0 before.2 now)
+pub as_much_written : (a b c : Option (List ℕ)) (bytes rest left : List ℕ) → IsWritten a b bytes rest → Keeps b c
+    → left ≡ rest → IsWritten a c bytes left
+as_much_written a b c bytes rest left before now is =
+    rw is (before.0, before.1, appended_kept a b c before.0 before.2 now)
 
-pub front_written : (a b c : Option (List ℕ)) (bytes rest : List ℕ) → IsWritten a b bytes rest → Keeps b c → AppendsFront a c bytes
+pub front_written : (a b c : Option (List ℕ)) (bytes rest : List ℕ) → IsWritten a b bytes rest → Keeps b c
+    → AppendsFront a c bytes
 front_written a b c bytes rest before now = (before.0, rest, before.1, appended_kept a b c before.0 before.2 now)
 
-pub front_and_more_written : (a b c : Option (List ℕ)) (bytes rest : List ℕ) (n : ℕ) → IsWritten a b bytes rest → Appends b c (take n rest) → AppendsFront a c bytes
+pub front_and_more_written : (a b c : Option (List ℕ)) (bytes rest : List ℕ) (n : ℕ) → IsWritten a b bytes rest
+    → Appends b c (take n rest) → AppendsFront a c bytes
 front_and_more_written a b c bytes rest n before now =
     let all = more_written a b c bytes rest (drop n rest) n before now refl in (all.0, drop n rest, all.1, all.2)
 
-pub all_written : (a b c : Option (List ℕ)) (bytes rest : List ℕ) → true ≡ eqb (length rest) 0 → IsWritten a b bytes rest → Keeps b c → Appends a c bytes
+pub all_written : (a b c : Option (List ℕ)) (bytes rest : List ℕ) → true ≡ eqb (length rest) 0
+    → IsWritten a b bytes rest → Keeps b c → Appends a c bytes
 all_written a b c bytes [] empty before now =
     let whole : bytes ≡ before.0 = before.1 ∙ append-nil before.0 in
     rw whole (appended_kept a b c before.0 before.2 now)
 all_written a b c bytes (x ∷ rest) empty before now =
-    let full : eqb (length (x ∷ rest)) 0 ≡ false = ne_eqb (length (x ∷ rest)) 0 (λ (zero : length (x ∷ rest) ≡ 0). absurd (omega (arith, zero))) in
+    let full : eqb (length (x ∷ rest)) 0 ≡ false =
+    ne_eqb (length (x ∷ rest)) 0 (λ (zero : length (x ∷ rest) ≡ 0). absurd (omega (arith, zero))) in
     absurd (cc (empty, full))
 
 -- a text and a line feed in place of what stood there
-pub line_written : (o : Option (List ℕ)) (old new : List ℕ) → old ≡ [] → AppendsText old new (with_newline o) → IfSome o (λ text. new ≡ reply_line text)
+pub line_written : (o : Option (List ℕ)) (old new : List ℕ) → old ≡ [] → AppendsText old new (with_newline o)
+    → IfSome o (λ text. new ≡ reply_line text)
 line_written None old new empty written = tt
 line_written (Some text) old new empty written = written ∙ ap (λ (front : List ℕ). front ++ (text ++ 10 ∷ [])) empty
 
-pub one_more : (p : Point) (lines : List (List ℕ)) (q : Point) (line : List ℕ) (r : Point) → AreAnswered p lines q → IsLineAnswered q line r → AreAnswered p (lines ++ line ∷ []) r
+pub one_more : (p : Point) (lines : List (List ℕ)) (q : Point) (line : List ℕ) (r : Point) → AreAnswered p lines q
+    → IsLineAnswered q line r → AreAnswered p (lines ++ line ∷ []) r
 one_more p [] q line r before now = (r, subst (λ (x : Point). IsLineAnswered x line r) (sym before) now, refl)
 one_more p (first ∷ lines) q line r before now = (before.0, before.1, one_more before.0 lines q line r before.2 now)

@@ -9,11 +9,13 @@ use Rattle.simplex_program.specs.ResolverLine as resolver
 use Rattle.simplex_program.specs.VoterLine.{voter_words, ReadsVoterLine, ReadsVoterLineOf}
 
 -- the words of a line are as many as the line has
-pub of_count : (words : List (List ℕ)) (r : Option VoterLine) → ReadsVoterLineOf (length words) words r → ReadsVoterLine words r
+pub of_count : (words : List (List ℕ)) (r : Option VoterLine) → ReadsVoterLineOf (length words) words r
+    → ReadsVoterLine words r
 of_count words None none = λ line small is. none line (ap length (sym is)) small is
 of_count words (Some line) is = is
 
-pub resolver_of_count : (words : List (List ℕ)) (r : Option ResolverLine) → resolver.ReadsLineOf (length words) words r → resolver.ReadsLine words r
+pub resolver_of_count : (words : List (List ℕ)) (r : Option ResolverLine) → resolver.ReadsLineOf (length words) words r
+    → resolver.ReadsLine words r
 resolver_of_count words None none = λ line small is. none line (ap length (sym is)) small is
 resolver_of_count words (Some line) is = is
 
@@ -65,6 +67,7 @@ pub one_part : {X : Type 0} (p : X → Bool) (xs : List X) → position_or_len p
 one_part p [] is = refl
 one_part {X} p (x ∷ xs) is = by_test (one_part p xs) (p x) refl
   where
-    by_test : (position_or_len p xs ≡ length xs → slice_split p xs ≡ xs ∷ []) → (b : Bool) → p x ≡ b → slice_split p (x ∷ xs) ≡ (x ∷ xs) ∷ []
+    by_test : (position_or_len p xs ≡ length xs → slice_split p xs ≡ xs ∷ []) → (b : Bool) → p x ≡ b
+        → slice_split p (x ∷ xs) ≡ (x ∷ xs) ∷ []
     by_test rest true here = absurd (let none = rw here at is in omega (arith, none))
     by_test rest false here = let more = rw here at is in rw here (ap (onto_first x) (rest (omega (arith, more))))

@@ -1,4 +1,5 @@
--- Records: the first rule that each breaks, and what is cut from it; in epoch 1, for member 0 unless said. Payloads are numbers.
+-- Records: the first rule that each breaks, and what is cut from it; in epoch 1, for member 0 unless said. Payloads are
+-- numbers.
 use Rattle.std.proofs.Common.{◌≡◌, refl, ℕ, ◌-◌, ◌^◌, Bool, true, false, List, [], ◌∷◌, Option, Some, None, nat_eq}
 use Rattle.simplex_types.specs.Certificates.{Notarized, Nullified, Finalized, ArtifactFacts, NotarizeVote, NullifyVote, FinalizeVote, Verdict, Accepted}
 use Rattle.simplex_types.specs.Config.{FloorFacts, Genesis, Finalized as FinalizedFloor}
@@ -43,7 +44,8 @@ abbrev pub finalize : ℕ → Entry
 finalize v = FinalizeVote (proposal v (v - 1) 0) 0
 
 abbrev pub floor_at : ℕ → ℕ → FloorFacts ℕ
-floor_at epoch v = FinalizedFloor (record { proposal = record { round = record { epoch = epoch; view = v }; parent = v - 1; payload = 0 }; bytes = [] })
+floor_at epoch v = FinalizedFloor (record
+    { proposal = record { round = record { epoch = epoch; view = v }; parent = v - 1; payload = 0 }; bytes = [] })
 
 abbrev broken : List Entry → Option RecoverError
 broken entries = first_recover_error nat_eq 1 (Some 0) (Genesis 0) entries
@@ -52,7 +54,8 @@ out_of_order : broken (nullification 3 ∷ nullification 2 ∷ []) ≡ Some erro
 unfolding first_recover_error
 out_of_order = refl
 
-other_epoch : broken (NotarizeVote (record { round = record { epoch = 2; view = 3 }; parent = 3; payload = 0 }) 0 ∷ []) ≡ Some error.OtherEpoch
+other_epoch : broken (NotarizeVote (record { round = record { epoch = 2; view = 3 }; parent = 3; payload = 0 }) 0 ∷ [])
+    ≡ Some error.OtherEpoch
 unfolding first_recover_error
 other_epoch = refl
 
@@ -90,19 +93,23 @@ unfolding first_recover_error
 notarization_too_late = refl
 
 -- also below the floor
-verdict_below_the_floor : first_recover_error nat_eq 1 (Some 0) (floor_at 1 20) (verdict 5 true ∷ []) ≡ Some error.VerdictWithoutNotarization
+verdict_below_the_floor : first_recover_error nat_eq 1 (Some 0) (floor_at 1 20) (verdict 5 true ∷ []) ≡ Some
+    error.VerdictWithoutNotarization
 unfolding first_recover_error
 verdict_below_the_floor = refl
 
-contradicting_verdicts : broken (notarization 3 ∷ verdict 3 true ∷ verdict 3 false ∷ []) ≡ Some error.ContradictingVerdicts
+contradicting_verdicts : broken (notarization 3 ∷ verdict 3 true ∷ verdict 3 false ∷ []) ≡ Some
+    error.ContradictingVerdicts
 unfolding first_recover_error
 contradicting_verdicts = refl
 
-nullify_beside_finalize : broken (notarization 3 ∷ verdict 3 true ∷ nullify 3 ∷ finalize 3 ∷ []) ≡ Some error.NullifyBesideFinalize
+nullify_beside_finalize : broken (notarization 3 ∷ verdict 3 true ∷ nullify 3 ∷ finalize 3 ∷ []) ≡ Some
+    error.NullifyBesideFinalize
 unfolding first_recover_error
 nullify_beside_finalize = refl
 
-finalize_beside_nullify : broken (notarization 3 ∷ verdict 3 true ∷ finalize 3 ∷ nullify 3 ∷ []) ≡ Some error.NullifyBesideFinalize
+finalize_beside_nullify : broken (notarization 3 ∷ verdict 3 true ∷ finalize 3 ∷ nullify 3 ∷ []) ≡ Some
+    error.NullifyBesideFinalize
 unfolding first_recover_error
 finalize_beside_nullify = refl
 
@@ -110,20 +117,24 @@ contradicting_votes : broken (notarize 3 2 7 ∷ notarize 3 2 8 ∷ []) ≡ Some
 unfolding first_recover_error
 contradicting_votes = refl
 
-contradicting_votes_to_finalize : broken (notarization 3 ∷ verdict 3 true ∷ finalize 3 ∷ FinalizeVote (proposal 3 2 8) 0 ∷ []) ≡ Some error.ContradictingVotes
+contradicting_votes_to_finalize : broken (notarization 3 ∷ verdict 3 true ∷ finalize 3 ∷ FinalizeVote (proposal 3 2 8) 0
+    ∷ []) ≡ Some error.ContradictingVotes
 unfolding first_recover_error
 contradicting_votes_to_finalize = refl
 
-finalize_without_verdict : broken (notarization 3 ∷ finalize 3 ∷ verdict 3 true ∷ []) ≡ Some error.FinalizeWithoutVerdict
+finalize_without_verdict : broken (notarization 3 ∷ finalize 3 ∷ verdict 3 true ∷ []) ≡ Some
+    error.FinalizeWithoutVerdict
 unfolding first_recover_error
 finalize_without_verdict = refl
 
-finalize_after_a_false_verdict : broken (notarization 3 ∷ verdict 3 false ∷ finalize 3 ∷ []) ≡ Some error.FinalizeWithoutVerdict
+finalize_after_a_false_verdict : broken (notarization 3 ∷ verdict 3 false ∷ finalize 3 ∷ []) ≡ Some
+    error.FinalizeWithoutVerdict
 unfolding first_recover_error
 finalize_after_a_false_verdict = refl
 
 -- the floor comes first
-floor_of_another_epoch : first_recover_error nat_eq 1 (Some 0) (floor_at 2 20) (nullification 0 ∷ []) ≡ Some error.OtherEpoch
+floor_of_another_epoch : first_recover_error nat_eq 1 (Some 0) (floor_at 2 20) (nullification 0 ∷ []) ≡ Some
+    error.OtherEpoch
 unfolding first_recover_error
 floor_of_another_epoch = refl
 
@@ -156,13 +167,15 @@ dropped_one : without_last 0 1 (nullify 1 ∷ notarization 1 ∷ verdict 1 true 
 unfolding may_drop
 dropped_one = refl
 
-dropped_to_what_is_closed : without_last 2 9 (notarization 1 ∷ verdict 1 true ∷ nullification 2 ∷ []) ≡ notarization 1 ∷ verdict 1 true ∷ []
+dropped_to_what_is_closed : without_last 2 9 (notarization 1 ∷ verdict 1 true ∷ nullification 2 ∷ []) ≡ notarization 1
+    ∷ verdict 1 true ∷ []
 unfolding may_drop
 dropped_to_what_is_closed = refl
 
 -- a pruning removes the entries below the highest finalized view by more than the retention, votes too
 
-pruned_below_the_retention : pruned_entries 10 (nullify 1 ∷ finalization 20 ∷ notarization 9 ∷ notarization 10 ∷ []) ≡ finalization 20 ∷ notarization 10 ∷ []
+pruned_below_the_retention : pruned_entries 10
+    (nullify 1 ∷ finalization 20 ∷ notarization 9 ∷ notarization 10 ∷ []) ≡ finalization 20 ∷ notarization 10 ∷ []
 unfolding pruned_entries
 pruned_below_the_retention = refl
 

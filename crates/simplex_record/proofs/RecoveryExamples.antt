@@ -1,4 +1,5 @@
--- Recoveries by the definitions, of four members in terms of one view, of whom this is member 0. Keys, payloads and signatures are numbers; 10 views
+-- Recoveries by the definitions, of four members in terms of one view, of whom this is member 0. Keys, payloads and
+-- signatures are numbers; 10 views
 -- are retained.
 use Rattle.std.proofs.Common.{◌≡◌, refl, ℕ, ◌%◌, true, false, List, [], ◌∷◌, Some, None, nat_eq, is_some}
 use Rattle.simplex_types.specs.Terms.{term_index}
@@ -27,7 +28,8 @@ settings = record {
 }
 
 abbrev fresh : StateFacts ℕ ℕ ℕ
-fresh = new_facts settings (Some 0) (0 ∷ 1 ∷ 2 ∷ 3 ∷ []) 1 (record { term_length = 1; optimistic_views = 0; stall_timeout = None }) true
+fresh = new_facts settings (Some 0) (0 ∷ 1 ∷ 2 ∷ 3 ∷ []) 1
+    (record { term_length = 1; optimistic_views = 0; stall_timeout = None }) true
 
 abbrev state_of : FloorFacts ℕ → List Entry → StateFacts ℕ ℕ ℕ
 state_of floor entries = recovered_state nat_eq in_turn fresh floor 0 entries
@@ -37,7 +39,8 @@ floor_far_ahead : (state_of (floor_at 1 20) (nullification 3 ∷ notarization 15
 unfolding recovered_state after_kept_entry
 floor_far_ahead = refl
 
-kept_above_the_floor : is_some (notarization_of (state_of (floor_at 1 20) (nullification 3 ∷ notarization 15 ∷ [])) 15) ≡ true
+kept_above_the_floor : is_some (notarization_of (state_of (floor_at 1 20) (nullification 3 ∷ notarization 15 ∷ [])) 15)
+    ≡ true
 unfolding recovered_state after_kept_entry
 kept_above_the_floor = refl
 
@@ -61,11 +64,14 @@ unfolding recovered_state after_kept_entry may_nullify
 nullify_again = refl
 
 no_finalize : finalize_answer in_turn (state_of (Genesis 0) (nullify 1 ∷ notarization 1 ∷ verdict 1 true ∷ [])) 1 ≡ None
-unfolding recovered_state after_kept_entry may_finalize is_admitted has_conflicting_nullify required_certification_parent
+unfolding recovered_state after_kept_entry may_finalize is_admitted has_conflicting_nullify
+    required_certification_parent
 no_finalize = refl
 
-finalize_once : finalize_answer in_turn (state_of (Genesis 0) (notarization 1 ∷ verdict 1 true ∷ finalize 1 ∷ [])) 1 ≡ None
-unfolding recovered_state after_kept_entry may_finalize is_admitted has_conflicting_nullify required_certification_parent
+finalize_once : finalize_answer in_turn (state_of (Genesis 0) (notarization 1 ∷ verdict 1 true ∷ finalize 1 ∷ []))
+    1 ≡ None
+unfolding recovered_state after_kept_entry may_finalize is_admitted has_conflicting_nullify
+    required_certification_parent
 finalize_once = refl
 
 -- a deadline that passes 64 bits, after the rules of the record
@@ -73,7 +79,8 @@ too_late : recover_error nat_eq fresh (Genesis 0) 18446744073709551615 (nullify 
 unfolding first_recover_error
 too_late = refl
 
-broken_and_late : recover_error nat_eq fresh (Genesis 0) 18446744073709551615 (nullification 0 ∷ []) ≡ Some error.ZeroView
+broken_and_late : recover_error nat_eq fresh (Genesis 0) 18446744073709551615 (nullification 0 ∷ []) ≡ Some
+    error.ZeroView
 unfolding first_recover_error
 broken_and_late = refl
 

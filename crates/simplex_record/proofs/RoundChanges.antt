@@ -39,7 +39,8 @@ module _ {K D : Type 0} where
     finalized = q.finalized ∙ p.finalized;
   }
 
-  grows_where : (r : RoundFacts K D) (b : Bool) (s t : RoundFacts K D) → RoundGrows r s → RoundGrows r t → RoundGrows r (if b then s else t)
+  grows_where : (r : RoundFacts K D) (b : Bool) (s t : RoundFacts K D) → RoundGrows r s → RoundGrows r t
+      → RoundGrows r (if b then s else t)
   grows_where r true s t p q = p
   grows_where r false s t p q = q
 
@@ -52,17 +53,30 @@ aborted_judged Aborted b = refl
 
 module _ {K D : Type 0} where
   pub latch_grows : (r : RoundFacts K D) (now : ℕ) (reason : TimeoutReason) → RoundGrows r (with_latch r now reason)
-  latch_grows r now reason = record { me = refl; notarized = λ h. h; judged = λ b. refl; nullified = latched_nullify r.decision (now, reason); finalized = latched_finalize r.decision (now, reason) }
+  latch_grows r now reason = record {
+    me = refl;
+    notarized = λ h. h;
+    judged = λ b. refl;
+    nullified = latched_nullify r.decision (now, reason);
+    finalized = latched_finalize r.decision (now, reason);
+  }
 
   pub ended_grows : (r : RoundFacts K D) → RoundGrows r (record r { certification = after_abort r.certification })
-  ended_grows r = record { me = refl; notarized = λ h. h; judged = aborted_judged r.certification; nullified = refl; finalized = refl }
+  ended_grows r = record {
+    me = refl;
+    notarized = λ h. h;
+    judged = aborted_judged r.certification;
+    nullified = refl;
+    finalized = refl;
+  }
 
   token_grows : (r : RoundFacts K D) → RoundGrows r (without_token r)
   token_grows r = grows_where r (is_some (token_of r.certification)) _ r (ended_grows r) (alike r)
 
   module _ (same : Proposal D → Proposal D → Bool) where
     -- a notarization that is added is there
-    pub notarization_stands : (r : RoundFacts K D) (c : ProposalFacts D) → is_some (with_notarization same r c).notarization ≡ true
+    pub notarization_stands : (r : RoundFacts K D) (c : ProposalFacts D)
+        → is_some (with_notarization same r c).notarization ≡ true
     notarization_stands r c = stands (is_some r.notarization) refl
       where
         stands : (b : Bool) → is_some r.notarization ≡ b → is_some (with_notarization same r c).notarization ≡ true
@@ -71,12 +85,16 @@ module _ {K D : Type 0} where
 
 module _ {K L D : Type 0} where
   -- the round of a view after another one was stored
-  pub round_of-put : (x : StateFacts K L D) (v w : ℕ) (r : RoundFacts K D) → round_of (with_round x w r) v ≡ cond (eqb v w) r (round_of x v)
+  pub round_of-put : (x : StateFacts K L D) (v w : ℕ) (r : RoundFacts K D)
+      → round_of (with_round x w r) v ≡ cond (eqb v w) r (round_of x v)
   round_of-put x v w r =
-      ap (λ found. unwrap_or found (new_round x.me x.members (round_number x v))) (find-put nat_cmp nat_cmp_total v w r x.rounds ∙ ap (λ b. cond b (Some r) (find nat_cmp v x.rounds)) (is_eq-nat_cmp v w))
+      ap (λ found. unwrap_or found (new_round x.me x.members (round_number x v)))
+      (find-put nat_cmp nat_cmp_total v w r x.rounds
+      ∙ ap (λ b. cond b (Some r) (find nat_cmp v x.rounds)) (is_eq-nat_cmp v w))
       ∙ chosen (eqb v w)
     where
-      chosen : (b : Bool) → unwrap_or (cond b (Some r) (find nat_cmp v x.rounds)) (new_round x.me x.members (round_number x v)) ≡ cond b r (round_of x v)
+      chosen : (b : Bool) → unwrap_or (cond b (Some r) (find nat_cmp v x.rounds))
+          (new_round x.me x.members (round_number x v)) ≡ cond b r (round_of x v)
       chosen true = refl
       chosen false = refl
 
@@ -84,22 +102,34 @@ module _ {K L D : Type 0} where
   round_of-same x w r = rw (round_of-put x w w r, eq-eqb w w refl) refl
 
   -- another round of a view that grows
-  pub put_grows : (x : StateFacts K L D) (w : ℕ) (r : RoundFacts K D) → RoundGrows (round_of x w) r → (v : ℕ) → RoundGrows (round_of x v) (round_of (with_round x w r) v)
+  pub put_grows : (x : StateFacts K L D) (w : ℕ) (r : RoundFacts K D) → RoundGrows (round_of x w) r → (v : ℕ)
+      → RoundGrows (round_of x v) (round_of (with_round x w r) v)
   put_grows x w r grows v = elim (cases_eq v w) [
     | inl at ↦ rw (at, round_of-same x w r) grows
     | inr apart ↦ rw (round_of-put x v w r, ne_eqb v w apart) (alike (round_of x v))
   ]
 
   -- each round changed by one that grows
-  pub ended_grow : (x : StateFacts K L D) (u v : ℕ) → RoundGrows (round_of x v) (round_of (record x { rounds = map_list (λ e. (e.0, if nat_le e.0 u then without_token e.1 else e.1)) x.rounds }) v)
-  ended_grow x u v = round_changed (λ w r. if nat_le w u then without_token r else r) x v RoundGrows alike (λ r. grows_where r (nat_le v u) (without_token r) r (token_grows r) (alike r))
+  pub ended_grow : (x : StateFacts K L D) (u v : ℕ)
+      → RoundGrows (round_of x v) (round_of
+      (record x { rounds = map_list (λ e. (e.0, if nat_le e.0 u then without_token e.1 else e.1)) x.rounds }) v)
+  ended_grow x u v = round_changed (λ w r. if nat_le w u then without_token r else r) x v RoundGrows alike
+      (λ r. grows_where r (nat_le v u) (without_token r) r (token_grows r) (alike r))
 
   pub entered_grows : (x : StateFacts K L D) (r : RoundFacts K D) (now : ℕ) → RoundGrows r (entered_round x r now)
   entered_grows x r now =
       let l = now + x.settings.leader_timeout in
       let c = now + x.settings.certification_timeout in
-      record { me = refl; notarized = λ h. h; judged = λ b. refl; nullified = armed_nullify r.decision l c; finalized = armed_finalize r.decision l c }
+      record {
+        me = refl;
+        notarized = λ h. h;
+        judged = λ b. refl;
+        nullified = armed_nullify r.decision l c;
+        finalized = armed_finalize r.decision l c;
+      }
 
 module _ {K D : Type 0} where
-  pub retry_grows : (r : RoundFacts K D) (until : ℕ) → awaits_retry r ≡ true → RoundGrows r (record r { decision = Nullify (Some until) })
-  retry_grows r until awaits = let kind = awaited_nullify r awaits in record { me = refl; notarized = λ h. h; judged = λ b. refl; nullified = sym kind.0; finalized = sym kind.1 }
+  pub retry_grows : (r : RoundFacts K D) (until : ℕ) → awaits_retry r ≡ true
+      → RoundGrows r (record r { decision = Nullify (Some until) })
+  retry_grows r until awaits = let kind = awaited_nullify r awaits in
+      record { me = refl; notarized = λ h. h; judged = λ b. refl; nullified = sym kind.0; finalized = sym kind.1 }

@@ -1,5 +1,6 @@
 -- For the laws by steps: the invariants of each event, and those of a run by them.
--- A round that is stored at a view, rounds that are changed by their views, and the decision and verdict after entries, latches, aborts and retries.
+-- A round that is stored at a view, rounds that are changed by their views, and the decision and verdict after entries,
+-- latches, aborts and retries.
 use Rattle.std.proofs.Common.{◌≡◌, refl, ap, sym, ◌∙◌, subst, ℕ, true, false, not, cond, Option, Some, None, is_some, unwrap_or}
 use Rattle.std.specs.Prelude.{map, option_map}
 use Rattle.std.specs.Ordering.{nat_cmp}
@@ -22,10 +23,12 @@ module _ {K L D : Type 0} where
   pub round_put : (x : StateFacts K L D) (v : ℕ) (r : RoundFacts K D) → round_of (with_round x v r) v ≡ r
   round_put x v r =
       ap (λ found. unwrap_or found (new_round x.me x.members (round_number x v)))
-      (find-put nat_cmp nat_cmp_total v v r x.rounds ∙ ap (λ b. cond b (Some r) (find nat_cmp v x.rounds)) (is_eq-nat_cmp v v ∙ eq-eqb v v refl))
+      (find-put nat_cmp nat_cmp_total v v r x.rounds
+      ∙ ap (λ b. cond b (Some r) (find nat_cmp v x.rounds)) (is_eq-nat_cmp v v ∙ eq-eqb v v refl))
 
   pub tracked_put : (x : StateFacts K L D) (v : ℕ) (r : RoundFacts K D) → is_tracked (with_round x v r) v ≡ true
-  tracked_put x v r = ap is_some (find-put nat_cmp nat_cmp_total v v r x.rounds ∙ ap (λ b. cond b (Some r) (find nat_cmp v x.rounds)) (is_eq-nat_cmp v v ∙ eq-eqb v v refl))
+  tracked_put x v r = ap is_some (find-put nat_cmp nat_cmp_total v v r x.rounds
+      ∙ ap (λ b. cond b (Some r) (find nat_cmp v x.rounds)) (is_eq-nat_cmp v v ∙ eq-eqb v v refl))
 
 pub armed_nullify : (d : Decision) (a b : ℕ) → is_nullify (with_decision_deadlines d a b) ≡ is_nullify d
 armed_nullify (decision.Pending _ _ _) a b = refl
@@ -56,8 +59,10 @@ aborted_certified (certification.Judged _) = refl
 aborted_certified certification.Aborted = refl
 
 module _ {K D : Type 0} where
-  pub awaited_nullify : (r : RoundFacts K D) → awaits_retry r ≡ true → (is_nullify r.decision ≡ true) × (is_finalize r.decision ≡ false)
-  awaited_nullify r awaits = by_decision r.decision (and_parts (not (is_some r.finalization)) (has_no_retry r.decision) awaits).1
+  pub awaited_nullify : (r : RoundFacts K D) → awaits_retry r ≡ true
+      → (is_nullify r.decision ≡ true) × (is_finalize r.decision ≡ false)
+  awaited_nullify r awaits = by_decision r.decision
+      (and_parts (not (is_some r.finalization)) (has_no_retry r.decision) awaits).1
     where
       by_decision : (d : Decision) → has_no_retry d ≡ true → (is_nullify d ≡ true) × (is_finalize d ≡ false)
       by_decision (decision.Pending _ _ _) is = absurd (false≢true is)
@@ -77,8 +82,10 @@ module _ {K L D : Type 0} (change : ℕ → RoundFacts K D → RoundFacts K D) (
       by_found (Some r) = refl
 
   -- a relation of each round to itself and to its change
-  pub round_changed : (P : RoundFacts K D → RoundFacts K D → Type 0) → ((r : RoundFacts K D) → P r r) → ((r : RoundFacts K D) → P r (change v r)) → P (round_of x v) (round_of changed v)
-  round_changed P same changes = subst (λ o. P (round_of x v) (unwrap_or o fresh)) (sym (find-changed change v x.rounds)) (by_found (round_at x v))
+  pub round_changed : (P : RoundFacts K D → RoundFacts K D → Type 0) → ((r : RoundFacts K D) → P r r)
+      → ((r : RoundFacts K D) → P r (change v r)) → P (round_of x v) (round_of changed v)
+  round_changed P same changes = subst (λ o. P (round_of x v) (unwrap_or o fresh))
+      (sym (find-changed change v x.rounds)) (by_found (round_at x v))
     where
       fresh : RoundFacts K D
       fresh = new_round x.me x.members (round_number x v)

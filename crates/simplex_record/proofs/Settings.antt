@@ -40,15 +40,19 @@ module _ {T : Type 0} (start : T) where
   IsTold found same_members r = MatchOption (start_error found same_members) (r ≡ Ok start) (λ error. r ≡ Err error)
 
   -- a broken rule
-  pub broken_told : (found : Option ConfigError) (same_members : Bool) (broken : ConfigError) → IsTested found (Err broken) → IsTold found same_members (Err (error.Config broken))
+  pub broken_told : (found : Option ConfigError) (same_members : Bool) (broken : ConfigError)
+      → IsTested found (Err broken) → IsTold found same_members (Err (error.Config broken))
   broken_told None same_members broken tested = cc
   broken_told (Some first) same_members broken tested = cc
 
   -- a number of members that is not that of the participants
-  pub others_told : (found : Option ConfigError) (members participants : ℕ) (t : Unit {0}) → IsTested found (Ok t) → (members ≡ participants → ⊥) → IsTold found (members == participants) (Err error.OtherMembers)
+  pub others_told : (found : Option ConfigError) (members participants : ℕ) (t : Unit {0}) → IsTested found (Ok t)
+      → (members ≡ participants → ⊥) → IsTold found (members == participants) (Err error.OtherMembers)
   others_told None members participants t tested apart = rw (other_number members participants apart) refl
   others_told (Some first) members participants t tested apart = cc
 
-  pub start_told : (found : Option ConfigError) (members participants : ℕ) (t : Unit {0}) (made : T) → IsTested found (Ok t) → members ≡ participants → made ≡ start → IsTold found (members == participants) (Ok made)
-  start_told None members participants t made tested same is = rw (same_number members participants same) (ap (λ s. Ok s) is)
+  pub start_told : (found : Option ConfigError) (members participants : ℕ) (t : Unit {0}) (made : T)
+      → IsTested found (Ok t) → members ≡ participants → made ≡ start → IsTold found (members == participants) (Ok made)
+  start_told None members participants t made tested same is =
+      rw (same_number members participants same) (ap (λ s. Ok s) is)
   start_told (Some first) members participants t made tested same is = cc

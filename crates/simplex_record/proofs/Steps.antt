@@ -89,7 +89,8 @@ pub record IsSilent {K D : Type 0} (e : Event K D) : Type 0 where
   pub final : finalized_by_event e ≡ 0
   pub prune : is_prune e ≡ false
 
--- a view with this decision times out, unless it is certified or to be finalized: it was entered, so its deadlines are set
+-- a view with this decision times out, unless it is certified or to be finalized: it was entered, so its deadlines are
+-- set
 abbrev pub is_timed : Decision → Bool
 is_timed (decision.Pending leader certified latch) = is_some certified
 is_timed (decision.Nullify retry) = true
@@ -104,44 +105,72 @@ module _ {K L D : Type 0} (same : D → D → Bool) (elect : Elect L) (begun : S
     Entered : (now : ℕ) → RoundStep x v r (entered_round x r now)
     Latched : (now : ℕ) (reason : TimeoutReason) → RoundStep x v r (with_latch r now reason)
     -- certificates and verdicts
-    Notarized : (c : ProposalFacts D) → notarization_by e ≡ Some c → c.proposal.round.view ≡ v → is_some r.notarization ≡ false → RoundStep x v r (record (with_recovered (same_proposal same) r c.proposal) { notarization = Some c })
-    Nullified : (c : NullificationFacts) → nullification_by e ≡ Some c → c.round.view ≡ v → is_some r.nullification ≡ false → RoundStep x v r (record r { nullification = Some c })
-    Finalized : (c : ProposalFacts D) → finalization_by e ≡ Some c → c.proposal.round.view ≡ v → is_some r.finalization ≡ false → RoundStep x v r (record (with_recovered (same_proposal same) r c.proposal) { finalization = Some c })
-    Judged : (success : Bool) → verdict_by e ≡ Some (v, success) → (IsEvent begun e → is_judged (not success) r.certification ≡ false) → RoundStep x v r (certified_round r success)
-    Certifying : (token : ℕ) → e ≡ SetCertifyHandle v token → (IsEvent begun e → (success : Bool) → is_judged success r.certification ≡ false) → RoundStep x v r (record r { certification = certification.Outstanding token })
-    Ended : is_some (token_of r.certification) ≡ true → RoundStep x v r (record r { certification = after_abort r.certification })
+    Notarized : (c : ProposalFacts D) → notarization_by e ≡ Some c → c.proposal.round.view ≡ v
+        → is_some r.notarization ≡ false → RoundStep x v r
+        (record (with_recovered (same_proposal same) r c.proposal) { notarization = Some c })
+    Nullified : (c : NullificationFacts) → nullification_by e ≡ Some c → c.round.view ≡ v
+        → is_some r.nullification ≡ false → RoundStep x v r (record r { nullification = Some c })
+    Finalized : (c : ProposalFacts D) → finalization_by e ≡ Some c → c.proposal.round.view ≡ v
+        → is_some r.finalization ≡ false → RoundStep x v r
+        (record (with_recovered (same_proposal same) r c.proposal) { finalization = Some c })
+    Judged : (success : Bool) → verdict_by e ≡ Some (v, success)
+        → (IsEvent begun e → is_judged (not success) r.certification ≡ false)
+        → RoundStep x v r (certified_round r success)
+    Certifying : (token : ℕ) → e ≡ SetCertifyHandle v token
+        → (IsEvent begun e → (success : Bool) → is_judged success r.certification ≡ false)
+        → RoundStep x v r (record r { certification = certification.Outstanding token })
+    Ended : is_some (token_of r.certification) ≡ true
+        → RoundStep x v r (record r { certification = after_abort r.certification })
     -- what is returned for broadcast, or was before it is replayed
-    HandedNotarization : RoundStep x v r (record r { notarization_broadcast = r.notarization_broadcast || is_some r.notarization })
-    HandedNullification : RoundStep x v r (record r { nullification_broadcast = r.nullification_broadcast || is_some r.nullification })
-    HandedFinalization : RoundStep x v r (record r { finalization_broadcast = r.finalization_broadcast || is_some r.finalization })
+    HandedNotarization : RoundStep x v r
+        (record r { notarization_broadcast = r.notarization_broadcast || is_some r.notarization })
+    HandedNullification : RoundStep x v r
+        (record r { nullification_broadcast = r.nullification_broadcast || is_some r.nullification })
+    HandedFinalization : RoundStep x v r
+        (record r { finalization_broadcast = r.finalization_broadcast || is_some r.finalization })
     SentNotarization : RoundStep x v r (record r { notarization_broadcast = true })
     SentNullification : RoundStep x v r (record r { nullification_broadcast = true })
     SentFinalization : RoundStep x v r (record r { finalization_broadcast = true })
     -- votes
-    NullifyDecided : nullify_by e ≡ Some v → (IsEvent begun e → is_finalize r.decision ≡ false) → RoundStep x v r (record r { decision = decision.Nullify None })
-    FinalizeDecided : finalize_by e ≡ Some v → (IsEvent begun e → is_nullify r.decision ≡ false) → RoundStep x v r (record r { decision = decision.Finalize })
-    NotarizeDecided : e ≡ ConstructNotarize v → may_notarize same elect begun v ≡ true → RoundStep x v r (record r { notarize_decided = true })
-    VotedAgain : (p : Proposal D) (binding : Option (Proposal D × D)) → note_by e ≡ Some p → p.round.view ≡ v → (binding ≡ r.binding) ⊎ (binding ≡ restored_binding begun p) → RoundStep x v r (record r { slot = after_own (same_proposal same) r.slot p; notarize_decided = true; binding = binding })
-    Retried : (now interval : ℕ) → e ≡ NextTimeout now → awaits_retry r ≡ true → RoundStep x v r (record r { decision = decision.Nullify (Some (now + interval)) })
+    NullifyDecided : nullify_by e ≡ Some v → (IsEvent begun e → is_finalize r.decision ≡ false)
+        → RoundStep x v r (record r { decision = decision.Nullify None })
+    FinalizeDecided : finalize_by e ≡ Some v → (IsEvent begun e → is_nullify r.decision ≡ false)
+        → RoundStep x v r (record r { decision = decision.Finalize })
+    NotarizeDecided : e ≡ ConstructNotarize v → may_notarize same elect begun v ≡ true
+        → RoundStep x v r (record r { notarize_decided = true })
+    VotedAgain : (p : Proposal D) (binding : Option (Proposal D × D)) → note_by e ≡ Some p → p.round.view ≡ v
+        → (binding ≡ r.binding) ⊎ (binding ≡ restored_binding begun p)
+        → RoundStep x v r
+        (record r { slot = after_own (same_proposal same) r.slot p; notarize_decided = true; binding = binding })
+    Retried : (now interval : ℕ) → e ≡ NextTimeout now → awaits_retry r ≡ true
+        → RoundStep x v r (record r { decision = decision.Nullify (Some (now + interval)) })
     -- proposals
-    Heard : (p : Proposal D) → proposal_by e ≡ Some (v, p) → is_nullify r.decision ≡ false → RoundStep x v r (record r { slot = after_vote (same_proposal same) r.slot p })
-    Marked : e ≡ Verified v → verification_matches same elect begun v ≡ true → is_nullify r.decision ≡ false → RoundStep x v r (record r { slot = after_mark r.slot })
+    Heard : (p : Proposal D) → proposal_by e ≡ Some (v, p) → is_nullify r.decision ≡ false
+        → RoundStep x v r (record r { slot = after_vote (same_proposal same) r.slot p })
+    Marked : e ≡ Verified v → verification_matches same elect begun v ≡ true → is_nullify r.decision ≡ false
+        → RoundStep x v r (record r { slot = after_mark r.slot })
     Asked : (requested : Bool) → RoundStep x v r (record r { slot = build_requested requested r.slot })
-    Built : (context : Context D K) (payload : D) (now : ℕ) → e ≡ Proposed context payload now → proposed_answer same elect begun context payload ≡ true → context.round.view ≡ v → RoundStep x v r (proposed_round same r context payload now)
+    Built : (context : Context D K) (payload : D) (now : ℕ) → e ≡ Proposed context payload now
+        → proposed_answer same elect begun context payload ≡ true → context.round.view ≡ v
+        → RoundStep x v r (proposed_round same r context payload now)
     Requested : (w : ℕ) → e ≡ TryVerify → RoundStep x v r (with_request r w)
-    Verifying : (payload : D) → e ≡ TryVerify → standing same elect begun (v, r) ≡ Ready payload → RoundStep x v r (verifying_round r payload)
+    Verifying : (payload : D) → e ≡ TryVerify → standing same elect begun (v, r) ≡ Ready payload
+        → RoundStep x v r (verifying_round r payload)
     Unbound : is_answer e ≡ true → RoundStep x v r (record r { binding = None })
 
   -- a change of the facts; a view that is not tracked comes to be only from `low` on
   pub data Step (low : ℕ) (x : StateFacts K L D) : StateFacts K L D → Type 0 where
-    Puts : (v : ℕ) (r : RoundFacts K D) → (low ≤ v) ⊎ (is_tracked x v ≡ true) → RoundStep x v (round_of x v) r → Step low x (with_round x v r)
+    Puts : (v : ℕ) (r : RoundFacts K D) → (low ≤ v) ⊎ (is_tracked x v ≡ true) → RoundStep x v (round_of x v) r
+        → Step low x (with_round x v r)
     Moves : (now : ℕ) → Step low x (at_moment x now)
     Founds : (payload : D) → Step low x (record x { genesis = Some payload })
     -- a notarized view waits for certification
-    Names : (v : ℕ) → x.finalized < v → is_some (round_of x v).notarization ≡ true → Step low x (record x { named = insert_key nat_cmp x.named v })
+    Names : (v : ℕ) → x.finalized < v → is_some (round_of x v).notarization ≡ true
+        → Step low x (record x { named = insert_key nat_cmp x.named v })
     Unnames : Step low x (record x { named = [] })
     Covers : (u : ℕ) → covers_from u e ≡ true → Step low x (nullified_also x u)
-    Notes : (u : ℕ) → nullify_by e ≡ Some u → Step low x (record x { nullify_votes = insert_key nat_cmp x.nullify_votes u })
+    Notes : (u : ℕ) → nullify_by e ≡ Some u → Step low x
+        (record x { nullify_votes = insert_key nat_cmp x.nullify_votes u })
     -- a view that was entered is the current one
     Reaches : (v : ℕ) → x.current < v → is_timed (round_of x v).decision ≡ true → Step low x (record x { current = v })
     Raises : (v : ℕ) → finalized_by_event e ≡ v → x.finalized < v → Step low x (record x {
@@ -149,7 +178,8 @@ module _ {K L D : Type 0} (same : D → D → Bool) (elect : Elect L) (begun : S
       named = filter (λ w. nat_lt v w) x.named;
       rounds = map (λ e. (e.0, if nat_le e.0 v then without_token e.1 else e.1)) x.rounds;
     })
-    Scans : e ≡ TryVerify → Step low x (record x { rounds = map (λ e. (e.0, scan_left same elect begun e.0 e.1)) x.rounds })
+    Scans : e ≡ TryVerify
+        → Step low x (record x { rounds = map (λ e. (e.0, scan_left same elect begun e.0 e.1)) x.rounds })
     Prunes : is_prune e ≡ true → Step low x (after_prune x)
 
   -- one after another
@@ -158,6 +188,7 @@ module _ {K L D : Type 0} (same : D → D → Bool) (elect : Elect L) (begun : S
     Then : {y z : StateFacts K L D} → Path low x y → Step low y z → Path low x z
 
   -- a claim that each change keeps holds at the end
-  pub along : (low : ℕ) (P : StateFacts K L D → Type 0) → ((x y : StateFacts K L D) → Step low x y → P x → P y) → (x y : StateFacts K L D) → Path low x y → P x → P y
+  pub along : (low : ℕ) (P : StateFacts K L D → Type 0) → ((x y : StateFacts K L D) → Step low x y → P x → P y)
+      → (x y : StateFacts K L D) → Path low x y → P x → P y
   along low P keeps x y Still p = p
   along low P keeps x y (Then {y = w} path step) p = keeps w y step (along low P keeps x w path p)

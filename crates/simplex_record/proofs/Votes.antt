@@ -25,24 +25,30 @@ module _ {S D K G C : Type 0} (bytes_of : C → List ℕ) where
   no_vote (artifact.Finalization f) is = refl
 
   -- the last artifact is no vote
-  without_the_last : (items : List (Artifact S D K G C)) → not (option_map_or is_vote (slice_get (entries_of bytes_of items) (length (entries_of bytes_of items) - 1)) true) ≡ true → votes_of (take (length items - 1) items) ≡ votes_of items
+  without_the_last : (items : List (Artifact S D K G C))
+      → not (option_map_or is_vote (slice_get (entries_of bytes_of items) (length (entries_of bytes_of items) - 1))
+      true) ≡ true → votes_of (take (length items - 1) items) ≡ votes_of items
   without_the_last [] last = absurd cc
   without_the_last (a ∷ []) last = sym (ap (λ vs. vs ++ []) (no_vote a last))
   without_the_last (a ∷ b ∷ rest) last =
       let n : length (a ∷ b ∷ rest) - 1 ≡ suc (length (b ∷ rest) - 1) = omega arith in
-      let k : length (entries_of bytes_of (a ∷ b ∷ rest)) - 1 ≡ suc (length (entries_of bytes_of (b ∷ rest)) - 1) = omega arith in
+      let k : length (entries_of bytes_of (a ∷ b ∷ rest)) - 1 ≡ suc (length (entries_of bytes_of (b ∷ rest)) - 1) =
+      omega arith in
       rw n (ap (λ vs. signed_vote a ++ vs) (without_the_last (b ∷ rest) (rw k at last)))
 
-  pub votes_undropped : (closed : ℕ) (items : List (Artifact S D K G C)) → may_drop closed (entries_of bytes_of items) ≡ true → votes_of (take (length items - 1) items) ≡ votes_of items
+  pub votes_undropped : (closed : ℕ) (items : List (Artifact S D K G C))
+      → may_drop closed (entries_of bytes_of items) ≡ true → votes_of (take (length items - 1) items) ≡ votes_of items
   unfolding may_drop
-  votes_undropped closed items may = without_the_last items (both (nat_lt closed (length (entries_of bytes_of items))) _ may)
+  votes_undropped closed items may = without_the_last items
+      (both (nat_lt closed (length (entries_of bytes_of items))) _ may)
 
 neither : {A : Type 0} (b : Bool) → [] ≡ cond {A = List A} b [] []
 neither true = refl
 neither false = refl
 
 module _ {S D K G C : Type 0} (stays : ℕ → Bool) where
-  one_stays : (a : Artifact S D K G C) → filter (λ v. stays (entry_view v.vote)) (signed_vote a) ≡ cond (stays (artifact_view a)) (signed_vote a) []
+  one_stays : (a : Artifact S D K G C) → filter (λ v. stays (entry_view v.vote)) (signed_vote a) ≡ cond
+      (stays (artifact_view a)) (signed_vote a) []
   one_stays (artifact.Notarize vote) = refl
   one_stays (artifact.Nullify vote) = refl
   one_stays (artifact.Finalize vote) = refl
@@ -52,12 +58,16 @@ module _ {S D K G C : Type 0} (stays : ℕ → Bool) where
   one_stays (artifact.Finalization f) = neither (stays f.proposal.round.view)
 
   -- the artifacts that remain give the votes that remain
-  pub votes_kept : (items : List (Artifact S D K G C)) → votes_of (filter (λ a. stays (artifact_view a)) items) ≡ filter (λ v. stays (entry_view v.vote)) (votes_of items)
+  pub votes_kept : (items : List (Artifact S D K G C))
+      → votes_of (filter (λ a. stays (artifact_view a)) items) ≡ filter (λ v. stays (entry_view v.vote))
+      (votes_of items)
   votes_kept [] = refl
   votes_kept (a ∷ items) =
       sym (filter-append (λ v. stays (entry_view v.vote)) (signed_vote a) (votes_of items)
       ∙ rw (one_stays a, ← votes_kept items) (by_test (stays (artifact_view a)) refl))
     where
-      by_test : (b : Bool) → stays (artifact_view a) ≡ b → cond (stays (artifact_view a)) (signed_vote a) [] ++ votes_of (filter (λ c. stays (artifact_view c)) items) ≡ votes_of (filter (λ c. stays (artifact_view c)) (a ∷ items))
+      by_test : (b : Bool) → stays (artifact_view a) ≡ b
+          → cond (stays (artifact_view a)) (signed_vote a) [] ++ votes_of
+          (filter (λ c. stays (artifact_view c)) items) ≡ votes_of (filter (λ c. stays (artifact_view c)) (a ∷ items))
       by_test true is = rw is refl
       by_test false is = rw is refl

@@ -18,7 +18,8 @@ use Rattle.simplex_resolver.proofs.Views.{keeps_outstanding}
 use Rattle.simplex_resolver.specs.CallHistory.{LawfulResolverFacts, HasReceivedCalls, IsMade, OpensTheOutstanding, OpensNone, OpensNoneAgain, AnswersTheReceived}
 
 -- a certificate of a view above genesis is passed in by a call that names a view
-pub update_names : {S D K G C : Type 0} (payload_bytes : D → List ℕ) (bytes_of : C → List ℕ) (certificate : Certificate S D K G C)
+pub update_names : {S D K G C : Type 0} (payload_bytes : D → List ℕ) (bytes_of : C → List ℕ)
+    (certificate : Certificate S D K G C)
     → 1 ≤ certificate_view certificate → NamesAView (update payload_bytes (certificate_facts bytes_of certificate))
 update_names payload_bytes bytes_of (Notarization n) h = h
 update_names payload_bytes bytes_of (Nullification n) h = h
@@ -52,22 +53,30 @@ still_told t calls call old new es told names made = record {
 
 -- ---- the laws
 
-pub opens_the_wanted : (r : LawfulResolverFacts) (t : ℕ) (calls : List Call) → HasReceivedCalls t calls r → OpensTheOutstanding r t calls
-opens_the_wanted r t calls told replayed v = told.open_fetches v ∙ outstanding_is_wanted t calls told.long told.named replayed v
+pub opens_the_wanted : (r : LawfulResolverFacts) (t : ℕ) (calls : List Call) → HasReceivedCalls t calls r
+    → OpensTheOutstanding r t calls
+opens_the_wanted r t calls told replayed v = told.open_fetches v
+    ∙ outstanding_is_wanted t calls told.long told.named replayed v
 
 none_there : (vs : List ℕ) → ((v : ℕ) → has vs v ≡ false) → vs ≡ []
 none_there [] none = refl
 none_there (u ∷ us) none = absurd (let here : (u == u || has us u) ≡ false = none u in grind (arith, nat_tests, here))
 
-pub opens_none : (r : LawfulResolverFacts) (t : ℕ) (calls : List Call) → HasReceivedCalls t calls r → OpensNone r t calls
+pub opens_none : (r : LawfulResolverFacts) (t : ℕ) (calls : List Call) → HasReceivedCalls t calls r
+    → OpensNone r t calls
 opens_none r t calls told none =
-    let replaying : (facts_of t calls).replaying ≡ true = (stands t calls told.long told.named).replaying ∙ ap not none in
-    none_there r.open_fetches (λ v. told.open_fetches v ∙ ((all_fetched t calls told.long told.named).at_rest replaying).1 v)
+    let replaying : (facts_of t calls).replaying ≡ true = (stands t calls told.long told.named).replaying
+    ∙ ap not none in
+    none_there r.open_fetches
+    (λ v. told.open_fetches v ∙ ((all_fetched t calls told.long told.named).at_rest replaying).1 v)
 
-pub opens_none_again : (r : LawfulResolverFacts) (t : ℕ) (calls : List Call) → HasReceivedCalls t calls r → OpensNoneAgain r t calls
+pub opens_none_again : (r : LawfulResolverFacts) (t : ℕ) (calls : List Call) → HasReceivedCalls t calls r
+    → OpensNoneAgain r t calls
 opens_none_again r t calls told call before v =
-    ap (λ x. list_any (fetches v) (effects x call)) told.state ∙ recorded_again t calls call told.long told.named before v
+    ap (λ x. list_any (fetches v) (effects x call)) told.state
+    ∙ recorded_again t calls call told.long told.named before v
 
-pub answers_the_told : (r : LawfulResolverFacts) (t : ℕ) (calls : List Call) → HasReceivedCalls t calls r → AnswersTheReceived r t calls
+pub answers_the_told : (r : LawfulResolverFacts) (t : ℕ) (calls : List Call) → HasReceivedCalls t calls r
+    → AnswersTheReceived r t calls
 answers_the_told r t calls told =
     subst (AnswersFit t calls) (sym told.state) (answers_are_of_the_received t calls told.long told.named)

@@ -6,7 +6,8 @@ use Rattle.simplex_resolver.specs.Steps.{Call, Nullification, Notarization, Fina
 use Rattle.simplex_resolver.specs.Repair.{facts_of}
 use Rattle.simplex_resolver.specs.RecordCalls.{all_after}
 
-pub all_after-append : (x : ResolverFacts) (later earlier : List Call) → all_after x (later ++ earlier) ≡ all_after (all_after x earlier) later
+pub all_after-append : (x : ResolverFacts) (later earlier : List Call)
+    → all_after x (later ++ earlier) ≡ all_after (all_after x earlier) later
 all_after-append x [] earlier = refl
 all_after-append x (c ∷ later) earlier = ap (λ y. after y c) (all_after-append x later earlier)
 
@@ -30,16 +31,19 @@ raise_goes_on : (x : ResolverFacts) (v : ℕ) → lasting (after_raise x v) ≡ 
 raise_goes_on x v = either_way (nat_lt x.floor v) _ x (lasting x) refl refl
 
 goes_before_scan : (x : ResolverFacts) (c : Call) → lasting (before_scan x c) ≡ lasting x
-goes_before_scan x (Nullification v e) = either_way (nat_lt (last_finalized x) (term_end (term_length x) v)) _ _ (lasting x) refl refl
+goes_before_scan x (Nullification v e) = either_way (nat_lt (last_finalized x) (term_end (term_length x) v)) _ _
+    (lasting x) refl refl
 goes_before_scan x (Notarization v) = either_way (nat_lt (last_finalized x) v) _ _ (lasting x) refl refl
-goes_before_scan x (Finalization v e) = raise_goes_on (without_finalized (with_stored_finalization x v e) (max (last_finalized x) v)) v
+goes_before_scan x (Finalization v e) = raise_goes_on
+    (without_finalized (with_stored_finalization x v e) (max (last_finalized x) v)) v
 goes_before_scan x (Verdict v e true) =
     raise_goes_on (with_certified x v e) v ∙ either_way (nat_lt (last_finalized x) v) _ x (lasting x) refl refl
 goes_before_scan x (Verdict v e false) = either_way (nat_lt (last_finalized x) v) _ x (lasting x) refl refl
 goes_before_scan x Replayed = refl
 
 continues : (x : ResolverFacts) (c : Call) → lasting (after x c) ≡ lasting x
-continues x (Nullification v e) = scan_goes_on (before_scan x (Nullification v e)) ∙ goes_before_scan x (Nullification v e)
+continues x (Nullification v e) = scan_goes_on (before_scan x (Nullification v e))
+    ∙ goes_before_scan x (Nullification v e)
 continues x (Notarization v) = scan_goes_on (before_scan x (Notarization v)) ∙ goes_before_scan x (Notarization v)
 continues x (Finalization v e) = scan_goes_on (before_scan x (Finalization v e)) ∙ goes_before_scan x (Finalization v e)
 continues x (Verdict v e true) = scan_goes_on (before_scan x (Verdict v e true)) ∙ goes_before_scan x (Verdict v e true)

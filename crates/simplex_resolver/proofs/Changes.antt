@@ -23,12 +23,16 @@ pub record Changed (x : ResolverFacts) (c : Call) (y : ResolverFacts) (s : List 
   pub floor : y.floor ≡ max (floor_raised_to c) x.floor
   pub final : last_finalized y ≡ max (finalized_view c) (last_finalized x)
   -- above the last finalized view
-  pub covered : (v : ℕ) → last_finalized y < v → has_covering y.nullifications v ≡ (is_covering (term_length x) v c || has_covering x.nullifications v)
-  pub failed : (v : ℕ) → last_finalized y < v → finmap.contains_key y.uncertifiable v ≡ (is_false_verdict v c || finmap.contains_key x.uncertifiable v)
-  pub notarized : (v : ℕ) → last_finalized y < v → finmap.contains_key y.notarizations v ≡ (is_notarizing v c || finmap.contains_key x.notarizations v)
+  pub covered : (v : ℕ) → last_finalized y < v
+      → has_covering y.nullifications v ≡ (is_covering (term_length x) v c || has_covering x.nullifications v)
+  pub failed : (v : ℕ) → last_finalized y < v
+      → finmap.contains_key y.uncertifiable v ≡ (is_false_verdict v c || finmap.contains_key x.uncertifiable v)
+  pub notarized : (v : ℕ) → last_finalized y < v
+      → finmap.contains_key y.notarizations v ≡ (is_notarizing v c || finmap.contains_key x.notarizations v)
   pub replaying : y.replaying ≡ (not (is_replayed c) && x.replaying)
   -- the next scan begins where it would have, or just above the floor
-  pub pulled_back : ((y.scanned ≡ x.scanned) × ((y.floor ≡ x.floor) ⊎ (starts_term (term_length x) (y.floor + 1) ≡ true))) ⊎ (y.scanned ≤ y.floor + 1)
+  pub pulled_back : ((y.scanned ≡ x.scanned)
+      × ((y.floor ≡ x.floor) ⊎ (starts_term (term_length x) (y.floor + 1) ≡ true))) ⊎ (y.scanned ≤ y.floor + 1)
   pub still_zero : x.scanned ≡ 0 → y.scanned ≡ 0
   -- the effects
   pub settled : (v : ℕ) → y.floor < v → list_any (settles v) s ≡ is_covering (term_length x) v c
@@ -38,16 +42,20 @@ pub record Changed (x : ResolverFacts) (c : Call) (y : ResolverFacts) (s : List 
 -- ---- certificates but finalizations
 
 -- a view that lies above the end of u's term is not covered
-beyond : (u v end f : ℕ) (covered : Bool) → covered ≡ (nat_le u v && nat_le v end) → false ≡ nat_lt f end → f < v → covered ≡ false
+beyond : (u v end f : ℕ) (covered : Bool) → covered ≡ (nat_le u v && nat_le v end) → false ≡ nat_lt f end → f < v
+    → covered ≡ false
 beyond u v end f covered is low above = grind (arith, nat_tests, is, low)
 
-within : (u v end : ℕ) (covered : Bool) → covered ≡ (nat_le u v && nat_le v end) → ((nat_le u v && nat_le v end) || false) ≡ covered
+within : (u v end : ℕ) (covered : Bool) → covered ≡ (nat_le u v && nat_le v end)
+    → ((nat_le u v && nat_le v end) || false) ≡ covered
 within u v end covered is = grind (arith, is)
 
-by_nullification : (kept : Bool) (x : ResolverFacts) (u : ℕ) (b : List ℕ) → 0 < term_length x → 1 ≤ u → last_finalized x ≤ x.floor
+by_nullification : (kept : Bool) (x : ResolverFacts) (u : ℕ) (b : List ℕ) → 0 < term_length x → 1 ≤ u
+    → last_finalized x ≤ x.floor
     → kept ≡ nat_lt (last_finalized x) (term_end (term_length x) u)
     → Changed x (Nullification u b)
-    (cond kept (record (with_stored_nullification x u b) { current = max x.current u }) (record x { current = max x.current u }))
+    (cond kept (record (with_stored_nullification x u b) { current = max x.current u })
+    (record x { current = max x.current u }))
     (cond kept (Settled OfNullification u (term_end (term_length x) u) ∷ []) [])
 by_nullification true x u b long named final is = record {
   length = refl;
@@ -69,13 +77,16 @@ by_nullification false x u b long named final is = record {
   current = omega arith;
   floor = omega arith;
   final = omega arith;
-  covered = λ v above. ap (λ c. c || has_covering x.nullifications v) (sym (beyond u v (term_end (term_length x) u) (last_finalized x) _ (covers_upto (term_length x) u v long named) is above));
+  covered = λ v above. ap (λ c. c || has_covering x.nullifications v)
+      (sym (beyond u v (term_end (term_length x) u) (last_finalized x) _ (covers_upto (term_length x) u v long named) is
+      above));
   failed = λ v above. refl;
   notarized = λ v above. refl;
   replaying = refl;
   pulled_back = inl (refl, inl refl);
   still_zero = λ none. none;
-  settled = λ v above. sym (beyond u v (term_end (term_length x) u) (last_finalized x) _ (covers_upto (term_length x) u v long named) is (omega arith));
+  settled = λ v above. sym (beyond u v (term_end (term_length x) u) (last_finalized x) _
+      (covers_upto (term_length x) u v long named) is (omega arith));
   settled_low = λ v above low. absurd (omega arith);
   unfetched = λ v. refl;
 }
@@ -89,13 +100,16 @@ fetches_none true u v = refl
 fetches_none false u v = refl
 
 -- the value added at u, if u is above f, read above f
-put_above : (above : Bool) (f u v : ℕ) (before after : Bool) → above ≡ nat_lt f u → f < v → after ≡ (v == u || before) → cond above after before ≡ (v == u || before)
+put_above : (above : Bool) (f u v : ℕ) (before after : Bool) → above ≡ nat_lt f u → f < v → after ≡ (v == u || before)
+    → cond above after before ≡ (v == u || before)
 put_above true f u v before after is h put = put
 put_above false f u v before after is h put = grind (arith, nat_tests, is)
 
-by_notarization : (above settles_it : Bool) (x : ResolverFacts) (u : ℕ) → last_finalized x ≤ x.floor → above ≡ nat_lt (last_finalized x) u
+by_notarization : (above settles_it : Bool) (x : ResolverFacts) (u : ℕ) → last_finalized x ≤ x.floor
+    → above ≡ nat_lt (last_finalized x) u
     → Changed x (Notarization u)
-    (cond above (record x { current = max x.current u; notarizations = insert_new x.notarizations u None }) (record x { current = max x.current u }))
+    (cond above (record x { current = max x.current u; notarizations = insert_new x.notarizations u None })
+    (record x { current = max x.current u }))
     (cond settles_it (Settled OfNotarization u u ∷ []) [])
 by_notarization true settles_it x u final is = record {
   length = refl;
@@ -119,7 +133,8 @@ by_notarization false settles_it x u final is = record {
   final = omega arith;
   covered = λ v above. refl;
   failed = λ v above. refl;
-  notarized = λ v above. put_above false (last_finalized x) u v (finmap.contains_key x.notarizations v) (v == u || finmap.contains_key x.notarizations v) is above refl;
+  notarized = λ v above. put_above false (last_finalized x) u v (finmap.contains_key x.notarizations v)
+      (v == u || finmap.contains_key x.notarizations v) is above refl;
   replaying = refl;
   pulled_back = inl (refl, inl refl);
   still_zero = λ none. none;
@@ -143,13 +158,16 @@ record Lifts (x : ResolverFacts) (y : ResolverFacts) (u : ℕ) (c : Call) (e : E
   live : is_replayed c ≡ false
   final : last_finalized y ≡ max (finalized_view c) (last_finalized x)
   covered : (v : ℕ) → last_finalized y < v → has_covering y.nullifications v ≡ has_covering x.nullifications v
-  failed : (v : ℕ) → last_finalized y < v → finmap.contains_key y.uncertifiable v ≡ finmap.contains_key x.uncertifiable v
-  notarized : (v : ℕ) → last_finalized y < v → finmap.contains_key y.notarizations v ≡ (is_notarizing v c || finmap.contains_key x.notarizations v)
+  failed : (v : ℕ) → last_finalized y < v → finmap.contains_key y.uncertifiable v ≡ finmap.contains_key x.uncertifiable
+      v
+  notarized : (v : ℕ) → last_finalized y < v
+      → finmap.contains_key y.notarizations v ≡ (is_notarizing v c || finmap.contains_key x.notarizations v)
   settled : (v : ℕ) → max u x.floor < v → settles v e ≡ false
   unfetched : (v : ℕ) → fetches v e ≡ false
 
 pulled : (starts : Bool) (t scanned scanned' u floor : ℕ) → scanned' ≡ scanned → starts ≡ starts_term t (u + 1)
-    → ((cond starts scanned' (min scanned' (u + 1)) ≡ scanned) × ((u ≡ floor) ⊎ (starts_term t (u + 1) ≡ true))) ⊎ (cond starts scanned' (min scanned' (u + 1)) ≤ u + 1)
+    → ((cond starts scanned' (min scanned' (u + 1)) ≡ scanned) × ((u ≡ floor) ⊎ (starts_term t (u + 1) ≡ true)))
+    ⊎ (cond starts scanned' (min scanned' (u + 1)) ≤ u + 1)
 pulled true t scanned scanned' u floor same is = inl (same, inr (sym is))
 pulled false t scanned scanned' u floor same is = inr (omega arith)
 
@@ -157,9 +175,11 @@ pulled-zero : (starts : Bool) (scanned u : ℕ) → scanned ≡ 0 → cond start
 pulled-zero true scanned u none = none
 pulled-zero false scanned u none = omega arith
 
-by_raise : (rises : Bool) (x y : ResolverFacts) (u : ℕ) (c : Call) (e : Effect) → rises ≡ nat_lt y.floor u → Lifts x y u c e
+by_raise : (rises : Bool) (x y : ResolverFacts) (u : ℕ) (c : Call) (e : Effect) → rises ≡ nat_lt y.floor u
+    → Lifts x y u c e
     → Changed x c
-    (cond rises (record y { floor = u; scanned = cond (starts_term (term_length y) (u + 1)) y.scanned (min y.scanned (u + 1)) }) y)
+    (cond rises (record y
+    { floor = u; scanned = cond (starts_term (term_length y) (u + 1)) y.scanned (min y.scanned (u + 1)) }) y)
     (e ∷ cond rises (Raised u ∷ []) [])
 by_raise true x y u c e is l = record {
   length = l.length;
@@ -171,7 +191,8 @@ by_raise true x y u c e is l = record {
   notarized = l.notarized;
   replaying = grind (arith, l.replaying, l.live);
   pulled_back = let same : term_length y ≡ term_length x = l.length in
-      pulled (starts_term (term_length y) (u + 1)) (term_length x) x.scanned y.scanned u x.floor l.scanned (ap (λ t. starts_term t (u + 1)) same);
+      pulled (starts_term (term_length y) (u + 1)) (term_length x) x.scanned y.scanned u x.floor l.scanned
+      (ap (λ t. starts_term t (u + 1)) same);
   still_zero = λ none. pulled-zero (starts_term (term_length y) (u + 1)) y.scanned u (l.scanned ∙ none);
   settled = λ v above. grind (arith, nat_tests, is, l.floor, l.covers_none v, l.settled v);
   settled_low = λ v above low. grind (arith, nat_tests);
@@ -199,7 +220,8 @@ last-put true x u b is = grind (arith, nat_tests, is)
 last-put false x u b is = grind (arith, nat_tests, is)
 
 lifted_finalization : (x : ResolverFacts) (u : ℕ) (b : List ℕ) → 0 < term_length x → last_finalized x ≤ x.floor
-    → Lifts x (without_finalized (with_stored_finalization x u b) (max (last_finalized x) u)) u (Finalization u b) (Finalized (max (last_finalized x) u))
+    → Lifts x (without_finalized (with_stored_finalization x u b) (max (last_finalized x) u)) u (Finalization u b)
+    (Finalized (max (last_finalized x) u))
 lifted_finalization x u b long low =
     let last = last-put (nat_lt (last_finalized x) u) x u b refl in
     let finalized = max (last_finalized x) u in record {
@@ -221,7 +243,8 @@ lifted_finalization x u b long low =
     }
 
 lifted_success : (above : Bool) (x : ResolverFacts) (u : ℕ) (b : List ℕ) → above ≡ nat_lt (last_finalized x) u
-    → Lifts x (cond above (record x { notarizations = finmap.insert x.notarizations u (Some b) }) x) u (Verdict u b true) (Settled OfNotarization u u)
+    → Lifts x (cond above (record x { notarizations = finmap.insert x.notarizations u (Some b) }) x) u
+    (Verdict u b true) (Settled OfNotarization u u)
 lifted_success true x u b is = record {
   length = refl;
   floor = refl;
@@ -252,7 +275,8 @@ lifted_success false x u b is = record {
   final = omega arith;
   covered = λ v above. refl;
   failed = λ v above. refl;
-  notarized = λ v above. put_above false (last_finalized x) u v (finmap.contains_key x.notarizations v) (v == u || finmap.contains_key x.notarizations v) is above refl;
+  notarized = λ v above. put_above false (last_finalized x) u v (finmap.contains_key x.notarizations v)
+      (v == u || finmap.contains_key x.notarizations v) is above refl;
   settled = λ v above. refl;
   unfetched = λ v. refl;
 }
@@ -262,14 +286,17 @@ by_success : (above : Bool) (x : ResolverFacts) (u : ℕ) (b : List ℕ) → abo
     (after_raise (cond above (record x { notarizations = finmap.insert x.notarizations u (Some b) }) x) u)
     (Settled OfNotarization u u ∷ raise_effects x u)
 by_success true x u b is =
-    by_raise (nat_lt x.floor u) x (record x { notarizations = finmap.insert x.notarizations u (Some b) }) u (Verdict u b true) (Settled OfNotarization u u) refl (lifted_success true x u b is)
-by_success false x u b is = by_raise (nat_lt x.floor u) x x u (Verdict u b true) (Settled OfNotarization u u) refl (lifted_success false x u b is)
+    by_raise (nat_lt x.floor u) x (record x { notarizations = finmap.insert x.notarizations u (Some b) }) u
+    (Verdict u b true) (Settled OfNotarization u u) refl (lifted_success true x u b is)
+by_success false x u b is = by_raise (nat_lt x.floor u) x x u (Verdict u b true) (Settled OfNotarization u u) refl
+    (lifted_success false x u b is)
 
 -- ---- false verdicts
 
 by_failure : (above : Bool) (x : ResolverFacts) (u : ℕ) (b : List ℕ) → above ≡ nat_lt (last_finalized x) u
     → Changed x (Verdict u b false)
-    (cond above (record x { notarizations = finmap.insert x.notarizations u None; uncertifiable = insert_new x.uncertifiable u tt }) x)
+    (cond above (record x
+    { notarizations = finmap.insert x.notarizations u None; uncertifiable = insert_new x.uncertifiable u tt }) x)
     (Settled OfNotarization u u ∷ [])
 by_failure true x u b is = record {
   length = refl;
@@ -292,8 +319,10 @@ by_failure false x u b is = record {
   floor = omega arith;
   final = omega arith;
   covered = λ v above. refl;
-  failed = λ v above. put_above false (last_finalized x) u v (finmap.contains_key x.uncertifiable v) (v == u || finmap.contains_key x.uncertifiable v) is above refl;
-  notarized = λ v above. put_above false (last_finalized x) u v (finmap.contains_key x.notarizations v) (v == u || finmap.contains_key x.notarizations v) is above refl;
+  failed = λ v above. put_above false (last_finalized x) u v (finmap.contains_key x.uncertifiable v)
+      (v == u || finmap.contains_key x.uncertifiable v) is above refl;
+  notarized = λ v above. put_above false (last_finalized x) u v (finmap.contains_key x.notarizations v)
+      (v == u || finmap.contains_key x.notarizations v) is above refl;
   replaying = refl;
   pulled_back = inl (refl, inl refl);
   still_zero = λ none. none;
@@ -303,12 +332,16 @@ by_failure false x u b is = record {
 }
 
 -- every call
-pub changed : (x : ResolverFacts) (c : Call) → 0 < term_length x → NamesAView c → last_finalized x ≤ x.floor → Changed x c (before_scan x c) (settle_effects x c)
-changed x (Nullification u b) long named final = by_nullification (nat_lt (last_finalized x) (term_end (term_length x) u)) x u b long named final refl
+pub changed : (x : ResolverFacts) (c : Call) → 0 < term_length x → NamesAView c → last_finalized x ≤ x.floor
+    → Changed x c (before_scan x c) (settle_effects x c)
+changed x (Nullification u b) long named final =
+    by_nullification (nat_lt (last_finalized x) (term_end (term_length x) u)) x u b long named final refl
 changed x (Notarization u) long named final =
-    by_notarization (nat_lt (last_finalized x) u) (nat_lt (last_finalized x) u && not (finmap.contains_key x.uncertifiable u)) x u final refl
+    by_notarization (nat_lt (last_finalized x) u)
+    (nat_lt (last_finalized x) u && not (finmap.contains_key x.uncertifiable u)) x u final refl
 changed x (Finalization u b) long named final =
-    by_raise (nat_lt x.floor u) x (without_finalized (with_stored_finalization x u b) (max (last_finalized x) u)) u (Finalization u b) (Finalized (max (last_finalized x) u)) refl
+    by_raise (nat_lt x.floor u) x (without_finalized (with_stored_finalization x u b) (max (last_finalized x) u)) u
+    (Finalization u b) (Finalized (max (last_finalized x) u)) refl
     (lifted_finalization x u b long final)
 changed x (Verdict u b true) long named final =
     by_success (nat_lt (last_finalized x) u) x u b refl

@@ -14,7 +14,8 @@ use Rattle.simplex_resolver.specs.Repair.{facts_of}
 use Rattle.simplex_resolver.specs.Steps.{Call, Nullification, Notarization, Finalization, Verdict, settle_effects}
 use Rattle.simplex_resolver.proofs.Maps.{contains-empty, contains-insert_new}
 
--- a view that is certified and covered is served its notarization, and one that is covered alone the highest nullification
+-- a view that is certified and covered is served its notarization, and one that is covered alone the highest
+-- nullification
 abbrev certified_and_covered : List Call
 certified_and_covered = Nullification 3 (9 ∷ []) ∷ Verdict 3 (8 ∷ []) true ∷ Nullification 2 (7 ∷ []) ∷ []
 
@@ -46,7 +47,8 @@ failed_again = rw (contains-insert_new (empty 5).uncertifiable 3 tt 3) refl
 notarized_again : settle_effects (facts_of 5 (Notarization 3 ∷ [])) (Notarization 3) ≡ Settled OfNotarization 3 3 ∷ []
 notarized_again = rw (contains-empty (Unit {0}) 3) refl
 
--- above the floor the first view and each term's start must be fetched, up to the highest certificate, unless they are covered
+-- above the floor the first view and each term's start must be fetched, up to the highest certificate, unless they are
+-- covered
 abbrev certified_two : List Call
 certified_two = Notarization 17 ∷ Nullification 13 (9 ∷ []) ∷ Nullification 6 (9 ∷ []) ∷ Verdict 2 (8 ∷ []) true ∷ []
 
@@ -54,18 +56,21 @@ wanted : filter (is_needed 5 certified_two) (1 ∷ 2 ∷ 3 ∷ 4 ∷ 6 ∷ 7 ∷
 wanted = refl
 
 -- so are views that a verdict failed, unless they are covered or at the floor
-wanted_by_failure : filter (is_needed 5 (Verdict 14 (8 ∷ []) false ∷ Verdict 8 (8 ∷ []) false ∷ Verdict 4 (8 ∷ []) false ∷ certified_two)) (4 ∷ 8 ∷ 14 ∷ []) ≡ 4 ∷ []
+wanted_by_failure : filter (is_needed 5 (Verdict 14 (8 ∷ []) false ∷ Verdict 8 (8 ∷ []) false ∷ Verdict 4 (8 ∷ []) false
+    ∷ certified_two)) (4 ∷ 8 ∷ 14 ∷ []) ≡ 4 ∷ []
 wanted_by_failure = refl
 
 -- a verdict of a record is on the newest notarization of its view
 abbrev notarized : ℕ → ArtifactFacts ℕ
-notarized payload = Accepted (Notarized (record { proposal = record { round = record { epoch = 1; view = 3 }; parent = 2; payload = payload }; bytes = [] }))
+notarized payload = Accepted (Notarized (record
+    { proposal = record { round = record { epoch = 1; view = 3 }; parent = 2; payload = payload }; bytes = [] }))
 
 newest : option_map (λ n. n.proposal.payload) (newest_notarization 3 (notarized 8 ∷ notarized 7 ∷ [])) ≡ Some 8
 newest = refl
 
 -- and is refused where there is none before it
-without_notarization : record_error (notarized 7 ∷ Judged (record { epoch = 1; view = 3 }) true ∷ []) ≡ Some error.VerdictWithoutNotarization
+without_notarization : record_error (notarized 7 ∷ Judged (record { epoch = 1; view = 3 }) true ∷ []) ≡ Some
+    error.VerdictWithoutNotarization
 without_notarization = refl
 
 after_its_notarization : record_error (Judged (record { epoch = 1; view = 3 }) true ∷ notarized 7 ∷ []) ≡ None

@@ -15,7 +15,8 @@ module _ {V : Type 0} where
     found : find nat_cmp u es ≡ Some x
     highest : (w : ℕ) → is_some (find nat_cmp w es) ≡ true → w ≤ u
 
-  last_rises : (es : List (ℕ × V)) (u : ℕ) (x : V) → Rises es → slice_get es (length es - 1) ≡ Some (u, x) → IsLast es u x
+  last_rises : (es : List (ℕ × V)) (u : ℕ) (x : V) → Rises es → slice_get es (length es - 1) ≡ Some (u, x)
+      → IsLast es u x
   last_rises [] u x r is = absurd (let none : None ≡ Some (u, x) = is in cc)
   last_rises (e ∷ []) u x r is =
       let same : Some e ≡ Some (u, x) = is in
@@ -35,7 +36,8 @@ module _ {V : Type 0} where
         | inr h ↦ absurd (let none : None ≡ Some x = sym (find_above u e.0 (d ∷ es) h r.0) ∙ rest.found in cc)
       ] in
       record {
-        found = find_other u e (d ∷ es) (λ same. let at : u ≡ e.0 = same in absurd (omega (arith, at, above))) ∙ rest.found;
+        found = find_other u e (d ∷ es) (λ same. let at : u ≡ e.0 = same in absurd (omega (arith, at, above)))
+            ∙ rest.found;
         highest = λ w there. elim (cases_eq w e.0) [
           | inl here ↦ omega (arith, here, above)
           | inr other ↦ rest.highest w (ap is_some (sym (find_other w e (d ∷ es) other)) ∙ there)
@@ -52,7 +54,8 @@ module _ {V : Type 0} where
   both_from true o x is = (is, refl)
   both_from false o x is = absurd (let none : None ≡ Some x = is in cc)
 
-  pub last_kept : (m : FinMap nat_cmp V) (p : ℕ → Bool) (u : ℕ) (x : V) → last_entry (finmap.retain_keys m p) ≡ Some (u, x) → IsLastKept m p u x
+  pub last_kept : (m : FinMap nat_cmp V) (p : ℕ → Bool) (u : ℕ) (x : V)
+      → last_entry (finmap.retain_keys m p) ≡ Some (u, x) → IsLastKept m p u x
   last_kept m p u x is =
       let k = finmap.retain_keys m p in
       let last = last_rises (finmap.entries k) u x (map_rises k) is in
@@ -61,5 +64,6 @@ module _ {V : Type 0} where
         found = both.0;
         passes = both.1;
         highest = λ w there passes.
-            last.highest w (ap is_some (sym (finmap.get-entries k w) ∙ get-kept m p w ∙ ap (λ b. cond b (finmap.get m w) None) passes) ∙ there);
+            last.highest w (ap is_some (sym (finmap.get-entries k w) ∙ get-kept m p w
+            ∙ ap (λ b. cond b (finmap.get m w) None) passes) ∙ there);
       }

@@ -12,9 +12,11 @@ use Rattle.simplex_resolver.proofs.CallLists.{same_terms}
 use Rattle.simplex_resolver.proofs.CallHistory.{still_told}
 
 -- the state has made the call, and its effects are applied
-pub made_of : (r : Result (Vec Effect Global) Fault) (es : Vec Effect Global) (call : Call) (old new : LawfulResolverFacts) (middle : ResolverFacts)
+pub made_of : (r : Result (Vec Effect Global) Fault) (es : Vec Effect Global) (call : Call)
+    (old new : LawfulResolverFacts) (middle : ResolverFacts)
     → middle ≡ after old.state call → es.items ≡ effects old.state call
-    → OnOk r (new.state ≡ middle) → IfOk r (λ answer. answer ≡ es) → OnOk r (IsApplied old.open_fetches es.items new.open_fetches)
+    → OnOk r (new.state ≡ middle) → IfOk r (λ answer. answer ≡ es)
+    → OnOk r (IsApplied old.open_fetches es.items new.open_fetches)
     → IfOk r (λ answer. IsMade call old answer.items new)
 made_of (Err fault) es call old new middle made effects_are kept same applied = tt
 made_of (Ok answer) es call old new middle made effects_are kept same applied = record {
@@ -26,10 +28,12 @@ made_of (Ok answer) es call old new middle made effects_are kept same applied = 
 pub told_of : (r : Result (Vec Effect Global) Fault) (call : Call) (old new : LawfulResolverFacts) → NamesAView call
     → IfOk r (λ answer. IsMade call old answer.items new) → OnOk r (ReceivesMore old call new)
 told_of (Err fault) call old new names made = tt
-told_of (Ok answer) call old new names made = λ t calls told. still_told t calls call old new answer.items told names made
+told_of (Ok answer) call old new names made =
+    λ t calls told. still_told t calls call old new answer.items told names made
 
 -- the state has made the call, and there was no memory for its effects
-pub left_of : (r : Result (Vec Effect Global) Fault) (es : Vec Effect Global) (v : ℕ) (call : Call) (old new : LawfulResolverFacts) (middle : ResolverFacts)
+pub left_of : (r : Result (Vec Effect Global) Fault) (es : Vec Effect Global) (v : ℕ) (call : Call)
+    (old new : LawfulResolverFacts) (middle : ResolverFacts)
     → old.state.is_failed ≡ false → v < 2 ^ 63 → middle ≡ after old.state call → es.items ≡ effects old.state call
     → IfErr r (λ fault. fault ≡ OutOfMemory) → OnErr r (new.state ≡ record middle { is_failed = true })
     → OnErr r (IsBegun old.open_fetches es.items new.open_fetches)
@@ -37,6 +41,11 @@ pub left_of : (r : Result (Vec Effect Global) Fault) (es : Vec Effect Global) (v
 left_of (Ok answer) es v call old new middle live small made effects_are memory failed begun = tt
 left_of (Err fault) es v call old new middle live small made effects_are memory failed begun =
     subst (λ f. IsLeftBy old v call f new) (sym memory) (
-      (live, small, ap (λ x. x.is_failed) failed, ap term_length failed ∙ ap term_length made ∙ same_terms old.state call),
+      (
+        live,
+        small,
+        ap (λ x. x.is_failed) failed,
+        ap term_length failed ∙ ap term_length made ∙ same_terms old.state call,
+      ),
       subst (λ items. IsBegun old.open_fetches items new.open_fetches) effects_are begun,
     )

@@ -47,9 +47,11 @@ or_or None b c = refl
 or_or (Some x) b c = refl
 
 module _ {D : Type 0} where
-  newest_of_both : (v : ℕ) (es fs : List (ArtifactFacts D)) → newest_notarization v (es ++ fs) ≡ option_or (newest_notarization v es) (newest_notarization v fs)
+  newest_of_both : (v : ℕ) (es fs : List (ArtifactFacts D))
+      → newest_notarization v (es ++ fs) ≡ option_or (newest_notarization v es) (newest_notarization v fs)
   newest_of_both v [] fs = refl
-  newest_of_both v (e ∷ es) fs = ap (option_or (notarization_at v e)) (newest_of_both v es fs) ∙ sym (or_or (notarization_at v e) (newest_notarization v es) (newest_notarization v fs))
+  newest_of_both v (e ∷ es) fs = ap (option_or (notarization_at v e)) (newest_of_both v es fs)
+      ∙ sym (or_or (notarization_at v e) (newest_notarization v es) (newest_notarization v fs))
 
 module _ {D : Type 0} where
   -- an entry is a notarization of the view, which is at its place from then on, or the view's place stays
@@ -59,8 +61,15 @@ module _ {D : Type 0} where
 
   placed : (m : FinMap nat_cmp ℕ) (e : ArtifactFacts D) (n v : ℕ) → Placed m e n v
   placed m (Accepted (Notarized f)) n v = elim (cases_eq v f.proposal.round.view) [
-    | inl same ↦ inl (f, rw (eq-eqb f.proposal.round.view v (sym same)) refl, get-insert m f.proposal.round.view n v ∙ rw (eq-eqb v f.proposal.round.view same) refl)
-    | inr other ↦ inr (rw (ne_eqb f.proposal.round.view v (λ same. other (sym same))) refl, get-insert m f.proposal.round.view n v ∙ rw (ne_eqb v f.proposal.round.view other) refl)
+    | inl same ↦ inl (
+      f,
+      rw (eq-eqb f.proposal.round.view v (sym same)) refl,
+      get-insert m f.proposal.round.view n v ∙ rw (eq-eqb v f.proposal.round.view same) refl,
+    )
+    | inr other ↦ inr (
+      rw (ne_eqb f.proposal.round.view v (λ same. other (sym same))) refl,
+      get-insert m f.proposal.round.view n v ∙ rw (ne_eqb v f.proposal.round.view other) refl,
+    )
   ]
   placed m (Accepted (Nullified f)) n v = inr (refl, refl)
   placed m (Accepted (Finalized f)) n v = inr (refl, refl)
@@ -74,22 +83,26 @@ module _ {S D K G C : Type 0} (bytes_of : C → List ℕ) where
       ≡ option_or (newest_notarization v (newest_first bytes_of ys)) (newest_notarization v (newest_first bytes_of xs))
   newest_behind v xs ys =
       ap (λ es. newest_notarization v (reverse es)) (map-append (artifact_facts bytes_of) xs ys)
-      ∙ ap (newest_notarization v) (reverse-append (map (artifact_facts bytes_of) xs) (map (artifact_facts bytes_of) ys))
+      ∙ ap (newest_notarization v)
+      (reverse-append (map (artifact_facts bytes_of) xs) (map (artifact_facts bytes_of) ys))
       ∙ newest_of_both v (newest_first bytes_of ys) (newest_first bytes_of xs)
 
   -- the notarization of a view at a place
   abbrev pub at_place : List (Artifact S D K G C) → ℕ → ℕ → Option (ProposalFacts D)
   at_place xs v i = option_and_then (λ a. notarization_at v (artifact_facts bytes_of a)) (slice_get xs i)
 
-  place_stays : (xs : List (Artifact S D K G C)) (x : Artifact S D K G C) (v n : ℕ) (o : Option ℕ) → n ≤ length xs → ((i : ℕ) → o ≡ Some i → i < n)
+  place_stays : (xs : List (Artifact S D K G C)) (x : Artifact S D K G C) (v n : ℕ) (o : Option ℕ) → n ≤ length xs
+      → ((i : ℕ) → o ≡ Some i → i < n)
       → option_and_then (at_place (xs ++ x ∷ []) v) o ≡ option_and_then (at_place xs v) o
   place_stays xs x v n None count within = refl
   place_stays xs x v n (Some i) count within =
-      ap (option_and_then (λ a. notarization_at v (artifact_facts bytes_of a))) (stays_at xs x i (let low = within i refl in omega (arith, low, count)))
+      ap (option_and_then (λ a. notarization_at v (artifact_facts bytes_of a)))
+      (stays_at xs x i (let low = within i refl in omega (arith, low, count)))
 
   -- ---- nothing is noted; one entry more is not noted
 
-  pub none_noted : (p : Places) → p.by_view ≡ fin.empty → p.noted ≡ 0 → AreNoted {S = S} {D = D} {K = K} {G = G} bytes_of p []
+  pub none_noted : (p : Places) → p.by_view ≡ fin.empty → p.noted ≡ 0
+      → AreNoted {S = S} {D = D} {K = K} {G = G} bytes_of p []
   none_noted p empty none =
       let no : (v : ℕ) → fin.get p.by_view v ≡ None = λ v. ap (λ m. fin.get m v) empty ∙ fin.get-empty nat_cmp v in
       record {
@@ -98,30 +111,39 @@ module _ {S D K G C : Type 0} (bytes_of : C → List ℕ) where
         found = λ v. rw (no v, none) refl;
       }
 
-  pub not_noted : (p : Places) (xs : List (Artifact S D K G C)) (x : Artifact S D K G C) → AreNoted bytes_of p xs → AreNoted bytes_of p (xs ++ x ∷ [])
+  pub not_noted : (p : Places) (xs : List (Artifact S D K G C)) (x : Artifact S D K G C) → AreNoted bytes_of p xs
+      → AreNoted bytes_of p (xs ++ x ∷ [])
   not_noted p xs x a = record {
     count = let count = a.count in let more = length-append xs (x ∷ []) in omega (arith, count, more);
     within = a.within;
     found = λ v. place_stays xs x v p.noted (fin.get p.by_view v) a.count (a.within v) ∙ a.found v
-        ∙ ap (λ es. newest_notarization v (newest_first bytes_of es)) (sym (take-append-le p.noted xs (x ∷ []) a.count));
+        ∙ ap (λ es. newest_notarization v (newest_first bytes_of es))
+        (sym (take-append-le p.noted xs (x ∷ []) a.count));
   }
 
   -- ---- it is noted
 
-  module _ (p q : Places) (xs : List (Artifact S D K G C)) (x : Artifact S D K G C) (a : AreNoted bytes_of p xs) (all : p.noted ≡ length xs) (next : q.noted ≡ length xs + 1) (with : q.by_view ≡ with_place p.by_view (artifact_facts bytes_of x) (length xs)) where
+  module _ (p q : Places) (xs : List (Artifact S D K G C)) (x : Artifact S D K G C) (a : AreNoted bytes_of p xs)
+      (all : p.noted ≡ length xs) (next : q.noted ≡ length xs + 1)
+      (with : q.by_view ≡ with_place p.by_view (artifact_facts bytes_of x) (length xs)) where
     abbrev e : ArtifactFacts D
     e = artifact_facts bytes_of x
 
     whole : (v : ℕ) → newest_notarization v (newest_first bytes_of (take q.noted (xs ++ x ∷ [])))
         ≡ option_or (notarization_at v e) (newest_notarization v (newest_first bytes_of xs))
     whole v =
-        ap (λ es. newest_notarization v (newest_first bytes_of es)) (take_all q.noted (xs ++ x ∷ []) (let more = length-append xs (x ∷ []) in omega (arith, more, next)))
+        ap (λ es. newest_notarization v (newest_first bytes_of es))
+        (take_all q.noted (xs ++ x ∷ []) (let more = length-append xs (x ∷ []) in omega (arith, more, next)))
         ∙ ap (newest_notarization v) (newest_more bytes_of xs x)
 
-    before : (v : ℕ) → option_and_then (at_place xs v) (fin.get p.by_view v) ≡ newest_notarization v (newest_first bytes_of xs)
-    before v = a.found v ∙ ap (λ es. newest_notarization v (newest_first bytes_of es)) (take_all p.noted xs (omega (arith, all)))
+    before : (v : ℕ) → option_and_then (at_place xs v) (fin.get p.by_view v) ≡ newest_notarization v
+        (newest_first bytes_of xs)
+    before v = a.found v ∙ ap (λ es. newest_notarization v (newest_first bytes_of es))
+        (take_all p.noted xs (omega (arith, all)))
 
-    found_by : (v : ℕ) → Placed p.by_view e (length xs) v → option_and_then (at_place (xs ++ x ∷ []) v) (fin.get q.by_view v) ≡ newest_notarization v (newest_first bytes_of (take q.noted (xs ++ x ∷ [])))
+    found_by : (v : ℕ) → Placed p.by_view e (length xs) v
+        → option_and_then (at_place (xs ++ x ∷ []) v) (fin.get q.by_view v) ≡ newest_notarization v
+        (newest_first bytes_of (take q.noted (xs ++ x ∷ [])))
     found_by v (inl here) =
         ap (λ m. option_and_then (at_place (xs ++ x ∷ []) v) (fin.get m v)) with
         ∙ ap (option_and_then (at_place (xs ++ x ∷ []) v)) here.2
@@ -131,7 +153,8 @@ module _ {S D K G C : Type 0} (bytes_of : C → List ℕ) where
         ap (λ m. option_and_then (at_place (xs ++ x ∷ []) v) (fin.get m v)) with
         ∙ ap (option_and_then (at_place (xs ++ x ∷ []) v)) there.1
         ∙ place_stays xs x v p.noted (fin.get p.by_view v) a.count (a.within v)
-        ∙ before v ∙ ap (λ o. option_or o (newest_notarization v (newest_first bytes_of xs))) (sym there.0) ∙ sym (whole v)
+        ∙ before v ∙ ap (λ o. option_or o (newest_notarization v (newest_first bytes_of xs))) (sym there.0)
+        ∙ sym (whole v)
 
     within_by : (v i : ℕ) → Placed p.by_view e (length xs) v → fin.get q.by_view v ≡ Some i → i < q.noted
     within_by v i (inl here) is =
@@ -156,15 +179,18 @@ module _ {S D K G C : Type 0} (bytes_of : C → List ℕ) where
 
   module _ (p : Places) (xs : List (Artifact S D K G C)) (a : AreNoted bytes_of p xs) (v : ℕ) where
     parts : newest_notarization v (newest_first bytes_of xs)
-        ≡ option_or (newest_notarization v (newest_first bytes_of (drop p.noted xs))) (newest_notarization v (newest_first bytes_of (take p.noted xs)))
-    parts = ap (λ es. newest_notarization v (newest_first bytes_of es)) (sym (take-append-drop p.noted xs)) ∙ newest_behind v (take p.noted xs) (drop p.noted xs)
+        ≡ option_or (newest_notarization v (newest_first bytes_of (drop p.noted xs)))
+        (newest_notarization v (newest_first bytes_of (take p.noted xs)))
+    parts = ap (λ es. newest_notarization v (newest_first bytes_of es)) (sym (take-append-drop p.noted xs))
+        ∙ newest_behind v (take p.noted xs) (drop p.noted xs)
 
     -- what is not noted, as a range of the entries
     abbrev pub rest : List (Artifact S D K G C)
     rest = take (length xs - p.noted) (drop p.noted xs)
 
     same_rest : rest ≡ drop p.noted xs
-    same_rest = take_all (length xs - p.noted) (drop p.noted xs) (let left = length-drop p.noted xs in omega (arith, left))
+    same_rest = take_all (length xs - p.noted) (drop p.noted xs)
+        (let left = length-drop p.noted xs in omega (arith, left))
 
     behind_by : (o other : Option (ProposalFacts D)) → is_some o ≡ true → option_or o other ≡ o
     behind_by None other some = absurd (false≢true some)
@@ -175,15 +201,23 @@ module _ {S D K G C : Type 0} (bytes_of : C → List ℕ) where
     before_by (Some n) other none = absurd (false≢true (sym none))
 
     by_parts : (o : Option (ProposalFacts D)) → o ≡ newest_notarization v (newest_first bytes_of rest)
-        → newest_notarization v (newest_first bytes_of xs) ≡ option_or o (newest_notarization v (newest_first bytes_of (take p.noted xs)))
-    by_parts o is = parts ∙ ap (λ f. option_or f (newest_notarization v (newest_first bytes_of (take p.noted xs)))) (sym (is ∙ ap (λ es. newest_notarization v (newest_first bytes_of es)) same_rest))
+        → newest_notarization v (newest_first bytes_of xs) ≡ option_or o
+        (newest_notarization v (newest_first bytes_of (take p.noted xs)))
+    by_parts o is = parts ∙ ap (λ f. option_or f (newest_notarization v (newest_first bytes_of (take p.noted xs))))
+        (sym (is ∙ ap (λ es. newest_notarization v (newest_first bytes_of es)) same_rest))
 
-    pub found_behind : (o : Option (ProposalFacts D)) → o ≡ newest_notarization v (newest_first bytes_of rest) → is_some o ≡ true → o ≡ newest_notarization v (newest_first bytes_of xs)
-    found_behind o is some = sym (by_parts o is ∙ behind_by o (newest_notarization v (newest_first bytes_of (take p.noted xs))) some)
+    pub found_behind : (o : Option (ProposalFacts D)) → o ≡ newest_notarization v (newest_first bytes_of rest)
+        → is_some o ≡ true → o ≡ newest_notarization v (newest_first bytes_of xs)
+    found_behind o is some =
+        sym (by_parts o is ∙ behind_by o (newest_notarization v (newest_first bytes_of (take p.noted xs))) some)
 
-    pub found_at_place : (o : Option (ProposalFacts D)) → o ≡ newest_notarization v (newest_first bytes_of rest) → is_some o ≡ false
+    pub found_at_place : (o : Option (ProposalFacts D)) → o ≡ newest_notarization v (newest_first bytes_of rest)
+        → is_some o ≡ false
         → option_and_then (at_place xs v) (fin.get p.by_view v) ≡ newest_notarization v (newest_first bytes_of xs)
-    found_at_place o is none = a.found v ∙ sym (by_parts o is ∙ before_by o (newest_notarization v (newest_first bytes_of (take p.noted xs))) none)
+    found_at_place o is none = a.found v ∙ sym
+        (by_parts o is ∙ before_by o (newest_notarization v (newest_first bytes_of (take p.noted xs))) none)
 
-    pub read_place : (i : ℕ) (x : Artifact S D K G C) → slice_get xs i ≡ Some x → fin.get p.by_view v ≡ Some i → notarization_at v (artifact_facts bytes_of x) ≡ option_and_then (at_place xs v) (fin.get p.by_view v)
-    read_place i x at is = sym (ap (option_and_then (at_place xs v)) is ∙ ap (option_and_then (λ a. notarization_at v (artifact_facts bytes_of a))) at)
+    pub read_place : (i : ℕ) (x : Artifact S D K G C) → slice_get xs i ≡ Some x → fin.get p.by_view v ≡ Some i
+        → notarization_at v (artifact_facts bytes_of x) ≡ option_and_then (at_place xs v) (fin.get p.by_view v)
+    read_place i x at is = sym (ap (option_and_then (at_place xs v)) is
+        ∙ ap (option_and_then (λ a. notarization_at v (artifact_facts bytes_of a))) at)

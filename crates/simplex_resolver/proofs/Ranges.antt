@@ -26,7 +26,8 @@ eq-cond true c = refl
 eq-cond false true = refl
 eq-cond false false = refl
 
-pub within : (start end v : ℕ) → (is_le (nat_cmp start v) && not (is_lt (nat_cmp end v))) ≡ (nat_le start v && nat_le v end)
+pub within : (start end v : ℕ) → (is_le (nat_cmp start v) && not (is_lt (nat_cmp end v)))
+    ≡ (nat_le start v && nat_le v end)
 within start end v =
     let low = le-cond (nat_lt start v) (start == v) in
     let high = lt-cond (nat_lt end v) (end == v) in grind (arith, nat_tests, low, high)
@@ -41,7 +42,8 @@ found (u ∷ vs) v = let here = is_same v u in let rest = found vs v in grind (a
 
 -- the first one of a list
 
-pub first_is : (o : Option (Bor ℕ)) (vs rest : List ℕ) → MatchOption o ((vs ≡ []) × (rest ≡ [])) (λ u. vs ≡ u.now ∷ rest) → option_copied o ≡ slice_get vs 0
+pub first_is : (o : Option (Bor ℕ)) (vs rest : List ℕ)
+    → MatchOption o ((vs ≡ []) × (rest ≡ [])) (λ u. vs ≡ u.now ∷ rest) → option_copied o ≡ slice_get vs 0
 first_is None vs rest (none, _) = rw none refl
 first_is (Some u) vs rest is = rw is refl
 
@@ -62,8 +64,10 @@ is_there true c is = is
 is_there false c is = absurd (false≢true is)
 
 -- where none is left that passes it, all others stayed
-pub none_passes : (p : ℕ → Bool) (vs : List ℕ) (v : ℕ) (before : Bool) → slice_get (filter p vs) 0 ≡ None → (p v ≡ false → has vs v ≡ before) → has vs v ≡ (not (p v) && before)
-none_passes p vs v before none stay = finish (p v) (has vs v) (sym (has-filter p vs v) ∙ ap (λ us. has us v) (none_first (filter p vs) none)) stay
+pub none_passes : (p : ℕ → Bool) (vs : List ℕ) (v : ℕ) (before : Bool) → slice_get (filter p vs) 0 ≡ None
+    → (p v ≡ false → has vs v ≡ before) → has vs v ≡ (not (p v) && before)
+none_passes p vs v before none stay = finish (p v) (has vs v)
+    (sym (has-filter p vs v) ∙ ap (λ us. has us v) (none_first (filter p vs) none)) stay
   where
     finish : (b now : Bool) → (b && now) ≡ false → (b ≡ false → now ≡ before) → now ≡ (not b && before)
     finish true now gone stays = gone

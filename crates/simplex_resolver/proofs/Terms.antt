@@ -19,7 +19,8 @@ module _ (t : ℕ) (h : 0 < t) where
   -- the views of one term have one index
   index_inside : (v w : ℕ) → 1 ≤ v → v ≤ w → w ≤ (v - 1) / t * t + t → (w - 1) / t ≡ (v - 1) / t
   index_inside v w a b c =
-      let low : (v - 1) / t ≤ (w - 1) / t = le-div ((v - 1) / t) (w - 1) t h (omega (arith, div-mul-le_self (v - 1) t)) in
+      let low : (v - 1) / t ≤ (w - 1) / t = le-div ((v - 1) / t) (w - 1) t h (omega (arith, div-mul-le_self (v - 1) t))
+      in
       let upto : (w - 1) ≤ (t - 1) + ((v - 1) / t) * t = omega arith in
       let high : (w - 1) / t ≤ (v - 1) / t = div-upto (w - 1) ((v - 1) / t) upto in
       omega arith
@@ -39,7 +40,8 @@ module _ (t : ℕ) (h : 0 < t) where
   start-next : (v : ℕ) → 1 ≤ v → term_start t (term_end t v + 1) ≡ term_end t v + 1
   start-next v a =
       let views : term_end t v + 1 - 1 ≡ ((v - 1) / t + 1) * t = omega arith in
-      let index : (term_end t v + 1 - 1) / t ≡ (v - 1) / t + 1 = ap (λ n. n / t) views ∙ mul-div_left ((v - 1) / t + 1) h in
+      let index : (term_end t v + 1 - 1) / t ≡ (v - 1) / t + 1 = ap (λ n. n / t) views
+      ∙ mul-div_left ((v - 1) / t + 1) h in
       ap (λ i. i * t + 1) index ∙ (let e : ((v - 1) / t + 1) * t + 1 ≡ term_end t v + 1 = omega arith in e)
 
   within_term : (u v : ℕ) → 1 ≤ v → u ≤ v → term_start t u ≡ term_start t v → v ≤ term_end t u
@@ -57,7 +59,8 @@ module _ (t : ℕ) (h : 0 < t) where
   }
 
 -- a view is covered by those of its term that are not above it
-covers_by : (first last : ℕ → ℕ) → AreTerms first last → (u v : ℕ) → 1 ≤ u → (nat_le u v && (first u == first v)) ≡ (nat_le u v && nat_le v (last u))
+covers_by : (first last : ℕ → ℕ) → AreTerms first last → (u v : ℕ) → 1 ≤ u
+    → (nat_le u v && (first u == first v)) ≡ (nat_le u v && nat_le v (last u))
 covers_by first last ts u v a =
     let there = ts.within u v in
     let back = ts.first_inside u v a in grind (arith, nat_tests, there, back)

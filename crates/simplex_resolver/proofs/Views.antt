@@ -12,12 +12,14 @@ use Rattle.simplex_resolver.specs.declared.resolver.effect.Effect.TheVariants.{F
 use Rattle.simplex_resolver.specs.Repair.{has, fetches, settles, is_outstanding, IsApplied, KeepsOutstanding}
 
 -- one step of a filter, and one of an insertion, read by a test
-pub any-cond : {A : Type 0} (q : A → Bool) (b : Bool) (x : A) (rest : List A) → list_any q (cond b (x ∷ rest) rest) ≡ ((b && q x) || list_any q rest)
+pub any-cond : {A : Type 0} (q : A → Bool) (b : Bool) (x : A) (rest : List A)
+    → list_any q (cond b (x ∷ rest) rest) ≡ ((b && q x) || list_any q rest)
 any-cond q true x rest = refl
 any-cond q false x rest = refl
 
 any-ordering : {A : Type 0} (q : A → Bool) (b c : Bool) (less equal greater : List A)
-    → list_any q (match_ordering (cond b Less (cond c Equal Greater)) less equal greater) ≡ cond b (list_any q less) (cond c (list_any q equal) (list_any q greater))
+    → list_any q (match_ordering (cond b Less (cond c Equal Greater)) less equal greater) ≡ cond b (list_any q less)
+    (cond c (list_any q equal) (list_any q greater))
 any-ordering q true c less equal greater = refl
 any-ordering q false true less equal greater = refl
 any-ordering q false false less equal greater = refl
@@ -70,4 +72,5 @@ applied-next first before after es e v so_far next =
 -- effects that are applied to what is outstanding after earlier ones
 pub keeps_outstanding : (old new : List ℕ) (es : List Effect) → IsApplied old es new → KeepsOutstanding old es new
 keeps_outstanding old new es applied earlier was v =
-    applied v ∙ ap (λ b. (b && not (list_any (settles v) es)) || is_outstanding es v) (was v) ∙ sym (is_outstanding-append earlier es v)
+    applied v ∙ ap (λ b. (b && not (list_any (settles v) es)) || is_outstanding es v) (was v)
+    ∙ sym (is_outstanding-append earlier es v)

@@ -28,24 +28,33 @@ end_above length view some one =
     let below : view - 1 < (view - 1) / length * length + length = lt-div-mul-add some in omega (arith, below)
 
 -- a view between the start of another's term and that other is in its term
-pub same_start_back : (length u view : ℕ) → 0 < length → 1 ≤ u → 1 ≤ view → term_start length view ≤ u → u ≤ view → term_start length u ≡ term_start length view
+pub same_start_back : (length u view : ℕ) → 0 < length → 1 ≤ u → 1 ≤ view → term_start length view ≤ u → u ≤ view
+    → term_start length u ≡ term_start length view
 same_start_back length u view some one one' start up =
     let below : view - 1 < (view - 1) / length * length + length = lt-div-mul-add some in
-    ap (λ n. n * length + 1) (same_index length ((view - 1) / length) (u - 1) (omega (arith, start)) (omega (arith, below, up)))
+    ap (λ n. n * length + 1)
+    (same_index length ((view - 1) / length) (u - 1) (omega (arith, start)) (omega (arith, below, up)))
 
-pub covers_from : (length u view : ℕ) → u ≤ view → term_start length u ≡ term_start length view → covers length u view ≡ true
-covers_from length u view up same = rw (le-leb u view up, eq-eqb (term_start length u) (term_start length view) same) refl
+pub covers_from : (length u view : ℕ) → u ≤ view → term_start length u ≡ term_start length view
+    → covers length u view ≡ true
+covers_from length u view up same = rw (le-leb u view up, eq-eqb (term_start length u) (term_start length view) same)
+    refl
 
-pub covers_parts : (length u view : ℕ) → covers length u view ≡ true → (u ≤ view) × (term_start length u ≡ term_start length view)
-covers_parts length u view h = let p = and_parts _ _ h in (leb-true u view p.0, eqb-true (term_start length u) (term_start length view) p.1)
+pub covers_parts : (length u view : ℕ) → covers length u view ≡ true
+    → (u ≤ view) × (term_start length u ≡ term_start length view)
+covers_parts length u view h = let p = and_parts _ _ h in
+    (leb-true u view p.0, eqb-true (term_start length u) (term_start length view) p.1)
 
-pub ahead_from : (length u view : ℕ) → 0 < length → 1 ≤ u → covers length u view ≡ true → (u ≤ view) × (view ≤ term_end length u)
+pub ahead_from : (length u view : ℕ) → 0 < length → 1 ≤ u → covers length u view ≡ true
+    → (u ≤ view) × (view ≤ term_end length u)
 ahead_from length u view some one h =
     let p = covers_parts length u view h in
     (p.0, omega (arith, p.1, end_above length view some (omega (arith, p.0))))
 
-pub from_ahead : (length u view : ℕ) → 1 ≤ u → u ≤ view → view ≤ term_end length u → 0 < length → covers length u view ≡ true
-from_ahead length u view one up end some = covers_from length u view up (sym (same_start length u view one up (omega (arith, end))))
+pub from_ahead : (length u view : ℕ) → 1 ≤ u → u ≤ view → view ≤ term_end length u → 0 < length
+    → covers length u view ≡ true
+from_ahead length u view one up end some =
+    covers_from length u view up (sym (same_start length u view one up (omega (arith, end))))
 
 pub behind_from : (length u view : ℕ) → 1 ≤ u → covers length u view ≡ true → (term_start length view ≤ u) × (u ≤ view)
 behind_from length u view one h =
@@ -54,10 +63,14 @@ behind_from length u view one h =
 pub covering_laws : CoveringLaws
 covering_laws = record {
   ahead = λ length u view some one. (ahead_from length u view some one, λ p. from_ahead length u view one p.0 p.1 some);
-  behind = λ length u view some one one'. (behind_from length u view one, λ p. covers_from length u view p.1 (same_start_back length u view some one one' p.0 p.1));
+  behind = λ length u view some one one'. (
+    behind_from length u view one,
+    λ p. covers_from length u view p.1 (same_start_back length u view some one one' p.0 p.1),
+  );
   genesis = λ length u one. rw (lt-leb u 0 (omega arith)) refl;
   onward = λ length u view later some one h up end.
       let p = covers_parts length u view h in
-      let same : term_start length later ≡ term_start length view = same_start length view later (omega (arith, p.0)) up (omega (arith, end)) in
+      let same : term_start length later ≡ term_start length view =
+      same_start length view later (omega (arith, p.0)) up (omega (arith, end)) in
       covers_from length u later (omega (arith, p.0, up)) (p.1 ∙ sym same);
 }

@@ -32,7 +32,9 @@ module _ {V : Type 0} where
   ends_by : (e : ℕ × V) (es : List (ℕ × V)) → is_some (slice_get (e ∷ es) (length (e ∷ es) - 1)) ≡ true
   ends_by e es = let n : length (e ∷ es) - 1 ≡ length es = omega arith in rw n (ends e es)
 
-  some_last : (p : ℕ → Bool) (es : List (ℕ × V)) → is_some (slice_get (filter (λ e. p e.0) es) (length (filter (λ e. p e.0) es) - 1)) ≡ list_any p (map (λ e. e.0) es)
+  some_last : (p : ℕ → Bool) (es : List (ℕ × V))
+      → is_some (slice_get (filter (λ e. p e.0) es) (length (filter (λ e. p e.0) es) - 1)) ≡ list_any p
+      (map (λ e. e.0) es)
   some_last p [] = refl
   some_last p (e ∷ es) = elim (cases_bool (p e.0)) [
     | inl passes ↦ rw passes (ends_by e (filter (λ e. p e.0) es))
@@ -40,24 +42,29 @@ module _ {V : Type 0} where
   ]
 
   -- whether a last entry is left says whether some key passes
-  pub any_last : (m : FinMap nat_cmp V) (p : ℕ → Bool) → is_some (last_entry (fin.retain_keys m p)) ≡ list_any p (fin.keys m)
-  any_last m p = ap (λ es. is_some (slice_get es (length es - 1))) (entries-retain_keys m p) ∙ some_last p (fin.entries m)
+  pub any_last : (m : FinMap nat_cmp V) (p : ℕ → Bool)
+      → is_some (last_entry (fin.retain_keys m p)) ≡ list_any p (fin.keys m)
+  any_last m p = ap (λ es. is_some (slice_get es (length es - 1))) (entries-retain_keys m p)
+      ∙ some_last p (fin.entries m)
 
 pub some_mapped : {X Y : Type 0} (f : X → Y) (o : Option X) → is_some o ≡ is_some (option_map f o)
 some_mapped f None = refl
 some_mapped f (Some x) = refl
 
-any_on : (p q : ℕ → Bool) (us : List ℕ) → ((u : ℕ) → p u ≡ true → q u ≡ true) → list_any p us ≡ true → list_any q us ≡ true
+any_on : (p q : ℕ → Bool) (us : List ℕ) → ((u : ℕ) → p u ≡ true → q u ≡ true) → list_any p us ≡ true
+    → list_any q us ≡ true
 any_on p q [] f h = h
 any_on p q (u ∷ us) f h = elim (cases_bool (p u)) [
   | inl passes ↦ rw (f u passes) refl
   | inr fails ↦ or_any (q u) _ (any_on p q us f (rw fails at h))
 ]
 
-pub next_start : (T c : ℕ) → 0 < T → 1 ≤ c → c < next_term_start T c → term_start T (next_term_start T c) ≡ next_term_start T c
+pub next_start : (T c : ℕ) → 0 < T → 1 ≤ c → c < next_term_start T c
+    → term_start T (next_term_start T c) ≡ next_term_start T c
 next_start T c some one up =
     let e : next_term_start T c - 1 ≡ ((c - 1) / T + 1) * T + 0 = omega arith in
-    let k : (next_term_start T c - 1) / T ≡ (c - 1) / T + 1 = ap (λ n. n / T) e ∙ div-mul-add ((c - 1) / T + 1) T 0 some in
+    let k : (next_term_start T c - 1) / T ≡ (c - 1) / T + 1 = ap (λ n. n / T) e
+    ∙ div-mul-add ((c - 1) / T + 1) T 0 some in
     ap (λ n. n * T + 1) k ∙ omega arith
 
 pub next_above : (T c : ℕ) → 0 < T → 1 ≤ c → c < next_term_start T c
@@ -68,10 +75,13 @@ raised u c w b up h = grind (arith, nat_tests)
 
 module _ {V : Type 0} (m : ByTermFacts V) where
   -- a view that covers one covers the rest of its term
-  pub covered_on : (c w : ℕ) → 1 ≤ c → c ≤ w → w < next_term_start m.term_length c → has_covering m c ≡ true → has_covering m w ≡ true
-  covered_on c w one up below h = any_on (λ u. covers m.term_length u c) (λ u. covers m.term_length u w) (fin.keys m.by_view) (λ u covered. rw (same_start m.term_length c w one up below) (raised u c w _ up covered)) h
+  pub covered_on : (c w : ℕ) → 1 ≤ c → c ≤ w → w < next_term_start m.term_length c → has_covering m c ≡ true
+      → has_covering m w ≡ true
+  covered_on c w one up below h = any_on (λ u. covers m.term_length u c) (λ u. covers m.term_length u w)
+      (fin.keys m.by_view) (λ u covered. rw (same_start m.term_length c w one up below) (raised u c w _ up covered)) h
 
-  pub gapless_on : (p c : ℕ) → p < c → Gapless m p c → has_covering m c ≡ true → Gapless m p (next_term_start m.term_length c)
+  pub gapless_on : (p c : ℕ) → p < c → Gapless m p c → has_covering m c ≡ true
+      → Gapless m p (next_term_start m.term_length c)
   gapless_on p c up before here w low high = elim (cases_lt w c) [
     | inl below ↦ before w low below
     | inr above ↦ covered_on c w (omega arith) above high here

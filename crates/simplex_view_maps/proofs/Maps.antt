@@ -24,7 +24,8 @@ pub is_lt-nat_cmp : (x y : ℕ) → is_lt (nat_cmp x y) ≡ ltb x y
 is_lt-nat_cmp x y = grind (arith, nat_tests)
 
 -- a loan says the same by two functions that agree
-pub lent_alike : {N W M D : Type 0} {name : N} {f g : W → M} → ((w : W) → f w ≡ g w) → ◌≡◌ {A = (N × (W → M)) ⊎ D} (inl (name, f)) (inl (name, g))
+pub lent_alike : {N W M D : Type 0} {name : N} {f g : W → M} → ((w : W) → f w ≡ g w)
+    → ◌≡◌ {A = (N × (W → M)) ⊎ D} (inl (name, f)) (inl (name, g))
 lent_alike {name = name} alike i = inl (name, λ w. alike w i)
 
 cases_bool : (b : Bool) → (b ≡ true) ⊎ (b ≡ false)
@@ -47,7 +48,8 @@ is_eq-nat_cmp x y = grind (arith, nat_tests)
 
 -- a search that begins with fewer entries than there are
 pub not_halved : (w n : ℕ) → w ≤ n → IsLeft 0 w n
-not_halved w n fewer d fits = (omega arith, let none : d ≡ d - 0 = omega arith in subst (λ e. w < 2 ^ e) none (omega (arith, fits, fewer)))
+not_halved w n fewer d fits =
+    (omega arith, let none : d ≡ d - 0 = omega arith in subst (λ e. w < 2 ^ e) none (omega (arith, fits, fewer)))
 
 -- an insert's result shows what was there before
 pub stood : {V : Type 0} (b : Bool) (x y : V) → Some x ≡ cond b (Some y) None → b ≡ true
@@ -62,55 +64,75 @@ module _ {V : Type 0} where
   find_other q e es other = rw (is_eq-nat_cmp q e.0, ne_eqb q e.0 other) refl
 
   -- a list that has the entries of a map is in order, and makes that map
-  pub sorted_from_entries : (es : List (ℕ × V)) (m : map.FinMap nat_cmp V) → es ≡ map.entries m → map.is_sorted nat_cmp es ≡ true
+  pub sorted_from_entries : (es : List (ℕ × V)) (m : map.FinMap nat_cmp V) → es ≡ map.entries m
+      → map.is_sorted nat_cmp es ≡ true
   sorted_from_entries es m e = rw e (true_from_T _ (map.entries_sorted m))
 
   pub made_from_entries : (es : List (ℕ × V)) (m : map.FinMap nat_cmp V) → es ≡ map.entries m → map.from_sorted es ≡ m
-  made_from_entries es m e = rw e (map.same_entries_map _ m (map.entries-from_sorted nat_cmp (map.entries m) (map.entries_sorted m)))
+  made_from_entries es m e =
+      rw e (map.same_entries_map _ m (map.entries-from_sorted nat_cmp (map.entries m) (map.entries_sorted m)))
 
   -- the list that a map was made from has its entries
-  pub entries_of_made : (es : List (ℕ × V)) (m : map.FinMap nat_cmp V) → map.from_sorted es ≡ m → map.is_sorted nat_cmp es ≡ true → es ≡ map.entries m
+  pub entries_of_made : (es : List (ℕ × V)) (m : map.FinMap nat_cmp V) → map.from_sorted es ≡ m
+      → map.is_sorted nat_cmp es ≡ true → es ≡ map.entries m
   entries_of_made es m e s = sym (map.entries-from_sorted nat_cmp es (T_from_true _ s)) ∙ ap map.entries e
 
-  pub length_of_made : (es : List (ℕ × V)) (m : map.FinMap nat_cmp V) → map.from_sorted es ≡ m → map.is_sorted nat_cmp es ≡ true → length es ≡ map.len m
+  pub length_of_made : (es : List (ℕ × V)) (m : map.FinMap nat_cmp V) → map.from_sorted es ≡ m
+      → map.is_sorted nat_cmp es ≡ true → length es ≡ map.len m
   length_of_made es m e s = ap length (entries_of_made es m e s) ∙ sym (map.len-entries m)
 
   pub made_empty : (es : List (ℕ × V)) → es ≡ [] → map.from_sorted {R = nat_cmp} es ≡ map.empty
-  made_empty es e = rw e (let none : map.FinMap nat_cmp V = map.from_sorted [] in map.empty_of_len none (map.len-entries none ∙ ap length (map.entries-from_sorted nat_cmp [] tt)))
+  made_empty es e = rw e (let none : map.FinMap nat_cmp V = map.from_sorted [] in
+      map.empty_of_len none (map.len-entries none ∙ ap length (map.entries-from_sorted nat_cmp [] tt)))
 
   pub map_rises : (m : map.FinMap nat_cmp V) → Rises (map.entries m)
   map_rises m = rises _ (true_from_T _ (map.entries_sorted m))
 
-  pub get-kept : (m : map.FinMap nat_cmp V) (p : ℕ → Bool) (q : ℕ) → map.get (map.retain_keys m p) q ≡ cond (p q) (map.get m q) None
+  pub get-kept : (m : map.FinMap nat_cmp V) (p : ℕ → Bool) (q : ℕ)
+      → map.get (map.retain_keys m p) q ≡ cond (p q) (map.get m q) None
   get-kept m p q = map.get-retain_keys m p q (λ x tied. ap p (sym (map.nat_cmp-IsAntisymmetric q x tied)))
 
   -- maps that have the same value at each view are the same
   pub same_maps : (m n : map.FinMap nat_cmp V) → ((q : ℕ) → map.get m q ≡ map.get n q) → m ≡ n
   same_maps m n alike = map.same_map nat_cmp_total map.nat_cmp-IsAntisymmetric m n alike
 
-  pub get-insert : (m : map.FinMap nat_cmp V) (v : ℕ) (x : V) (q : ℕ) → map.get (map.insert m v x) q ≡ cond (eqb q v) (Some x) (map.get m q)
-  get-insert m v x q = map.get-insert nat_cmp_total m v x q ∙ ap (λ b. cond b (Some x) (map.get m q)) (is_eq-nat_cmp q v)
+  pub get-insert : (m : map.FinMap nat_cmp V) (v : ℕ) (x : V) (q : ℕ)
+      → map.get (map.insert m v x) q ≡ cond (eqb q v) (Some x) (map.get m q)
+  get-insert m v x q = map.get-insert nat_cmp_total m v x q
+      ∙ ap (λ b. cond b (Some x) (map.get m q)) (is_eq-nat_cmp q v)
 
   pub below-below : (m : map.FinMap nat_cmp V) (from to : ℕ) → from ≤ to → below (below m to) from ≡ below m from
   below-below m from to h = same_maps _ _ (λ q. get-kept (below m to) (λ k. ltb k from) q ∙ elim (cases_lt q from) [
-    | inl b ↦ rw (lt-ltb q from b, get-kept m (λ k. ltb k to) q, lt-ltb q to (omega arith), get-kept m (λ k. ltb k from) q, lt-ltb q from b) refl
+    | inl b ↦ rw (
+      lt-ltb q from b,
+      get-kept m (λ k. ltb k to) q,
+      lt-ltb q to (omega arith),
+      get-kept m (λ k. ltb k from) q,
+      lt-ltb q from b,
+    ) refl
     | inr b ↦ rw (le-ltb q from b, get-kept m (λ k. ltb k from) q, le-ltb q from b) refl
   ])
 
-  pub entries-retain_keys : (m : map.FinMap nat_cmp V) (p : ℕ → Bool) → map.entries (map.retain_keys m p) ≡ filter (λ e. p e.0) (map.entries m)
+  pub entries-retain_keys : (m : map.FinMap nat_cmp V) (p : ℕ → Bool)
+      → map.entries (map.retain_keys m p) ≡ filter (λ e. p e.0) (map.entries m)
   entries-retain_keys m p =
       let kept = where_key nat_cmp p (map.entries m) in
       let sorted = is_sorted-where_key nat_cmp p (map.entries m) (map.entries_sorted m) in
       let same : map.retain_keys m p ≡ map.from_sorted kept = same_maps _ _ (λ q.
       get-kept m p q ∙ ap (λ o. cond (p q) o None) (map.get-entries m q)
-      ∙ sym (map.get-from_sorted nat_cmp kept q sorted ∙ find-where_key nat_cmp p q (λ x tied. ap p (sym (map.nat_cmp-IsAntisymmetric q x tied))) (map.entries m))) in
+      ∙ sym (map.get-from_sorted nat_cmp kept q sorted
+      ∙ find-where_key nat_cmp p q (λ x tied. ap p (sym (map.nat_cmp-IsAntisymmetric q x tied))) (map.entries m)))
+      in
       ap map.entries same ∙ map.entries-from_sorted nat_cmp kept sorted
 
-  pub entries-remove : (m : map.FinMap nat_cmp V) (v : ℕ) → map.entries (map.remove m v) ≡ filter (λ e. not (eqb e.0 v)) (map.entries m)
+  pub entries-remove : (m : map.FinMap nat_cmp V) (v : ℕ)
+      → map.entries (map.remove m v) ≡ filter (λ e. not (eqb e.0 v)) (map.entries m)
   entries-remove m v = ap map.entries without ∙ entries-retain_keys m (λ key. not (eqb key v))
     where
       without : map.remove m v ≡ map.retain_keys m (λ key. not (eqb key v))
-      without = same_maps _ _ (λ q. map.get-remove nat_cmp_total m v q ∙ ap (λ b. cond b None (map.get m q)) (is_eq-nat_cmp q v) ∙ other (eqb q v) (map.get m q) ∙ sym (get-kept m (λ key. not (eqb key v)) q))
+      without = same_maps _ _ (λ q. map.get-remove nat_cmp_total m v q
+          ∙ ap (λ b. cond b None (map.get m q)) (is_eq-nat_cmp q v) ∙ other (eqb q v) (map.get m q)
+          ∙ sym (get-kept m (λ key. not (eqb key v)) q))
         where
           other : (b : Bool) (found : Option V) → cond b None found ≡ cond (not b) found None
           other true found = refl
@@ -135,7 +157,8 @@ module _ {V : Type 0} where
     len-below-le-len = rw (len-below, map.len-entries m) (place-le-length v _)
 
     -- an entry is below v exactly where its index is below v's place
-    pub below_at : (i : ℕ) (d : ℕ × V) → i < map.len m → ltb (get_or (map.entries m) i d).0 v ≡ ltb i (map.len (below m v))
+    pub below_at : (i : ℕ) (d : ℕ × V) → i < map.len m
+        → ltb (get_or (map.entries m) i d).0 v ≡ ltb i (map.len (below m v))
     below_at i d h = rw len-below (below_place v _ i d (map_rises m) (rw map.len-entries at h))
 
     -- no more entries are below v than views from the first one on
@@ -146,14 +169,16 @@ module _ {V : Type 0} where
           let p = map.len (below m v) in
           let count = map.len-entries m in
           let within : p - 1 < length es = omega (arith, there, len-below-le-len, count) in
-          let under = ltb-true (get_or es (p - 1) d).0 v (below_at (p - 1) d (omega (arith, within, count)) ∙ lt-ltb (p - 1) p (omega (arith, there))) in
+          let under = ltb-true (get_or es (p - 1) d).0 v
+          (below_at (p - 1) d (omega (arith, within, count)) ∙ lt-ltb (p - 1) p (omega (arith, there))) in
           let up = climbs es 0 (p - 1) d (map_rises m) (omega arith) within in
           omega (arith, under, up, there)
       | inr none ↦ omega (arith, none)
     ]
 
     -- and no more at or above it than views up to the last one
-    pub place_from_last : (d : ℕ × V) (end : ℕ) → end + 1 ≡ map.len m → map.len m ≤ map.len (below m v) + ((get_or (map.entries m) end d).0 + 1 - v)
+    pub place_from_last : (d : ℕ × V) (end : ℕ) → end + 1 ≡ map.len m
+        → map.len m ≤ map.len (below m v) + ((get_or (map.entries m) end d).0 + 1 - v)
     place_from_last d end is = elim (cases_lt (map.len (below m v)) (map.len m)) [
       | inl there ↦
           let es = map.entries m in
@@ -173,22 +198,27 @@ module _ {V : Type 0} where
     pub place_within : (es : List (ℕ × V)) (r : ℕ) → es ≡ map.entries m → r ≡ map.len (below m v) → r ≤ length es
     place_within es r e p = rw (e, p, ← map.len-entries m) len-below-le-len
 
-    pub below_read : (es : List (ℕ × V)) (r : ℕ) → es ≡ map.entries m → r ≡ map.len (below m v) → take r es ≡ map.entries (below m v)
+    pub below_read : (es : List (ℕ × V)) (r : ℕ) → es ≡ map.entries m → r ≡ map.len (below m v)
+        → take r es ≡ map.entries (below m v)
     below_read es r e p = rw (e, p) (sym entries-below)
 
-    pub at_or_above_read : (es : List (ℕ × V)) (r : ℕ) → es ≡ map.entries m → r ≡ map.len (below m v) → drop r es ≡ map.entries (at_or_above m v)
+    pub at_or_above_read : (es : List (ℕ × V)) (r : ℕ) → es ≡ map.entries m → r ≡ map.len (below m v)
+        → drop r es ≡ map.entries (at_or_above m v)
     at_or_above_read es r e p = rw (e, p) (sym entries-at_or_above)
 
     -- the entries at or below v end one past v's place where v is there, else at it
     pub len-below-next : map.len (below m (v + 1)) ≡ map.len (below m v) + cond (map.contains_key m v) 1 0
     len-below-next =
-        let next : map.len (below m (v + 1)) ≡ place (v + 1) (map.entries m) = map.len-entries _ ∙ ap length (entries-retain_keys m (λ key. ltb key (v + 1))) in
+        let next : map.len (below m (v + 1)) ≡ place (v + 1) (map.entries m) = map.len-entries _
+        ∙ ap length (entries-retain_keys m (λ key. ltb key (v + 1))) in
         rw (next, len-below, map.get-entries m v) (place-next v _ (map_rises m))
 
-    pub len-below-there : (r : ℕ) → r ≡ map.len (below m v) → map.contains_key m v ≡ true → r + 1 ≡ map.len (below m (v + 1))
+    pub len-below-there : (r : ℕ) → r ≡ map.len (below m v) → map.contains_key m v ≡ true
+        → r + 1 ≡ map.len (below m (v + 1))
     len-below-there r at_place there = rw (len-below-next, there) (omega (arith, at_place))
 
-    pub len-below-not_there : (r : ℕ) → r ≡ map.len (below m v) → map.contains_key m v ≡ false → r ≡ map.len (below m (v + 1))
+    pub len-below-not_there : (r : ℕ) → r ≡ map.len (below m v) → map.contains_key m v ≡ false
+        → r ≡ map.len (below m (v + 1))
     len-below-not_there r at_place none = rw (len-below-next, none) (omega (arith, at_place))
 
     -- where all entries are below v, none is at it
@@ -199,7 +229,8 @@ module _ {V : Type 0} where
     ]
 
     -- the entry at v's place shows whether v is there
-    pub contains_at : (e : ℕ × V) → slice_get (map.entries m) (map.len (below m v)) ≡ Some e → eqb e.0 v ≡ map.contains_key m v
+    pub contains_at : (e : ℕ × V) → slice_get (map.entries m) (map.len (below m v)) ≡ Some e
+        → eqb e.0 v ≡ map.contains_key m v
     contains_at e here = rw (get_at, here) (elim (cases_eq e.0 v) [
       | inl same ↦ rw (eq-eqb e.0 v same, eq-eqb v e.0 (sym same)) refl
       | inr other ↦ rw (ne_eqb e.0 v other, ne_eqb v e.0 (λ same. other (sym same))) refl
@@ -209,13 +240,17 @@ module _ {V : Type 0} where
     contains_past here = rw (get_at, here) refl
 
     -- v is at its place, with its value
-    pub value_at : (es : List (ℕ × V)) (r : ℕ) → es ≡ map.entries m → r ≡ map.len (below m v) → map.contains_key m v ≡ true → (r < length es) × ((e : ℕ × V) → e ≡ get_or es r e → Some e.1 ≡ map.get m v)
+    pub value_at : (es : List (ℕ × V)) (r : ℕ) → es ≡ map.entries m → r ≡ map.len (below m v)
+        → map.contains_key m v ≡ true → (r < length es) × ((e : ℕ × V) → e ≡ get_or es r e → Some e.1 ≡ map.get m v)
     value_at es r same at_place there = elim (slice_get_cases es r).1 [
       | inl found ↦
           let e = found.0 in
           let here : slice_get (map.entries m) (map.len (below m v)) ≡ Some e = rw (← same, ← at_place) found.2 in
-          let at : eqb v e.0 ≡ true = eq-eqb v e.0 (sym (eqb-true e.0 v (contains_at e here ∙ there))) in
-          (found.1, λ f read. ap (λ (x : ℕ × V). Some x.1) (read ∙ get_or_from_slice_get es r e f found.2) ∙ sym (rw (get_at, here, at) refl))
+          let at : eqb v e.0 ≡ true = eq-eqb v e.0 (sym (eqb-true e.0 v (contains_at e here ∙ there))) in (
+            found.1,
+            λ f read. ap (λ (x : ℕ × V). Some x.1) (read ∙ get_or_from_slice_get es r e f found.2)
+                ∙ sym (rw (get_at, here, at) refl),
+          )
       | inr past ↦ absurd (false≢true (contains_past (rw (← same, ← at_place) past.1) ∙ there))
     ]
 
@@ -223,53 +258,73 @@ module _ {V : Type 0} where
     absent none = none_from_is_some (map.get m v) none
 
     -- the view at its place is v
-    pub view_at : (es : List (ℕ × V)) (r : ℕ) → es ≡ map.entries m → r ≡ map.len (below m v) → map.contains_key m v ≡ true → (e : ℕ × V) → e ≡ get_or es r e → e.0 ≡ v
+    pub view_at : (es : List (ℕ × V)) (r : ℕ) → es ≡ map.entries m → r ≡ map.len (below m v)
+        → map.contains_key m v ≡ true → (e : ℕ × V) → e ≡ get_or es r e → e.0 ≡ v
     view_at es r same at_place there e read = elim (slice_get_cases es r).1 [
       | inl found ↦
           let f = found.0 in
           let here : slice_get (map.entries m) (map.len (below m v)) ≡ Some f = rw (← same, ← at_place) found.2 in
-          ap (λ (x : ℕ × V). x.0) (read ∙ get_or_from_slice_get es r f e found.2) ∙ eqb-true f.0 v (contains_at f here ∙ there)
+          ap (λ (x : ℕ × V). x.0) (read ∙ get_or_from_slice_get es r f e found.2)
+          ∙ eqb-true f.0 v (contains_at f here ∙ there)
       | inr past ↦ absurd (false≢true (contains_past (rw (← same, ← at_place) past.1) ∙ there))
     ]
 
-    pub entries-insert_absent : (x : V) → map.get m v ≡ None → insert (map.entries m) (map.len (below m v)) (v, x) ≡ map.entries (map.insert m v x)
-    entries-insert_absent x none = rw (len-below, map.entries-insert nat_cmp_total m v x) (sym (put_absent v x _ (map_rises m) (rw (map.get-entries m v) at none)))
+    pub entries-insert_absent : (x : V) → map.get m v ≡ None
+        → insert (map.entries m) (map.len (below m v)) (v, x) ≡ map.entries (map.insert m v x)
+    entries-insert_absent x none = rw (len-below, map.entries-insert nat_cmp_total m v x)
+        (sym (put_absent v x _ (map_rises m) (rw (map.get-entries m v) at none)))
 
-    pub entries-insert_present : (x : V) → is_some (map.get m v) ≡ true → set (map.entries m) (map.len (below m v)) (v, x) ≡ map.entries (map.insert m v x)
-    entries-insert_present x some = rw (len-below, map.entries-insert nat_cmp_total m v x) (sym (put_present v x _ (map_rises m) (rw (map.get-entries m v) at some)))
+    pub entries-insert_present : (x : V) → is_some (map.get m v) ≡ true
+        → set (map.entries m) (map.len (below m v)) (v, x) ≡ map.entries (map.insert m v x)
+    entries-insert_present x some = rw (len-below, map.entries-insert nat_cmp_total m v x)
+        (sym (put_present v x _ (map_rises m) (rw (map.get-entries m v) at some)))
 
     -- the list after an insert at v's place, where v is not there
-    pub inserted : (es fs : List (ℕ × V)) (r : ℕ) (x : V) → es ≡ map.entries m → r ≡ map.len (below m v) → map.contains_key m v ≡ false → fs ≡ insert es r (v, x) → fs ≡ map.entries (map.insert m v x)
+    pub inserted : (es fs : List (ℕ × V)) (r : ℕ) (x : V) → es ≡ map.entries m → r ≡ map.len (below m v)
+        → map.contains_key m v ≡ false → fs ≡ insert es r (v, x) → fs ≡ map.entries (map.insert m v x)
     inserted es fs r x same at_place none new = new ∙ rw (same, at_place) (entries-insert_absent x (absent none))
 
     -- the list after a value is written at v's place, where v is there
-    pub written : (es : List (ℕ × V)) (r : ℕ) (e : ℕ × V) (x : V) → es ≡ map.entries m → r ≡ map.len (below m v) → map.contains_key m v ≡ true → e ≡ get_or es r e → set es r (e.0, x) ≡ map.entries (map.insert m v x)
-    written es r e x same at_place there read = rw (view_at es r same at_place there e read, same, at_place) (entries-insert_present x there)
+    pub written : (es : List (ℕ × V)) (r : ℕ) (e : ℕ × V) (x : V) → es ≡ map.entries m → r ≡ map.len (below m v)
+        → map.contains_key m v ≡ true → e ≡ get_or es r e → set es r (e.0, x) ≡ map.entries (map.insert m v x)
+    written es r e x same at_place there read =
+        rw (view_at es r same at_place there e read, same, at_place) (entries-insert_present x there)
 
     -- the list after the entry at v's place is removed, where v is there
-    pub removed : (es fs : List (ℕ × V)) (r : ℕ) → es ≡ map.entries m → r ≡ map.len (below m v) → map.contains_key m v ≡ true → fs ≡ remove es r → fs ≡ map.entries (map.remove m v)
+    pub removed : (es fs : List (ℕ × V)) (r : ℕ) → es ≡ map.entries m → r ≡ map.len (below m v)
+        → map.contains_key m v ≡ true → fs ≡ remove es r → fs ≡ map.entries (map.remove m v)
     removed es fs r same at_place there left =
-        left ∙ rw (same, at_place, len-below) (sym (removed_at v _ (map_rises m) (rw (map.get-entries m v) at there))) ∙ sym (entries-remove m v)
+        left ∙ rw (same, at_place, len-below) (sym (removed_at v _ (map_rises m) (rw (map.get-entries m v) at there)))
+        ∙ sym (entries-remove m v)
 
     -- where v is not there, nothing is removed
     pub remove_absent : map.contains_key m v ≡ false → m ≡ map.remove m v
-    remove_absent none = same_maps _ _ (λ q. sym (map.get-remove nat_cmp_total m v q ∙ ap (λ b. cond b None (map.get m q)) (is_eq-nat_cmp q v) ∙ elim (cases_eq q v) [
-      | inl same ↦ rw (eq-eqb q v same, same, absent none) refl
-      | inr other ↦ rw (ne_eqb q v other) refl
-    ]))
+    remove_absent none = same_maps _ _ (λ q.
+        sym (map.get-remove nat_cmp_total m v q ∙ ap (λ b. cond b None (map.get m q)) (is_eq-nat_cmp q v)
+        ∙ elim (cases_eq q v) [
+          | inl same ↦ rw (eq-eqb q v same, same, absent none) refl
+          | inr other ↦ rw (ne_eqb q v other) refl
+        ]))
 
   -- the place of a view among the entries below a higher one
-  pub place_below : (m : map.FinMap nat_cmp V) (from to r : ℕ) → from ≤ to → r ≡ map.len (below m from) → r ≡ map.len (below (below m to) from)
+  pub place_below : (m : map.FinMap nat_cmp V) (from to r : ℕ) → from ≤ to → r ≡ map.len (below m from)
+      → r ≡ map.len (below (below m to) from)
   place_below m from to r h p = p ∙ ap map.len (sym (below-below m from to h))
 
   -- the places of two views rise with them
-  pub places_rise : (m : map.FinMap nat_cmp V) (from to r s : ℕ) → from ≤ to → r ≡ map.len (below m from) → s ≡ map.len (below m to) → r ≤ s
-  places_rise m from to r s h p q = rw (q, map.len-entries (below m to)) (place_within (below m to) from _ r refl (place_below m from to r h p))
+  pub places_rise : (m : map.FinMap nat_cmp V) (from to r s : ℕ) → from ≤ to → r ≡ map.len (below m from)
+      → s ≡ map.len (below m to) → r ≤ s
+  places_rise m from to r s h p q = rw (q, map.len-entries (below m to))
+      (place_within (below m to) from _ r refl (place_below m from to r h p))
 
   -- the entries between the places of two views
-  pub between_read : (m : map.FinMap nat_cmp V) (from to : ℕ) (es : List (ℕ × V)) (r s : ℕ) → from ≤ to → es ≡ map.entries m → r ≡ map.len (below m from) → s ≡ map.len (below m to) → drop r (take s es) ≡ map.entries (at_or_above (below m to) from)
-  between_read m from to es r s h e p q = at_or_above_read (below m to) from (take s es) r (below_read m to es s e q) (place_below m from to r h p)
+  pub between_read : (m : map.FinMap nat_cmp V) (from to : ℕ) (es : List (ℕ × V)) (r s : ℕ) → from ≤ to
+      → es ≡ map.entries m → r ≡ map.len (below m from) → s ≡ map.len (below m to)
+      → drop r (take s es) ≡ map.entries (at_or_above (below m to) from)
+  between_read m from to es r s h e p q = at_or_above_read (below m to) from (take s es) r (below_read m to es s e q)
+      (place_below m from to r h p)
 
   -- the entries from a view's place up to the end
-  pub above_read : (m : map.FinMap nat_cmp V) (v : ℕ) (es : List (ℕ × V)) (r s : ℕ) → es ≡ map.entries m → r ≡ map.len (below m v) → s ≡ length es → drop r (take s es) ≡ map.entries (at_or_above m v)
+  pub above_read : (m : map.FinMap nat_cmp V) (v : ℕ) (es : List (ℕ × V)) (r s : ℕ) → es ≡ map.entries m
+      → r ≡ map.len (below m v) → s ≡ length es → drop r (take s es) ≡ map.entries (at_or_above m v)
   above_read m v es r s e p q = ap (drop r) (take_all s es (omega (arith, q))) ∙ at_or_above_read m v es r e p

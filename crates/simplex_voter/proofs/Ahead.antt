@@ -38,34 +38,60 @@ module _ {V B : Type 0} (h : ℕ × V → Option B) where
 
   none_within : (low high x : ℕ) (es : List (ℕ × V)) → high ≤ x → AllAbove x es → span low high es ≡ []
   none_within low high x [] up above = refl
-  none_within low high x (e ∷ es) up above = rw (over_is low high e.0 (omega (arith, up, above.0))) (none_within low high x es up above.1)
+  none_within low high x (e ∷ es) up above =
+      rw (over_is low high e.0 (omega (arith, up, above.0))) (none_within low high x es up above.1)
 
   onto : (o : Option B) (bs cs : List B) → cons_option o (bs ++ cs) ≡ cons_option o bs ++ cs
   onto None bs cs = refl
   onto (Some b) bs cs = refl
 
   -- the views between give nothing
-  in_two : (low near last : ℕ) → low ≤ near → near < last → (es : List (ℕ × V)) → Rises es → ((v : ℕ) (r : V) → near < v → v < last → h (v, r) ≡ None) → filter_map h (span low last es) ≡ filter_map h (span low near es) ++ filter_map h (span last last es)
+  in_two : (low near last : ℕ) → low ≤ near → near < last → (es : List (ℕ × V)) → Rises es
+      → ((v : ℕ) (r : V) → near < v → v < last → h (v, r) ≡ None)
+      → filter_map h (span low last es) ≡ filter_map h (span low near es) ++ filter_map h (span last last es)
   in_two low near last up short [] rises none = refl
   in_two low near last up short (e ∷ es) rises none =
       let rest = in_two low near last up short es rises.1 none in
       elim (cases_lt e.0 low) [
-        | inl under ↦ rw (under_is low last e.0 under, under_is low near e.0 under, under_is last last e.0 (omega (arith, under, up, short))) rest
+        | inl under ↦ rw (
+          under_is low last e.0 under,
+          under_is low near e.0 under,
+          under_is last last e.0 (omega (arith, under, up, short)),
+        ) rest
         | inr over ↦ elim (cases_lt near e.0) [
           | inr near' ↦
-              rw (within_is low last e.0 over (omega (arith, near', short)), within_is low near e.0 over near', under_is last last e.0 (omega (arith, near', short)))
-              (ap (cons_option (h e)) rest ∙ onto (h e) (filter_map h (span low near es)) (filter_map h (span last last es)))
+              rw (
+                within_is low last e.0 over (omega (arith, near', short)),
+                within_is low near e.0 over near',
+                under_is last last e.0 (omega (arith, near', short)),
+              )
+              (ap (cons_option (h e)) rest ∙ onto (h e) (filter_map h (span low near es))
+              (filter_map h (span last last es)))
           | inl past ↦ elim (cases_lt e.0 last) [
             | inl before ↦
-                rw (within_is low last e.0 over (omega (arith, before)), over_is low near e.0 past, under_is last last e.0 before)
+                rw (
+                  within_is low last e.0 over (omega (arith, before)),
+                  over_is low near e.0 past,
+                  under_is last last e.0 before,
+                )
                 (ap (λ o. cons_option o (filter_map h (span low last es))) (none e.0 e.1 past before) ∙ rest)
             | inr at_or_past ↦ elim (cases_eq e.0 last) [
               | inl at ↦
                   let empty : span low near es ≡ [] = none_within low near e.0 es (omega (arith, past)) rises.0 in
-                  let others : filter_map h (span low last es) ≡ filter_map h (span last last es) = rest ∙ ap (λ fs. filter_map h fs ++ filter_map h (span last last es)) empty in
-                  rw (within_is low last e.0 over (omega (arith, at)), over_is low near e.0 past, within_is last last e.0 (omega (arith, at)) (omega (arith, at)), empty)
+                  let others : filter_map h (span low last es) ≡ filter_map h (span last last es) = rest
+                  ∙ ap (λ fs. filter_map h fs ++ filter_map h (span last last es)) empty in
+                  rw (
+                    within_is low last e.0 over (omega (arith, at)),
+                    over_is low near e.0 past,
+                    within_is last last e.0 (omega (arith, at)) (omega (arith, at)),
+                    empty,
+                  )
                   (ap (cons_option (h e)) others)
-              | inr other ↦ rw (over_is low last e.0 (omega (arith, at_or_past, other)), over_is low near e.0 past, over_is last last e.0 (omega (arith, at_or_past, other))) rest
+              | inr other ↦ rw (
+                over_is low last e.0 (omega (arith, at_or_past, other)),
+                over_is low near e.0 past,
+                over_is last last e.0 (omega (arith, at_or_past, other)),
+              ) rest
             ]
           ]
         ]
@@ -83,20 +109,37 @@ module _ {K L D : Type 0} (same : D → D → Bool) (elect : Elect L) (x : State
   no_request : (v : ℕ) (r : RoundFacts K D) → is_admitted x v ≡ false → request_in same elect x (v, r) ≡ None
   no_request v r not_admitted = rw not_admitted (by_test (should_propose r))
     where
-      by_test : (b : Bool) → cond (false && b) (option_and_then (request_on same x v r) (find_parent same elect x v)) None ≡ None
+      by_test : (b : Bool) → cond (false && b) (option_and_then (request_on same x v r) (find_parent same elect x v))
+          None ≡ None
       by_test true = refl
       by_test false = refl
 
-  module _ (ordered : is_sorted nat_cmp x.rounds ≡ true) (near last : ℕ) (near_is : near ≡ min (x.current + x.terms.optimistic_views) (2 ^ 64 - 1)) (top : last ≡ next_term_start x.terms.term_length x.current) (room : last + 1 < 2 ^ 64) (short : near < last) where
-    two : filter_map (request_in same elect x) (views_within x x.current last) ≡ filter_map (request_in same elect x) (views_within x x.current near) ++ filter_map (request_in same elect x) (views_within x last last)
-    two = in_two (request_in same elect x) x.current near last (grind (arith, near_is, short, room)) short x.rounds (rises x.rounds ordered) (λ v r past before. no_request v r (far_off same elect x near v near_is past (omega (arith, before, room)) (omega (arith, before, top))))
+  module _ (ordered : is_sorted nat_cmp x.rounds ≡ true) (near last : ℕ)
+      (near_is : near ≡ min (x.current + x.terms.optimistic_views) (2 ^ 64 - 1))
+      (top : last ≡ next_term_start x.terms.term_length x.current) (room : last + 1 < 2 ^ 64)
+      (short : near < last) where
+    two : filter_map (request_in same elect x) (views_within x x.current last) ≡ filter_map (request_in same elect x)
+        (views_within x x.current near) ++ filter_map (request_in same elect x) (views_within x last last)
+    two = in_two (request_in same elect x) x.current near last (grind (arith, near_is, short, room)) short x.rounds
+        (rises x.rounds ordered) (λ v r past before.
+        no_request v r
+        (far_off same elect x near v near_is past (omega (arith, before, room)) (omega (arith, before, top))))
 
-    unfolded : slice_get (filter_map (request_in same elect x) (views_within x x.current last)) 0 ≡ propose_answer same elect x
+    unfolded : slice_get (filter_map (request_in same elect x) (views_within x x.current last)) 0 ≡ propose_answer same
+        elect x
     unfolding propose_answer
     unfolded = ap (λ t. slice_get (filter_map (request_in same elect x) (views_within x x.current t)) 0) top
 
-    pub near_given : (request : ProposalRequest D K) → Some request ≡ slice_get (filter_map (request_in same elect x) (views_within x x.current near)) 0 → Some request ≡ propose_answer same elect x
-    near_given request is = sym (ap (λ bs. slice_get bs 0) two ∙ first_of_first _ (filter_map (request_in same elect x) (views_within x last last)) request (sym is)) ∙ unfolded
+    pub near_given : (request : ProposalRequest D K)
+        → Some request ≡ slice_get (filter_map (request_in same elect x) (views_within x x.current near)) 0
+        → Some request ≡ propose_answer same elect x
+    near_given request is = sym (ap (λ bs. slice_get bs 0) two
+        ∙ first_of_first _ (filter_map (request_in same elect x) (views_within x last last)) request (sym is))
+        ∙ unfolded
 
-    pub start_given : (answer : Option (ProposalRequest D K)) → None ≡ slice_get (filter_map (request_in same elect x) (views_within x x.current near)) 0 → answer ≡ slice_get (filter_map (request_in same elect x) (views_within x last last)) 0 → answer ≡ propose_answer same elect x
-    start_given answer none is = is ∙ sym (ap (λ bs. slice_get bs 0) two ∙ first_of_two _ (filter_map (request_in same elect x) (views_within x last last)) (sym none)) ∙ unfolded
+    pub start_given : (answer : Option (ProposalRequest D K))
+        → None ≡ slice_get (filter_map (request_in same elect x) (views_within x x.current near)) 0
+        → answer ≡ slice_get (filter_map (request_in same elect x) (views_within x last last)) 0
+        → answer ≡ propose_answer same elect x
+    start_given answer none is = is ∙ sym (ap (λ bs. slice_get bs 0) two
+        ∙ first_of_two _ (filter_map (request_in same elect x) (views_within x last last)) (sym none)) ∙ unfolded

@@ -22,9 +22,12 @@ in_turn false true c = refl
 in_turn false false c = refl
 
 -- a test of the entries between two views
-pub any_between : {V : Type 0} (m : map.FinMap nat_cmp V) (from to : ℕ) (test : V → Bool) → list_any (λ e. test e.1) (map.entries (at_or_above (below m to) from)) ≡ list_any (λ e. leb from e.0 && ltb e.0 to && test e.1) (map.entries m)
+pub any_between : {V : Type 0} (m : map.FinMap nat_cmp V) (from to : ℕ) (test : V → Bool)
+    → list_any (λ e. test e.1) (map.entries (at_or_above (below m to) from)) ≡ list_any
+    (λ e. leb from e.0 && ltb e.0 to && test e.1) (map.entries m)
 any_between {V} m from to test =
-    ap (list_any (λ e. test e.1)) (entries-retain_keys (below m to) (λ u. leb from u) ∙ ap (filter (λ e. leb from e.0)) (entries-retain_keys m (λ u. ltb u to)))
+    ap (list_any (λ e. test e.1)) (entries-retain_keys (below m to) (λ u. leb from u)
+    ∙ ap (filter (λ e. leb from e.0)) (entries-retain_keys m (λ u. ltb u to)))
     ∙ any-filter (λ e. leb from e.0) (λ e. test e.1) (filter (λ e. ltb e.0 to) (map.entries m))
     ∙ any-filter (λ e. ltb e.0 to) (λ e. leb from e.0 && test e.1) (map.entries m)
     ∙ (λ i. list_any (λ (e : ℕ × V). in_turn (leb from e.0) (ltb e.0 to) (test e.1) i) (map.entries m))

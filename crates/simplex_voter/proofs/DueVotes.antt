@@ -36,9 +36,11 @@ none_before f (Some a) none = absurd (false≢true (sym none))
 module _ {K L D : Type 0} (x : StateFacts K L D) where
   rounds_of_found : (es : _) → AreFound x.rounds es → AreRoundsOf x es
   rounds_of_found [] found = tt
-  rounds_of_found (e ∷ es) found = (ap (λ o. unwrap_or o (new_round x.me x.members (round_number x e.0))) found.0, rounds_of_found es found.1)
+  rounds_of_found (e ∷ es) found =
+      (ap (λ o. unwrap_or o (new_round x.me x.members (round_number x e.0))) found.0, rounds_of_found es found.1)
 
-  module _ (all : List (ℕ × RoundFacts K D)) (shown : all ≡ x.rounds) (from : ℕ) (es : List (ℕ × RoundFacts K D)) (are : es ≡ filter (λ e. leb from e.0) all) where
+  module _ (all : List (ℕ × RoundFacts K D)) (shown : all ≡ x.rounds) (from : ℕ) (es : List (ℕ × RoundFacts K D))
+      (are : es ≡ filter (λ e. leb from e.0) all) where
     -- those from one view on
     from_shown : es ≡ filter (λ e. leb from e.0) x.rounds
     from_shown = are ∙ ap (filter (λ e. leb from e.0)) shown
@@ -47,14 +49,17 @@ module _ {K L D : Type 0} (x : StateFacts K L D) where
     pub rounds_from : map.is_sorted nat_cmp all ≡ true → AreRoundsOf x es
     rounds_from sorted =
         let rise = rises x.rounds (sym (ap (map.is_sorted nat_cmp) shown) ∙ sorted) in
-        subst (AreRoundsOf x) (sym from_shown) (rounds_of_found _ (found_filtered x.rounds x.rounds (λ e. leb from e.0) (found_each x.rounds rise)))
+        subst (AreRoundsOf x) (sym from_shown)
+        (rounds_of_found _ (found_filtered x.rounds x.rounds (λ e. leb from e.0) (found_each x.rounds rise)))
 
     -- the first of them that passes
-    pub first_shown : (test : ℕ × RoundFacts K D → Bool) → option_map (λ e. e.0) (find test es) ≡ option_map (λ e. e.0) (find test (filter (λ e. leb from e.0) x.rounds))
+    pub first_shown : (test : ℕ × RoundFacts K D → Bool)
+        → option_map (λ e. e.0) (find test es) ≡ option_map (λ e. e.0) (find test (filter (λ e. leb from e.0) x.rounds))
     first_shown test = ap (λ ds. option_map (λ e. e.0) (find test ds)) from_shown
 
   -- the first of some, and those after it
-  pub rounds_split : (es : _) (e : _) (rest : _) → es ≡ e ∷ rest → AreRoundsOf x es → (round_of x e.0 ≡ e.1) × AreRoundsOf x rest
+  pub rounds_split : (es : _) (e : _) (rest : _) → es ≡ e ∷ rest → AreRoundsOf x es
+      → (round_of x e.0 ≡ e.1) × AreRoundsOf x rest
   rounds_split es e rest are all = subst (AreRoundsOf x) are all
 
   module _ (same : D → D → Bool) (elect : Elect L) where
@@ -63,7 +68,8 @@ module _ {K L D : Type 0} (x : StateFacts K L D) where
     untracked v none = elim (cases_bool (may_notarize same elect x v)) [
       | inl may ↦ absurd (false≢true (sym (ap can_notarize fresh) ∙ notarize_round same elect x v may))
       | inr no_notarize ↦ elim (cases_bool (may_finalize elect x v)) [
-        | inl may ↦ absurd (false≢true (sym (ap (λ r. is_some r.notarization) fresh) ∙ (finalize_parts elect x v may).notarized))
+        | inl may ↦ absurd
+            (false≢true (sym (ap (λ r. is_some r.notarization) fresh) ∙ (finalize_parts elect x v may).notarized))
         | inr no_finalize ↦ rw (no_notarize, no_finalize) (ap has_unsent_certificate fresh)
       ]
     ]
@@ -83,6 +89,7 @@ module _ {K L D : Type 0} (x : StateFacts K L D) where
         by_round (Some r) is = elim (cases_bool (is_due same elect x v)) [
           | inl due ↦
               let kept = find-filtered (λ u. leb from u) v x.rounds ∙ rw (le-leb from v low) is in
-              absurd (false≢true (sym (none_passes test _ (none_before (λ e. e.0) _ none)) ∙ any_there test _ v r kept due))
+              absurd (false≢true
+              (sym (none_passes test _ (none_before (λ e. e.0) _ none)) ∙ any_there test _ v r kept due))
           | inr idle ↦ idle
         ]

@@ -33,13 +33,19 @@ module _ {A : Type 0} where
   last-absent o (x ∷ xs) is = absurd (false≢true (ap is_some is ∙ last-some x xs))
 
 module _ {A B : Type 0} (h : A → Option B) (xs : List A) (y : A) where
-  pub passed_by : (found : Option B) → found ≡ h y → false ≡ is_some found → last_or None (filter_map h (xs ++ y ∷ [])) ≡ last_or None (filter_map h xs)
-  passed_by None is none = ap (last_or None) (filter_map-append h xs (y ∷ []) ∙ ap (λ o. filter_map h xs ++ cons_option o []) (sym is)) ∙ last-nothing None (filter_map h xs)
+  pub passed_by : (found : Option B) → found ≡ h y → false ≡ is_some found
+      → last_or None (filter_map h (xs ++ y ∷ [])) ≡ last_or None (filter_map h xs)
+  passed_by None is none = ap (last_or None)
+      (filter_map-append h xs (y ∷ []) ∙ ap (λ o. filter_map h xs ++ cons_option o []) (sym is))
+      ∙ last-nothing None (filter_map h xs)
   passed_by (Some b) is none = absurd (false≢true none)
 
-  pub stopped_at : (found : Option B) → found ≡ h y → true ≡ is_some found → found ≡ last_or None (filter_map h (xs ++ y ∷ []))
+  pub stopped_at : (found : Option B) → found ≡ h y → true ≡ is_some found
+      → found ≡ last_or None (filter_map h (xs ++ y ∷ []))
   stopped_at None is some = absurd (false≢true (sym some))
-  stopped_at (Some b) is some = sym (ap (last_or None) (filter_map-append h xs (y ∷ []) ∙ ap (λ o. filter_map h xs ++ cons_option o []) (sym is)) ∙ last-append None (filter_map h xs) b)
+  stopped_at (Some b) is some = sym (ap (last_or None)
+      (filter_map-append h xs (y ∷ []) ∙ ap (λ o. filter_map h xs ++ cons_option o []) (sym is))
+      ∙ last-append None (filter_map h xs) b)
 
 pub none_left : {A B : Type 0} (h : A → Option B) (xs : List A) → length xs ≡ 0 → None ≡ last_or None (filter_map h xs)
 none_left h [] is = refl
@@ -50,17 +56,21 @@ module _ {K L D : Type 0} (x : StateFacts K L D) where
   not_explicit r is = rw is refl
 
   -- a view above genesis that is not explicit has no explicit payload
-  pub no_explicit : (w : ℕ) → 0 < w → ((r : RoundFacts K D) → round_at x w ≡ Some r → is_explicit r ≡ false) → explicit_ancestry_payload x w ≡ None
+  pub no_explicit : (w : ℕ) → 0 < w → ((r : RoundFacts K D) → round_at x w ≡ Some r → is_explicit r ≡ false)
+      → explicit_ancestry_payload x w ≡ None
   unfolding explicit_ancestry_payload
   no_explicit w above rest = rw (ne_eqb w 0 (λ is. omega arith)) (by_round (round_at x w) refl)
     where
-      by_round : (found : Option (RoundFacts K D)) → round_at x w ≡ found → option_and_then certified_payload found ≡ None
+      by_round : (found : Option (RoundFacts K D)) → round_at x w ≡ found
+          → option_and_then certified_payload found ≡ None
       by_round None is = refl
       by_round (Some r) is = not_explicit r (rest r is)
 
 -- from `end` up to v no view has an explicit payload
-module _ {K L D : Type 0} (x : StateFacts K L D) (v end : ℕ) (not_above : end ≤ v) (quiet : (w : ℕ) → end ≤ w → w < v → explicit_ancestry_payload x w ≡ None) where
-  explicit_kept : (es : List (ℕ × RoundFacts K D)) → filter_map (explicit_at x) (filter (λ e. ltb e.0 end) es) ≡ filter_map (explicit_below x v) es
+module _ {K L D : Type 0} (x : StateFacts K L D) (v end : ℕ) (not_above : end ≤ v)
+    (quiet : (w : ℕ) → end ≤ w → w < v → explicit_ancestry_payload x w ≡ None) where
+  explicit_kept : (es : List (ℕ × RoundFacts K D))
+      → filter_map (explicit_at x) (filter (λ e. ltb e.0 end) es) ≡ filter_map (explicit_below x v) es
   explicit_kept [] = refl
   explicit_kept (e ∷ es) = elim (cases_lt e.0 end) [
     | inl under ↦ rw (lt-ltb e.0 end under, lt-ltb e.0 v (omega (arith, not_above)), explicit_kept es) refl
@@ -73,8 +83,14 @@ module _ {K L D : Type 0} (x : StateFacts K L D) (v end : ℕ) (not_above : end 
   searched : filter_map (explicit_at x) (filter (λ e. ltb e.0 end) x.rounds) ≡ filter_map (explicit_below x v) x.rounds
   searched = explicit_kept x.rounds
 
-  pub highest_found : (found : ℕ × D) → Some found ≡ last_or None (filter_map (explicit_at x) (filter (λ e. ltb e.0 end) x.rounds)) → Some found ≡ highest_explicit x v
-  highest_found found is = last-there (at_view 0 x.genesis) (filter_map (explicit_at x) (filter (λ e. ltb e.0 end) x.rounds)) found is ∙ ap (last_or (at_view 0 x.genesis)) searched
+  pub highest_found : (found : ℕ × D) → Some found ≡ last_or None
+      (filter_map (explicit_at x) (filter (λ e. ltb e.0 end) x.rounds)) → Some found ≡ highest_explicit x v
+  highest_found found is = last-there (at_view 0 x.genesis)
+      (filter_map (explicit_at x) (filter (λ e. ltb e.0 end) x.rounds)) found is
+      ∙ ap (last_or (at_view 0 x.genesis)) searched
 
-  pub none_explicit : (genesis : Option (ℕ × D)) → None ≡ last_or None (filter_map (explicit_at x) (filter (λ e. ltb e.0 end) x.rounds)) → genesis ≡ at_view 0 x.genesis → genesis ≡ highest_explicit x v
-  none_explicit genesis is other = other ∙ last-absent (at_view 0 x.genesis) (filter_map (explicit_at x) (filter (λ e. ltb e.0 end) x.rounds)) is ∙ ap (last_or (at_view 0 x.genesis)) searched
+  pub none_explicit : (genesis : Option (ℕ × D))
+      → None ≡ last_or None (filter_map (explicit_at x) (filter (λ e. ltb e.0 end) x.rounds))
+      → genesis ≡ at_view 0 x.genesis → genesis ≡ highest_explicit x v
+  none_explicit genesis is other = other ∙ last-absent (at_view 0 x.genesis)
+      (filter_map (explicit_at x) (filter (λ e. ltb e.0 end) x.rounds)) is ∙ ap (last_or (at_view 0 x.genesis)) searched

@@ -13,7 +13,8 @@ not_late true false never = refl
 not_late false late never = refl
 
 -- the state has not failed, and no moment is late
-pub no_late_fault : (failed b late : Bool) (P : Fault → Type 0) → false ≡ failed → (IsTrue late → true ≡ false) → IfSome (first_fault failed false (b && late)) P
+pub no_late_fault : (failed b late : Bool) (P : Fault → Type 0) → false ≡ failed → (IsTrue late → true ≡ false)
+    → IfSome (first_fault failed false (b && late)) P
 no_late_fault true b late P sound never = absurd (false≢true sound)
 no_late_fault false b late P sound never = rw (not_late b late never) tt
 
@@ -22,12 +23,15 @@ fault_in (Ok a) other = other
 fault_in (Err fault) other = fault
 
 -- a refusal of one kind of answer, passed on as that of another
-pub passed_on : (A B Q : Type 0) (refusal : Option Fault) (fault : Fault) → IfSome refusal (λ f. ◌≡◌ {A = Result A Fault} (Err fault) (Err f) × Q) → IfSome refusal (λ f. ◌≡◌ {A = Result B Fault} (Err fault) (Err f) × Q)
+pub passed_on : (A B Q : Type 0) (refusal : Option Fault) (fault : Fault)
+    → IfSome refusal (λ f. ◌≡◌ {A = Result A Fault} (Err fault) (Err f) × Q)
+    → IfSome refusal (λ f. ◌≡◌ {A = Result B Fault} (Err fault) (Err f) × Q)
 passed_on A B Q None fault refused = tt
 passed_on A B Q (Some f) fault refused = (ap Err (ap (λ (r : Result A Fault). fault_in r fault) refused.0), refused.1)
 
 -- a call found no memory, and left how the state was set up
-pub failed_now : {K L D : Type 0} (x y z : StateFacts K L D) → HasSameSetup x y → z ≡ record y { failed = true } → HasFailed x z
+pub failed_now : {K L D : Type 0} (x y z : StateFacts K L D) → HasSameSetup x y → z ≡ record y { failed = true }
+    → HasFailed x z
 failed_now x y z setup fails = record {
   failed = ap (λ w. w.failed) fails;
   settings = ap (λ w. w.settings) fails ∙ setup.settings;
@@ -35,21 +39,25 @@ failed_now x y z setup fails = record {
 }
 
 pub failed_here : {K L D : Type 0} (x z : StateFacts K L D) → z ≡ record x { failed = true } → HasFailed x z
-failed_here x z fails = record { failed = ap (λ w. w.failed) fails; settings = ap (λ w. w.settings) fails; terms = ap (λ w. w.terms) fails }
+failed_here x z fails =
+    record { failed = ap (λ w. w.failed) fails; settings = ap (λ w. w.settings) fails; terms = ap (λ w. w.terms) fails }
 
-late_of_both : (success tracked late : Bool) → (IsTrue (success && late) → true ≡ false) → (success && tracked && late) ≡ false
+late_of_both : (success tracked late : Bool) → (IsTrue (success && late) → true ≡ false)
+    → (success && tracked && late) ≡ false
 late_of_both true true true never = absurd (false≢true (sym (never refl)))
 late_of_both true true false never = refl
 late_of_both true false late never = refl
 late_of_both false tracked late never = refl
 
 -- a verdict whose deadlines are not late is not refused
-pub no_late_verdict : (failed success tracked late : Bool) (P : Fault → Type 0) → false ≡ failed → (IsTrue (success && late) → true ≡ false) → IfSome (first_fault failed false (success && tracked && late)) P
+pub no_late_verdict : (failed success tracked late : Bool) (P : Fault → Type 0) → false ≡ failed
+    → (IsTrue (success && late) → true ≡ false) → IfSome (first_fault failed false (success && tracked && late)) P
 no_late_verdict true success tracked late P sound never = absurd (false≢true sound)
 no_late_verdict false success tracked late P sound never = rw (late_of_both success tracked late never) tt
 
 -- a finalization that is not refused: the next view isn't entered too late
-pub none_due : (failed large late later : Bool) → false ≡ failed → false ≡ large → later ≡ late → (IsTrue late → true ≡ false) → first_fault failed large later ≡ None
+pub none_due : (failed large late later : Bool) → false ≡ failed → false ≡ large → later ≡ late
+    → (IsTrue late → true ≡ false) → first_fault failed large later ≡ None
 none_due true large late later sound small same never = absurd (false≢true sound)
 none_due false true late later sound small same never = absurd (false≢true small)
 none_due false false true later sound small same never = absurd (false≢true (sym (never refl)))

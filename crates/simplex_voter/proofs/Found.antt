@@ -25,7 +25,8 @@ module _ {V : Type 0} where
   found_first : (e : ℕ × V) (es : List (ℕ × V)) → find nat_cmp e.0 (e ∷ es) ≡ Some e.1
   found_first e es = ap (λ b. cond b (Some e.1) (find nat_cmp e.0 es)) (is_eq-nat_cmp e.0 e.0 ∙ eq-eqb e.0 e.0 refl)
 
-  found_other : (q : ℕ) (e : ℕ × V) (es : List (ℕ × V)) → eqb q e.0 ≡ false → find nat_cmp q (e ∷ es) ≡ find nat_cmp q es
+  found_other : (q : ℕ) (e : ℕ × V) (es : List (ℕ × V)) → eqb q e.0 ≡ false
+      → find nat_cmp q (e ∷ es) ≡ find nat_cmp q es
   found_other q e es apart = ap (λ b. cond b (Some e.1) (find nat_cmp q es)) (is_eq-nat_cmp q e.0 ∙ apart)
 
   found_behind : (e : ℕ × V) (es rest : List (ℕ × V)) → AllAbove e.0 rest → AreFound es rest → AreFound (e ∷ es) rest
@@ -42,14 +43,19 @@ module _ {V : Type 0} where
   found_filtered all [] test found = tt
   found_filtered all (e ∷ es) test found =
       let behind : AreFound all (filter test es) = found_filtered all es test found.1 in
-      elim (test e) as (λ b. AreFound all (cond b (e ∷ filter test es) (filter test es))) [ true ↦ (found.0, behind) | false ↦ behind ]
+      elim (test e) as (λ b. AreFound all (cond b (e ∷ filter test es) (filter test es)))
+      [ true ↦ (found.0, behind) | false ↦ behind ]
 
   -- the first value of a walk is given by an entry that is found
-  pub first_giver : {B : Type 0} (h : ℕ × V → Option B) (all es : List (ℕ × V)) (b : B) → AreFound all es → slice_get (filter_map h es) 0 ≡ Some b → (e : ℕ × V) × (find nat_cmp e.0 all ≡ Some e.1) × (h e ≡ Some b)
+  pub first_giver : {B : Type 0} (h : ℕ × V → Option B) (all es : List (ℕ × V)) (b : B) → AreFound all es
+      → slice_get (filter_map h es) 0 ≡ Some b → (e : ℕ × V) × (find nat_cmp e.0 all ≡ Some e.1) × (h e ≡ Some b)
   first_giver h all [] b found is = absurd (false≢true (ap is_some is))
   first_giver {B} h all (e ∷ es) b found is = by_value (first_giver h all es b found.1) (h e) refl is
     where
-      by_value : (slice_get (filter_map h es) 0 ≡ Some b → (d : ℕ × V) × (find nat_cmp d.0 all ≡ Some d.1) × (h d ≡ Some b)) → (o : Option B) → h e ≡ o → slice_get (cons_option o (filter_map h es)) 0 ≡ Some b → (d : ℕ × V) × (find nat_cmp d.0 all ≡ Some d.1) × (h d ≡ Some b)
+      by_value : (slice_get (filter_map h es) 0 ≡ Some b
+          → (d : ℕ × V) × (find nat_cmp d.0 all ≡ Some d.1) × (h d ≡ Some b)) → (o : Option B) → h e ≡ o
+          → slice_get (cons_option o (filter_map h es)) 0 ≡ Some b
+          → (d : ℕ × V) × (find nat_cmp d.0 all ≡ Some d.1) × (h d ≡ Some b)
       by_value behind None here is = behind is
       by_value behind (Some c) here is = (e, found.0, here ∙ is)
 
@@ -57,16 +63,19 @@ module _ {V : Type 0} where
   AllAbove-filtered x test [] above = tt
   AllAbove-filtered x test (e ∷ es) above =
       let behind : AllAbove x (filter test es) = AllAbove-filtered x test es above.1 in
-      elim (test e) as (λ b. AllAbove x (cond b (e ∷ filter test es) (filter test es))) [ true ↦ (above.0, behind) | false ↦ behind ]
+      elim (test e) as (λ b. AllAbove x (cond b (e ∷ filter test es) (filter test es)))
+      [ true ↦ (above.0, behind) | false ↦ behind ]
 
   pub rises-filtered : (test : ℕ × V → Bool) (es : List (ℕ × V)) → Rises es → Rises (filter test es)
   rises-filtered test [] r = tt
   rises-filtered test (e ∷ es) r =
       let behind : Rises (filter test es) = rises-filtered test es r.1 in
-      elim (test e) as (λ b. Rises (cond b (e ∷ filter test es) (filter test es))) [ true ↦ (AllAbove-filtered e.0 test es r.0, behind) | false ↦ behind ]
+      elim (test e) as (λ b. Rises (cond b (e ∷ filter test es) (filter test es)))
+      [ true ↦ (AllAbove-filtered e.0 test es r.0, behind) | false ↦ behind ]
 
   -- a key that passes is found among those that remain
-  pub find-filtered : (p : ℕ → Bool) (q : ℕ) (es : List (ℕ × V)) → find nat_cmp q (filter (λ e. p e.0) es) ≡ cond (p q) (find nat_cmp q es) None
+  pub find-filtered : (p : ℕ → Bool) (q : ℕ) (es : List (ℕ × V))
+      → find nat_cmp q (filter (λ e. p e.0) es) ≡ cond (p q) (find nat_cmp q es) None
   find-filtered p q [] = elim (p q) as (λ b. ◌≡◌ {A = Option V} None (cond b None None)) [ true ↦ refl | false ↦ refl ]
   find-filtered p q (e ∷ es) = elim (cases_eq q e.0) [
     | inl same ↦ elim (cases_bool (p e.0)) [
@@ -91,7 +100,8 @@ module _ {V : Type 0} where
       found_at e es q same = ap (λ k. find nat_cmp k (e ∷ es)) same ∙ found_first e es
 
   -- tests over all entries, by what is found
-  pub any_there : (test : ℕ × V → Bool) (es : List (ℕ × V)) (q : ℕ) (r : V) → find nat_cmp q es ≡ Some r → test (q, r) ≡ true → list_any test es ≡ true
+  pub any_there : (test : ℕ × V → Bool) (es : List (ℕ × V)) (q : ℕ) (r : V) → find nat_cmp q es ≡ Some r
+      → test (q, r) ≡ true → list_any test es ≡ true
   any_there test [] q r is passes = absurd (false≢true (ap is_some is))
   any_there test (e ∷ es) q r is passes = elim (cases_eq q e.0) [
     | inl same ↦
@@ -104,17 +114,22 @@ module _ {V : Type 0} where
         elim (test e) as (λ b. (b || list_any test es) ≡ true) [ true ↦ refl | false ↦ behind ]
   ]
 
-  pub any_nowhere : (test : ℕ × V → Bool) (all es : List (ℕ × V)) → AreFound all es → ((q : ℕ) (r : V) → find nat_cmp q all ≡ Some r → test (q, r) ≡ false) → list_any test es ≡ false
+  pub any_nowhere : (test : ℕ × V → Bool) (all es : List (ℕ × V)) → AreFound all es
+      → ((q : ℕ) (r : V) → find nat_cmp q all ≡ Some r → test (q, r) ≡ false) → list_any test es ≡ false
   any_nowhere test all [] found fails = refl
   any_nowhere test all (e ∷ es) found fails = rw (fails e.0 e.1 found.0) (any_nowhere test all es found.1 fails)
 
   -- no entry gives anything
-  pub nothing_given : {B : Type 0} (h : ℕ × V → Option B) (all es : List (ℕ × V)) → AreFound all es → ((q : ℕ) (r : V) → find nat_cmp q all ≡ Some r → h (q, r) ≡ None) → slice_get (filter_map h es) 0 ≡ None
+  pub nothing_given : {B : Type 0} (h : ℕ × V → Option B) (all es : List (ℕ × V)) → AreFound all es
+      → ((q : ℕ) (r : V) → find nat_cmp q all ≡ Some r → h (q, r) ≡ None) → slice_get (filter_map h es) 0 ≡ None
   nothing_given h all [] found none = refl
   nothing_given h all (e ∷ es) found none = rw (none e.0 e.1 found.0) (nothing_given h all es found.1 none)
 
   -- the first value comes from the lowest entry that gives one
-  pub first_given : {B : Type 0} (h : ℕ × V → Option B) (es : List (ℕ × V)) (v : ℕ) (r : V) → Rises es → find nat_cmp v es ≡ Some r → is_some (h (v, r)) ≡ true → ((q : ℕ) (s : V) → q < v → find nat_cmp q es ≡ Some s → h (q, s) ≡ None) → slice_get (filter_map h es) 0 ≡ h (v, r)
+  pub first_given : {B : Type 0} (h : ℕ × V → Option B) (es : List (ℕ × V)) (v : ℕ) (r : V) → Rises es
+      → find nat_cmp v es ≡ Some r → is_some (h (v, r)) ≡ true
+      → ((q : ℕ) (s : V) → q < v → find nat_cmp q es ≡ Some s → h (q, s) ≡ None)
+      → slice_get (filter_map h es) 0 ≡ h (v, r)
   first_given h [] v r rise is gives none = absurd (false≢true (ap is_some is))
   first_given {B} h (e ∷ es) v r rise is gives none = elim (cases_order v e.0) [
     | inl same ↦
@@ -123,7 +138,8 @@ module _ {V : Type 0} where
         let here : h e ≡ h (v, r) = λ i. h (sym same i, value i) in
         rw here (by_value (h (v, r)) gives)
     | inr (inl lower) ↦
-        let absent = found_other v e es (ne_eqb v e.0 (λ same. absurd (omega (arith, lower, same)))) ∙ find_above v e.0 es (omega (arith, lower)) rise.0 in
+        let absent = found_other v e es (ne_eqb v e.0 (λ same. absurd (omega (arith, lower, same))))
+        ∙ find_above v e.0 es (omega (arith, lower)) rise.0 in
         absurd (false≢true (ap is_some (sym absent ∙ is)))
     | inr (inr higher) ↦
         let behind = sym (found_other v e es (ne_eqb v e.0 (λ same. absurd (omega (arith, higher, same))))) ∙ is in
@@ -142,12 +158,16 @@ module _ {V : Type 0} where
       ]
 
   -- nothing at or above a key that all are above
-  none_lower : (t : ℕ × V → Bool) (q x : ℕ) (es : List (ℕ × V)) → q ≤ x → AllAbove x es → list_any (λ d. ltb d.0 q && t d) es ≡ false
+  none_lower : (t : ℕ × V → Bool) (q x : ℕ) (es : List (ℕ × V)) → q ≤ x → AllAbove x es
+      → list_any (λ d. ltb d.0 q && t d) es ≡ false
   none_lower t q x [] low above = refl
-  none_lower t q x (e ∷ es) low above = rw (le-ltb e.0 q (omega (arith, low, above.0))) (none_lower t q x es low above.1)
+  none_lower t q x (e ∷ es) low above = rw (le-ltb e.0 q (omega (arith, low, above.0)))
+      (none_lower t q x es low above.1)
 
   -- a walk comes to a view that is there, unless a lower one ends it
-  pub any-through : (t : ℕ × V → Bool) (q : ℕ) (es : List (ℕ × V)) → Rises es → list_any (λ e. eqb q e.0) (through t es) ≡ (is_some (find nat_cmp q es) && not (list_any (λ d. ltb d.0 q && t d) es))
+  pub any-through : (t : ℕ × V → Bool) (q : ℕ) (es : List (ℕ × V)) → Rises es
+      → list_any (λ e. eqb q e.0) (through t es)
+      ≡ (is_some (find nat_cmp q es) && not (list_any (λ d. ltb d.0 q && t d) es))
   any-through t q [] rise = refl
   any-through t q (e ∷ es) rise = elim (cases_order q e.0) [
     | inl same ↦
@@ -157,7 +177,8 @@ module _ {V : Type 0} where
     | inr (inl lower) ↦
         let apart : eqb q e.0 ≡ false = ne_eqb q e.0 (λ same. absurd (omega (arith, lower, same))) in
         let behind : find nat_cmp q es ≡ None = find_above q e.0 es (omega (arith, lower)) rise.0 in
-        let rest : list_any (λ f. eqb q f.0) (through t es) ≡ false = any-through t q es rise.1 ∙ ap (λ o. is_some o && not (list_any (λ d. ltb d.0 q && t d) es)) behind in
+        let rest : list_any (λ f. eqb q f.0) (through t es) ≡ false = any-through t q es rise.1
+        ∙ ap (λ o. is_some o && not (list_any (λ d. ltb d.0 q && t d) es)) behind in
         rw (found_other q e es apart ∙ behind) (passed apart rest (t e))
     | inr (inr higher) ↦
         let apart : eqb q e.0 ≡ false = ne_eqb q e.0 (λ same. absurd (omega (arith, higher, same))) in
@@ -168,7 +189,8 @@ module _ {V : Type 0} where
       here same true = rw same refl
       here same false = rw same refl
 
-      passed : eqb q e.0 ≡ false → list_any (λ f. eqb q f.0) (through t es) ≡ false → (b : Bool) → list_any (λ f. eqb q f.0) (cond b (e ∷ []) (e ∷ through t es)) ≡ false
+      passed : eqb q e.0 ≡ false → list_any (λ f. eqb q f.0) (through t es) ≡ false → (b : Bool)
+          → list_any (λ f. eqb q f.0) (cond b (e ∷ []) (e ∷ through t es)) ≡ false
       passed apart rest true = rw apart refl
       passed apart rest false = rw apart rest
 
@@ -176,6 +198,9 @@ module _ {V : Type 0} where
       never true = refl
       never false = refl
 
-      after : list_any (λ f. eqb q f.0) (through t es) ≡ (is_some (find nat_cmp q es) && not (list_any (λ d. ltb d.0 q && t d) es)) → eqb q e.0 ≡ false → (b : Bool) → list_any (λ f. eqb q f.0) (cond b (e ∷ []) (e ∷ through t es)) ≡ (is_some (find nat_cmp q es) && not (b || list_any (λ d. ltb d.0 q && t d) es))
+      after : list_any (λ f. eqb q f.0) (through t es)
+          ≡ (is_some (find nat_cmp q es) && not (list_any (λ d. ltb d.0 q && t d) es)) → eqb q e.0 ≡ false → (b : Bool)
+          → list_any (λ f. eqb q f.0) (cond b (e ∷ []) (e ∷ through t es))
+          ≡ (is_some (find nat_cmp q es) && not (b || list_any (λ d. ltb d.0 q && t d) es))
       after behind apart true = rw apart (never (is_some (find nat_cmp q es)))
       after behind apart false = rw apart behind

@@ -70,7 +70,8 @@ in_map f (v ∷ us) u is = elim (cases_bool (eqb v u)) [
 ]
 
 module _ (test : ℕ → Bool) where
-  lower_passes : (v : ℕ) (o : Option ℕ) (w : ℕ) → test v ≡ true → ((m : ℕ) → o ≡ Some m → test m ≡ true) → lower_of v o ≡ Some w → test w ≡ true
+  lower_passes : (v : ℕ) (o : Option ℕ) (w : ℕ) → test v ≡ true → ((m : ℕ) → o ≡ Some m → test m ≡ true)
+      → lower_of v o ≡ Some w → test w ≡ true
   lower_passes v None w here rest e = subst (λ o. test (unwrap_or o v) ≡ true) e here
   lower_passes v (Some m) w here rest e =
       let is : min v m ≡ w = ap (λ o. unwrap_or o 0) e in
@@ -88,7 +89,8 @@ module _ (test : ℕ → Bool) where
   ]
 
   -- a view that passes is not below it
-  lowest_least : (ws : List ℕ) (u : ℕ) → IsIn u ws → test u ≡ true → (w : ℕ) × (lowest (filter test ws) ≡ Some w) × (w ≤ u)
+  lowest_least : (ws : List ℕ) (u : ℕ) → IsIn u ws → test u ≡ true
+      → (w : ℕ) × (lowest (filter test ws) ≡ Some w) × (w ≤ u)
   lowest_least [] u is here = absurd (false≢true is)
   lowest_least (v ∷ ws) u is here = elim (cases_bool (eqb v u)) [
     | inl same ↦
@@ -111,7 +113,8 @@ module _ {K L D : Type 0} (x : StateFacts K L D) where
   length = x.terms.term_length
 
   -- a view after a covered one is covered too, or starts the next term
-  next_of_covered : (w u : ℕ) → 0 < length → 1 ≤ w → covers length u w ≡ true → covers length u (w + 1) ≡ false → w + 1 ≡ next_term_start length u
+  next_of_covered : (w u : ℕ) → 0 < length → 1 ≤ w → covers length u w ≡ true → covers length u (w + 1) ≡ false
+      → w + 1 ≡ next_term_start length u
   next_of_covered w u some one covered uncovered =
       let parts = and_parts (leb u w) _ covered in
       let below : u ≤ w = grind (arith, nat_tests) in
@@ -119,9 +122,11 @@ module _ {K L D : Type 0} (x : StateFacts K L D) where
       let above : w < next_term_start length w = next_above length w some one in
       elim (cases_lt (w + 1) (next_term_start length w)) [
         | inl inside ↦
-            let same : term_start length (w + 1) ≡ term_start length w = same_start length w (w + 1) one (omega arith) inside in
+            let same : term_start length (w + 1) ≡ term_start length w =
+            same_start length w (w + 1) one (omega arith) inside in
             let at_or_below : leb u (w + 1) ≡ true = grind (arith, nat_tests) in
-            let covers_it : covers length u (w + 1) ≡ true = and_both (leb u (w + 1)) _ at_or_below (eq-eqb _ _ (starts ∙ sym same)) in
+            let covers_it : covers length u (w + 1) ≡ true =
+            and_both (leb u (w + 1)) _ at_or_below (eq-eqb _ _ (starts ∙ sym same)) in
             absurd (false≢true (sym uncovered ∙ covers_it))
         | inr past ↦
             let next : w + 1 ≡ next_term_start length w = omega arith in
@@ -129,7 +134,8 @@ module _ {K L D : Type 0} (x : StateFacts K L D) where
       ]
 
   -- below an uncovered view, or there, is one where a gap may begin
-  gap_start_below : (p v : ℕ) → 0 < length → (w : ℕ) → p < w → w < v → is_covered x w ≡ false → (c : ℕ) × IsIn c (gap_starts x p) × (is_gap x p v c ≡ true) × (c ≤ w)
+  gap_start_below : (p v : ℕ) → 0 < length → (w : ℕ) → p < w → w < v → is_covered x w ≡ false
+      → (c : ℕ) × IsIn c (gap_starts x p) × (is_gap x p v c ≡ true) × (c ≤ w)
   gap_start_below p v some zero low high uncovered = absurd (omega arith)
   gap_start_below p v some (suc w) low high uncovered =
       let gap : is_gap x p v (suc w) ≡ true = rw uncovered (grind (arith, nat_tests)) in
@@ -141,10 +147,18 @@ module _ {K L D : Type 0} (x : StateFacts K L D) where
           | inl covered ↦
               let by = some_of (λ u. covers length u w) x.nullified covered in
               let more : suc w ≡ w + 1 = omega arith in
-              let not_by : covers length by.0 (w + 1) ≡ false = none_of (λ u. covers length u (w + 1)) x.nullified by.0 (rw more at uncovered) by.1 in
-              let starts : w + 1 ≡ next_term_start length by.0 = next_of_covered w by.0 some (omega arith) by.2 not_by in
-              let among : IsIn (next_term_start length by.0) (map (next_term_start length) x.nullified) = in_map (next_term_start length) x.nullified by.0 by.1 in
-              (suc w, or_right (eqb (p + 1) (suc w)) _ (subst (λ n. IsIn n (map (next_term_start length) x.nullified)) (sym (more ∙ starts)) among), gap, omega arith)
+              let not_by : covers length by.0 (w + 1) ≡ false =
+              none_of (λ u. covers length u (w + 1)) x.nullified by.0 (rw more at uncovered) by.1 in
+              let starts : w + 1 ≡ next_term_start length by.0 =
+              next_of_covered w by.0 some (omega arith) by.2 not_by in
+              let among : IsIn (next_term_start length by.0) (map (next_term_start length) x.nullified) =
+              in_map (next_term_start length) x.nullified by.0 by.1 in (
+                suc w,
+                or_right (eqb (p + 1) (suc w)) _
+                    (subst (λ n. IsIn n (map (next_term_start length) x.nullified)) (sym (more ∙ starts)) among),
+                gap,
+                omega arith,
+              )
           | inr open' ↦
               let rest = gap_start_below p v some w behind (omega arith) open' in
               (rest.0, rest.1, rest.2, omega arith)
@@ -152,7 +166,8 @@ module _ {K L D : Type 0} (x : StateFacts K L D) where
       ]
 
   -- an uncovered view between is not below the first gap
-  gap_not_below : (p v w : ℕ) → 0 < length → p < w → w < v → is_covered x w ≡ false → (c : ℕ) × (lowest (filter (is_gap x p v) (gap_starts x p)) ≡ Some c) × (c ≤ w)
+  gap_not_below : (p v w : ℕ) → 0 < length → p < w → w < v → is_covered x w ≡ false
+      → (c : ℕ) × (lowest (filter (is_gap x p v) (gap_starts x p)) ≡ Some c) × (c ≤ w)
   gap_not_below p v w some low high uncovered =
       let start = gap_start_below p v some w low high uncovered in
       let least = lowest_least (is_gap x p v) (gap_starts x p) start.0 start.1 start.2 in
@@ -164,7 +179,8 @@ module _ {K L D : Type 0} (x : StateFacts K L D) where
       let second = and_parts (ltb p w) _ first.0 in
       (grind (arith, nat_tests), grind (arith, nat_tests), not_true _ first.1)
 
-  found_gap : (p v : ℕ) → 0 < length → (o : Option ℕ) → lowest (filter (is_gap x p v) (gap_starts x p)) ≡ o → MatchOption o (IsGapless x p v) (IsFirstGap x p v)
+  found_gap : (p v : ℕ) → 0 < length → (o : Option ℕ) → lowest (filter (is_gap x p v) (gap_starts x p)) ≡ o
+      → MatchOption o (IsGapless x p v) (IsFirstGap x p v)
   found_gap p v some None e = λ w low high. elim (cases_bool (is_covered x w)) [
     | inl covered ↦ covered
     | inr open' ↦ absurd (false≢true (ap is_some (sym e ∙ (gap_not_below p v w some low high open').1)))
@@ -184,7 +200,8 @@ module _ {K L D : Type 0} (x : StateFacts K L D) where
         ];
       }
 
-  pub first_unnullified_view-is : (p v : ℕ) → 0 < length → MatchOption (first_unnullified_view x p v) (IsGapless x p v) (IsFirstGap x p v)
+  pub first_unnullified_view-is : (p v : ℕ) → 0 < length
+      → MatchOption (first_unnullified_view x p v) (IsGapless x p v) (IsFirstGap x p v)
   unfolding first_unnullified_view
   first_unnullified_view-is p v some = found_gap p v some _ refl
 
@@ -206,16 +223,19 @@ module _ {K L D : Type 0} (x : StateFacts K L D) where
         absurd (omega arith)
   ]
 
-any-insert_key : (test : ℕ → Bool) (us : List ℕ) (u : ℕ) → list_any test us ≡ true → list_any test (insert_key nat_cmp us u) ≡ true
+any-insert_key : (test : ℕ → Bool) (us : List ℕ) (u : ℕ) → list_any test us ≡ true
+    → list_any test (insert_key nat_cmp us u) ≡ true
 any-insert_key test [] u h = absurd (false≢true h)
-any-insert_key test (v ∷ us) u h = elim (nat_cmp u v) as (λ o. list_any test (match_ordering o (u ∷ v ∷ us) (v ∷ us) (v ∷ insert_key nat_cmp us u)) ≡ true) [
-  | Less ↦ or_right (test u) _ h
-  | Equal ↦ h
-  | Greater ↦ elim (cases_bool (test v)) [
-    | inl here ↦ rw here refl
-    | inr other ↦ or_right (test v) _ (any-insert_key test us u (rw other at h))
-  ]
-]
+any-insert_key test (v ∷ us) u h = elim (nat_cmp u v) as
+    (λ o. list_any test (match_ordering o (u ∷ v ∷ us) (v ∷ us) (v ∷ insert_key nat_cmp us u)) ≡ true) [
+      | Less ↦ or_right (test u) _ h
+      | Equal ↦ h
+      | Greater ↦ elim (cases_bool (test v)) [
+        | inl here ↦ rw here refl
+        | inr other ↦ or_right (test v) _ (any-insert_key test us u (rw other at h))
+      ]
+    ]
 
-pub covering_stays : {K L D : Type 0} (x : StateFacts K L D) (u w : ℕ) → is_covered x w ≡ true → is_covered (nullified_also x u) w ≡ true
+pub covering_stays : {K L D : Type 0} (x : StateFacts K L D) (u w : ℕ) → is_covered x w ≡ true
+    → is_covered (nullified_also x u) w ≡ true
 covering_stays x u w h = any-insert_key (λ n. covers x.terms.term_length n w) x.nullified u h

@@ -12,8 +12,10 @@ module _ {A B : Type 0} (h : A → Option B) (xs : List A) where
   in_front (Some y) zs = refl
 
   -- one more is looked at
-  pub gathers_next : (ys more : List B) (o : Option B) (es rest : List A) (e : A) → Gathers ys es → es ≡ e ∷ rest → o ≡ h e → more ≡ ys ++ cons_option o [] → Gathers more rest
+  pub gathers_next : (ys more : List B) (o : Option B) (es rest : List A) (e : A) → Gathers ys es → es ≡ e ∷ rest
+      → o ≡ h e → more ≡ ys ++ cons_option o [] → Gathers more rest
   gathers_next ys more o es rest e before first is added =
       ap (λ zs. zs ++ filter_map h rest) added ∙ append_assoc ys (cons_option o []) (filter_map h rest)
-      ∙ ap (λ zs. ys ++ zs) (in_front o (filter_map h rest) ∙ ap (λ p. cons_option p (filter_map h rest)) is ∙ sym (ap (filter_map h) first))
+      ∙ ap (λ zs. ys ++ zs) (in_front o (filter_map h rest) ∙ ap (λ p. cons_option p (filter_map h rest)) is
+      ∙ sym (ap (filter_map h) first))
       ∙ before

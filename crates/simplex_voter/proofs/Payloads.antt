@@ -43,7 +43,8 @@ rank-rises (e ∷ es) p v up =
     ]
 
 -- fewer entries are at or below a view that lies below a tracked one
-rank-below : {A : Type 0} (es : List (ℕ × A)) (p v : ℕ) → p < v → is_some (find nat_cmp v es) ≡ true → rank es p < rank es v
+rank-below : {A : Type 0} (es : List (ℕ × A)) (p v : ℕ) → p < v → is_some (find nat_cmp v es) ≡ true
+    → rank es p < rank es v
 unfolding rank
 rank-below [] p v low here = absurd (false≢true here)
 rank-below (e ∷ es) p v low here = elim (cases_bool (eqb v e.0)) [
@@ -70,7 +71,8 @@ guarded : {A : Type 0} (b : Bool) (m n other : A) → ((b ≡ true) → m ≡ n)
 guarded true m n other f = f refl
 guarded false m n other f = refl
 
-each_same : {A B : Type 0} (f g : A → Option B) (o : Option A) → ((a : A) → o ≡ Some a → f a ≡ g a) → option_and_then f o ≡ option_and_then g o
+each_same : {A B : Type 0} (f g : A → Option B) (o : Option A) → ((a : A) → o ≡ Some a → f a ≡ g a)
+    → option_and_then f o ≡ option_and_then g o
 each_same f g None h = refl
 each_same f g (Some a) h = h a refl
 
@@ -82,30 +84,41 @@ can_chain_on-below x v p h =
     grind (arith, nat_tests)
 
 module _ {K L D : Type 0} (same : D → D → Bool) (elect : Elect L) (x : StateFacts K L D) where
-  voted_same : (f g : ℕ → Option D) (v : ℕ) (r : RoundFacts K D) (h : Proposal D) → ((p : ℕ) → p < v → f p ≡ g p) → voted_payload same elect x f v r h ≡ voted_payload same elect x g v r h
+  voted_same : (f g : ℕ → Option D) (v : ℕ) (r : RoundFacts K D) (h : Proposal D) → ((p : ℕ) → p < v → f p ≡ g p)
+      → voted_payload same elect x f v r h ≡ voted_payload same elect x g v r h
   voted_same f g v r h alike =
       guarded (can_chain_on x v h.parent) _ _ None
-      (λ b. ap (option_and_then (λ d. cond (is_bound_to same r.binding d) (Some h.payload) None)) (alike h.parent (can_chain_on-below x v h.parent b)))
+      (λ b. ap (option_and_then (λ d. cond (is_bound_to same r.binding d) (Some h.payload) None))
+      (alike h.parent (can_chain_on-below x v h.parent b)))
 
-  served_same : (f g : ℕ → Option D) (v : ℕ) (r : RoundFacts K D) → ((p : ℕ) → p < v → f p ≡ g p) → served_payload same elect x f v r ≡ served_payload same elect x g v r
+  served_same : (f g : ℕ → Option D) (v : ℕ) (r : RoundFacts K D) → ((p : ℕ) → p < v → f p ≡ g p)
+      → served_payload same elect x f v r ≡ served_payload same elect x g v r
   served_same f g v r alike =
-      let voted : option_and_then (voted_payload same elect x f v r) r.slot.held ≡ option_and_then (voted_payload same elect x g v r) r.slot.held = each_same _ _ r.slot.held (λ h is. voted_same f g v r h alike) in
+      let voted : option_and_then (voted_payload same elect x f v r) r.slot.held ≡ option_and_then
+      (voted_payload same elect x g v r) r.slot.held =
+      each_same _ _ r.slot.held (λ h is. voted_same f g v r h alike) in
       rw voted refl
 
   -- the payload is asked of the views below a tracked one alone
-  by_same : (f g : ℕ → Option D) (v : ℕ) → ((p : ℕ) → p < v → is_some (round_at x v) ≡ true → f p ≡ g p) → payload_by same elect x f v ≡ payload_by same elect x g v
+  by_same : (f g : ℕ → Option D) (v : ℕ) → ((p : ℕ) → p < v → is_some (round_at x v) ≡ true → f p ≡ g p)
+      → payload_by same elect x f v ≡ payload_by same elect x g v
   by_same f g v alike =
-      let served : option_and_then (served_payload same elect x f v) (round_at x v) ≡ option_and_then (served_payload same elect x g v) (round_at x v) =
+      let served : option_and_then (served_payload same elect x f v) (round_at x v) ≡ option_and_then
+      (served_payload same elect x g v) (round_at x v) =
       each_same _ _ (round_at x v) (λ r is. served_same f g v r (λ p low. alike p low (ap is_some is))) in
       rw served refl
 
   -- as many steps as there are entries at or below the view are enough
-  enough : (m n v : ℕ) → rank x.rounds v ≤ m → rank x.rounds v ≤ n → payload_within same elect x (suc m) v ≡ payload_within same elect x (suc n) v
-  enough zero n v in_m in_n = by_same (payload_within same elect x zero) (payload_within same elect x n) v (λ p low tracked.
+  enough : (m n v : ℕ) → rank x.rounds v ≤ m → rank x.rounds v ≤ n
+      → payload_within same elect x (suc m) v ≡ payload_within same elect x (suc n) v
+  enough zero n v in_m in_n = by_same (payload_within same elect x zero) (payload_within same elect x n) v
+      (λ p low tracked.
       let fewer = rank-below x.rounds p v low tracked in absurd (omega arith))
-  enough (suc m) zero v in_m in_n = by_same (payload_within same elect x (suc m)) (payload_within same elect x zero) v (λ p low tracked.
+  enough (suc m) zero v in_m in_n = by_same (payload_within same elect x (suc m)) (payload_within same elect x zero) v
+      (λ p low tracked.
       let fewer = rank-below x.rounds p v low tracked in absurd (omega arith))
-  enough (suc m) (suc n) v in_m in_n = by_same (payload_within same elect x (suc m)) (payload_within same elect x (suc n)) v (λ p low tracked.
+  enough (suc m) (suc n) v in_m in_n = by_same (payload_within same elect x (suc m))
+      (payload_within same elect x (suc n)) v (λ p low tracked.
       let fewer = rank-below x.rounds p v low tracked in enough m n p (omega arith) (omega arith))
 
   one_less : (n : ℕ) → 0 < n → (m : ℕ) × (n ≡ suc m)
@@ -113,9 +126,12 @@ module _ {K L D : Type 0} (same : D → D → Bool) (elect : Elect L) (x : State
   one_less (suc m) some = (m, refl)
 
   -- the rule, as it is read
-  pub optimistic_ancestry_payload-is : (v : ℕ) → optimistic_ancestry_payload same elect x v ≡ payload_by same elect x (optimistic_ancestry_payload same elect x) v
+  pub optimistic_ancestry_payload-is : (v : ℕ)
+      → optimistic_ancestry_payload same elect x v ≡ payload_by same elect x (optimistic_ancestry_payload same elect x)
+      v
   unfolding optimistic_ancestry_payload
-  optimistic_ancestry_payload-is v = by_same (payload_within same elect x (length x.rounds)) (optimistic_ancestry_payload same elect x) v (λ p low tracked.
+  optimistic_ancestry_payload-is v = by_same (payload_within same elect x (length x.rounds))
+      (optimistic_ancestry_payload same elect x) v (λ p low tracked.
       let fewer = rank-below x.rounds p v low tracked in
       let all = rank-le x.rounds v in
       let less = one_less (length x.rounds) (omega arith) in

@@ -15,5 +15,6 @@ module _ {K L D : Type 0} (x : StateFacts K L D) where
       let turned : eqb v u ≡ eqb u v = grind (arith, nat_tests) in
       rw (is_eq-nat_cmp v u, turned, any_same v us) refl
 
-  pub voted_shown : (m : map.FinMap nat_cmp (Unit {0})) (v : ℕ) → x.nullify_votes ≡ map.keys m → is_some (map.get m v) ≡ voted_nullify x v
+  pub voted_shown : (m : map.FinMap nat_cmp (Unit {0})) (v : ℕ) → x.nullify_votes ≡ map.keys m
+      → is_some (map.get m v) ≡ voted_nullify x v
   voted_shown m v shown = map.contains_key-keys m v ∙ any_same v (map.keys m) ∙ ap (list_any (λ u. eqb u v)) (sym shown)

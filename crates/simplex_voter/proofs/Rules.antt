@@ -42,7 +42,8 @@ module _ {K L D : Type 0} (elect : Elect L) (x : StateFacts K L D) (v : ℕ) whe
   unfolding may_finalize
   finalize_parts h =
       let r = round_of x v in
-      let a = and_parts (ltb x.finalized v && is_admitted x v && not (has_conflicting_nullify x v) && has_required_parent elect x v) _ h in
+      let a = and_parts (ltb x.finalized v && is_admitted x v && not (has_conflicting_nullify x v)
+      && has_required_parent elect x v) _ h in
       let b = and_parts (ltb x.finalized v && is_admitted x v && not (has_conflicting_nullify x v)) _ a.0 in
       let c = and_parts (ltb x.finalized v && is_admitted x v) _ b.0 in
       let d = and_parts (ltb x.finalized v) _ c.0 in
@@ -63,12 +64,22 @@ module _ {K L D : Type 0} (elect : Elect L) (x : StateFacts K L D) (v : ℕ) whe
   -- the rule's part about the view's own round
   pub finalize_round : may_finalize elect x v ≡ true → can_finalize (round_of x v) ≡ true
   unfolding may_finalize
-  finalize_round h = (and_parts (ltb x.finalized v && is_admitted x v && not (has_conflicting_nullify x v) && has_required_parent elect x v) _ h).1
+  finalize_round h = (and_parts (ltb x.finalized v && is_admitted x v && not (has_conflicting_nullify x v)
+      && has_required_parent elect x v) _ h).1
 
   pub finalize_whole : FinalizeRule elect x v → may_finalize elect x v ≡ true
   unfolding may_finalize
   finalize_whole rule =
-      rw (lt-ltb x.finalized v rule.above_finalized, rule.admitted, rule.not_gated, rule.parent, rule.undecided, rule.unequivocated, rule.notarized, rule.certified) refl
+      rw (
+        lt-ltb x.finalized v rule.above_finalized,
+        rule.admitted,
+        rule.not_gated,
+        rule.parent,
+        rule.undecided,
+        rule.unequivocated,
+        rule.notarized,
+        rule.certified,
+      ) refl
 
 module _ {K L D : Type 0} (same : D → D → Bool) (elect : Elect L) (x : StateFacts K L D) (v : ℕ) where
   -- the rule's part about the view's own round
@@ -101,7 +112,8 @@ module _ {K L D : Type 0} (same : D → D → Bool) (elect : Elect L) (x : State
   unfolding may_notarize
   notarize_whole rule =
       let ancestry : has_ancestry same elect x v ≡ true = if_or (in_issuance_window x v) _ rule.ancestry in
-      and_both _ _ (and_both _ _ (and_both _ _ rule.admitted (rw (rule.first_vote, rule.no_nullify, rule.verified) refl)) ancestry) rule.bound
+      and_both _ _ (and_both _ _
+      (and_both _ _ rule.admitted (rw (rule.first_vote, rule.no_nullify, rule.verified) refl)) ancestry) rule.bound
 
 if_some : (b : Bool) (p q : ℕ) → cond b (Some p) None ≡ Some q → (b ≡ true) × (p ≡ q)
 if_some true p q e = (refl, some_same p q e)
@@ -113,7 +125,8 @@ just_below p v q b e =
     let before : p + 1 ≡ v = eqb-true (p + 1) v (and_parts (p + 1 == v) b parts.0).0 in
     omega arith
 
-pub required_before : {K L D : Type 0} (elect : Elect L) (x : StateFacts K L D) (v q : ℕ) (p : Proposal D) → 0 < v → required_certification_parent elect x v p ≡ Some q → q + 1 ≡ v
+pub required_before : {K L D : Type 0} (elect : Elect L) (x : StateFacts K L D) (v q : ℕ) (p : Proposal D) → 0 < v
+    → required_certification_parent elect x v p ≡ Some q → q + 1 ≡ v
 unfolding required_certification_parent
 required_before elect x v q p some e = elim (cases_bool (is_term_start x v)) [
   | inl start ↦ just_below p.parent v q _ (rw start at e)

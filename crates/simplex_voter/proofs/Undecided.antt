@@ -26,7 +26,8 @@ module _ {K D : Type 0} where
   abbrev pub undecided_rounds : List (ℕ × RoundFacts K D) → List (ℕ × RoundFacts K D)
   undecided_rounds es = map_list (λ e. (e.0, undecided e.1)) es
 
-  any_undecided : (test : ℕ × RoundFacts K D → Bool) → ((e : ℕ × RoundFacts K D) → test (e.0, undecided e.1) ≡ test e) → (es : List (ℕ × RoundFacts K D)) → list_any test (undecided_rounds es) ≡ list_any test es
+  any_undecided : (test : ℕ × RoundFacts K D → Bool) → ((e : ℕ × RoundFacts K D) → test (e.0, undecided e.1) ≡ test e)
+      → (es : List (ℕ × RoundFacts K D)) → list_any test (undecided_rounds es) ≡ list_any test es
   any_undecided test alike [] = refl
   any_undecided test alike (e ∷ es) = rw (alike e, any_undecided test alike es) refl
 
@@ -57,7 +58,8 @@ module _ {K L D : Type 0} (x : StateFacts K L D) where
   unfolding explicit_ancestry_payload
   open_explicit v = rw (open_found v) (ap (cond (v == 0) x.genesis) (by_found (round_at x v)))
     where
-      by_found : (o : Option (RoundFacts K D)) → option_and_then certified_payload (option_map undecided o) ≡ option_and_then certified_payload o
+      by_found : (o : Option (RoundFacts K D))
+          → option_and_then certified_payload (option_map undecided o) ≡ option_and_then certified_payload o
       by_found None = refl
       by_found (Some r) = refl
 
@@ -66,7 +68,8 @@ module _ {K L D : Type 0} (x : StateFacts K L D) where
     unfolding is_handoff_parent
     open_handoff v = refl
 
-    open_serves : (v : ℕ) (r : RoundFacts K D) → is_voted_ancestor elect open_facts v (undecided r) ≡ is_voted_ancestor elect x v r
+    open_serves : (v : ℕ) (r : RoundFacts K D)
+        → is_voted_ancestor elect open_facts v (undecided r) ≡ is_voted_ancestor elect x v r
     unfolding is_voted_ancestor
     open_serves v r = rw (open_window (v + 1), open_handoff v) refl
 
@@ -76,47 +79,63 @@ module _ {K L D : Type 0} (x : StateFacts K L D) where
 
 module _ {K L D : Type 0} (same : D → D → Bool) (elect : Elect L) (x : StateFacts K L D) where
   module _ (f g : ℕ → Option D) (alike : (p : ℕ) → f p ≡ g p) where
-    open_voted : (v : ℕ) (r : RoundFacts K D) (p : Proposal D) → voted_payload same elect (open_facts x) f v (undecided r) p ≡ voted_payload same elect x g v r p
+    open_voted : (v : ℕ) (r : RoundFacts K D) (p : Proposal D)
+        → voted_payload same elect (open_facts x) f v (undecided r) p ≡ voted_payload same elect x g v r p
     open_voted v r p = rw (open_follows x v p.parent, alike p.parent) refl
 
-    open_held : (v : ℕ) (r : RoundFacts K D) (held : Option (Proposal D)) → option_and_then (voted_payload same elect (open_facts x) f v (undecided r)) held ≡ option_and_then (voted_payload same elect x g v r) held
+    open_held : (v : ℕ) (r : RoundFacts K D) (held : Option (Proposal D))
+        → option_and_then (voted_payload same elect (open_facts x) f v (undecided r)) held ≡ option_and_then
+        (voted_payload same elect x g v r) held
     open_held v r None = refl
     open_held v r (Some p) = open_voted v r p
 
-    open_served : (v : ℕ) (r : RoundFacts K D) → served_payload same elect (open_facts x) f v (undecided r) ≡ served_payload same elect x g v r
+    open_served : (v : ℕ) (r : RoundFacts K D)
+        → served_payload same elect (open_facts x) f v (undecided r) ≡ served_payload same elect x g v r
     open_served v r = rw (open_failed x v, open_serves x elect v r, open_held v r r.slot.held) refl
 
     open_by : (v : ℕ) → payload_by same elect (open_facts x) f v ≡ payload_by same elect x g v
     open_by v = rw (open_found x v) (ap (cond (v == 0) x.genesis) (by_found (round_at x v)))
       where
-        by_found : (o : Option (RoundFacts K D)) → option_and_then (served_payload same elect (open_facts x) f v) (option_map undecided o) ≡ option_and_then (served_payload same elect x g v) o
+        by_found : (o : Option (RoundFacts K D))
+            → option_and_then (served_payload same elect (open_facts x) f v) (option_map undecided o) ≡ option_and_then
+            (served_payload same elect x g v) o
         by_found None = refl
         by_found (Some r) = open_served v r
 
   open_within : (steps v : ℕ) → payload_within same elect (open_facts x) steps v ≡ payload_within same elect x steps v
   open_within zero v = refl
-  open_within (suc steps) v = open_by (payload_within same elect (open_facts x) steps) (payload_within same elect x steps) (open_within steps) v
+  open_within (suc steps) v = open_by (payload_within same elect (open_facts x) steps)
+      (payload_within same elect x steps) (open_within steps) v
 
-  open_payload : (v : ℕ) → optimistic_ancestry_payload same elect (open_facts x) v ≡ optimistic_ancestry_payload same elect x v
+  open_payload : (v : ℕ) → optimistic_ancestry_payload same elect (open_facts x) v ≡ optimistic_ancestry_payload same
+      elect x v
   unfolding optimistic_ancestry_payload
-  open_payload v = ap (λ n. payload_within same elect (open_facts x) (suc n) v) (length-undecided x.rounds) ∙ open_within (suc (length x.rounds)) v
+  open_payload v = ap (λ n. payload_within same elect (open_facts x) (suc n) v) (length-undecided x.rounds)
+      ∙ open_within (suc (length x.rounds)) v
 
-  open_payload_for : (v p : ℕ) → ancestry_payload_for_child same elect (open_facts x) v p ≡ ancestry_payload_for_child same elect x v p
+  open_payload_for : (v p : ℕ) → ancestry_payload_for_child same elect (open_facts x) v p ≡ ancestry_payload_for_child
+      same elect x v p
   unfolding ancestry_payload_for_child
   open_payload_for v p = rw (open_window x v, open_payload p, open_explicit x p) refl
 
-  open_payload_standing : (v : ℕ) (r : RoundFacts K D) (p : ℕ) → payload_standing same elect (open_facts x) v r p ≡ payload_standing same elect x v r p
+  open_payload_standing : (v : ℕ) (r : RoundFacts K D) (p : ℕ)
+      → payload_standing same elect (open_facts x) v r p ≡ payload_standing same elect x v r p
   open_payload_standing v r p = rw (open_payload_for v p, open_window x v) refl
 
-  open_parent_standing : (v : ℕ) (r : RoundFacts K D) (p : ℕ) → parent_standing same elect (open_facts x) v r p ≡ parent_standing same elect x v r p
+  open_parent_standing : (v : ℕ) (r : RoundFacts K D) (p : ℕ)
+      → parent_standing same elect (open_facts x) v r p ≡ parent_standing same elect x v r p
   unfolding has_valid_parent_span first_unnullified_view
-  open_parent_standing v r p = ap (λ s. cond (has_valid_parent_span x v p) (option_map_or (λ w. fetch_once r w Nullification) (first_unnullified_view x p v) s) Invalid) (open_payload_standing v r p)
+  open_parent_standing v r p = ap (λ s. cond (has_valid_parent_span x v p)
+      (option_map_or (λ w. fetch_once r w Nullification) (first_unnullified_view x p v) s) Invalid)
+      (open_payload_standing v r p)
 
   -- the standing of a proposal is the same without what was decided
   pub open_standing : (e : ℕ × RoundFacts K D) → standing same elect (open_facts x) e ≡ standing same elect x e
   unfolding standing is_admitted
   open_standing e = ap (λ s. cond (is_admitted x e.0) s NothingToDo) (by_pending (pending_proposal e.1))
     where
-      by_pending : (o : Option (Leader K × Proposal D)) → option_map_or (λ found. parent_standing same elect (open_facts x) e.0 e.1 found.1.parent) o NothingToDo ≡ option_map_or (λ found. parent_standing same elect x e.0 e.1 found.1.parent) o NothingToDo
+      by_pending : (o : Option (Leader K × Proposal D))
+          → option_map_or (λ found. parent_standing same elect (open_facts x) e.0 e.1 found.1.parent) o
+          NothingToDo ≡ option_map_or (λ found. parent_standing same elect x e.0 e.1 found.1.parent) o NothingToDo
       by_pending None = refl
       by_pending (Some found) = open_parent_standing e.0 e.1 found.1.parent

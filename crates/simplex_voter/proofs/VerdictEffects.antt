@@ -20,21 +20,27 @@ pub next_countable : (v : ℕ) → v < 2 ^ 63 → v + 1 < 2 ^ 64
 next_countable v below = omega (arith, below)
 
 module _ {K L D : Type 0} (elect : Elect L) where
-  taken_false : (x : StateFacts K L D) (v now : ℕ) (b : Bool) → b ≡ false → with_timeout (with_verdict x v b) v FailedCertification now ≡ verdict_taken elect x v b now
+  taken_false : (x : StateFacts K L D) (v now : ℕ) (b : Bool) → b ≡ false
+      → with_timeout (with_verdict x v b) v FailedCertification now ≡ verdict_taken elect x v b now
   taken_false x v now false refused = refl
   taken_false x v now true refused = absurd (false≢true (sym refused))
 
-  taken_true : (x : StateFacts K L D) (v now : ℕ) (b : Bool) → b ≡ true → with_waiting_candidate elect (with_view_entered (with_verdict x v b) (v + 1) now) v ≡ verdict_taken elect x v b now
+  taken_true : (x : StateFacts K L D) (v now : ℕ) (b : Bool) → b ≡ true
+      → with_waiting_candidate elect (with_view_entered (with_verdict x v b) (v + 1) now) v ≡ verdict_taken elect x v b
+      now
   taken_true x v now true accepted = refl
   taken_true x v now false accepted = absurd (false≢true accepted)
 
 -- a timeout keeps the setup of the state
-module _ {K L D : Type 0} (x y z : StateFacts K L D) (v now : ℕ) (reason : TimeoutReason) (is : z ≡ with_timeout y v reason now) where
-  stays : {A : Type 0} (f : StateFacts K L D → A) → f (with_round y v (with_latch (round_of y v) now reason)) ≡ f y → f z ≡ f y
-  stays f same = ap f is ∙ elim (can_trigger y v reason) as (λ b. f (cond b (with_round y v (with_latch (round_of y v) now reason)) y) ≡ f y) [
-    | true ↦ same
-    | false ↦ refl
-  ]
+module _ {K L D : Type 0} (x y z : StateFacts K L D) (v now : ℕ) (reason : TimeoutReason)
+    (is : z ≡ with_timeout y v reason now) where
+  stays : {A : Type 0} (f : StateFacts K L D → A) → f (with_round y v (with_latch (round_of y v) now reason)) ≡ f y
+      → f z ≡ f y
+  stays f same = ap f is ∙ elim (can_trigger y v reason) as
+      (λ b. f (cond b (with_round y v (with_latch (round_of y v) now reason)) y) ≡ f y) [
+        | true ↦ same
+        | false ↦ refl
+      ]
 
   pub setup_triggered : HasSameSetup x y → HasSameSetup x z
   setup_triggered setup = record {
@@ -48,7 +54,8 @@ module _ {K L D : Type 0} (x y z : StateFacts K L D) (v now : ℕ) (reason : Tim
   }
 
 -- x is what was known, m at the moment, j with the verdict
-module _ {K L D : Type 0} (elect : Elect L) (x m j : StateFacts K L D) (v now : ℕ) (success : Bool) (noted : m ≡ at_moment x now) where
+module _ {K L D : Type 0} (elect : Elect L) (x m j : StateFacts K L D) (v now : ℕ) (success : Bool)
+    (noted : m ≡ at_moment x now) where
   pub taken_at_moment : takes_verdict x v success ≡ true → takes_verdict m v success ≡ true
   taken_at_moment taken = ap (λ w. takes_verdict w v success) noted ∙ taken
 
@@ -70,17 +77,24 @@ module _ {K L D : Type 0} (elect : Elect L) (x m j : StateFacts K L D) (v now : 
       elects_early = ap (λ z. z.elects_early) judged_then;
     }
 
-    pub deadlines_judged : (next : ℕ) (d : Deadlines) → next ≡ v + 1 → success ≡ true → (success ≡ true → ltb x.current (v + 1) ≡ true → d ≡ deadlines_at x now) → ltb j.current next ≡ true → d ≡ deadlines_at j now
+    pub deadlines_judged : (next : ℕ) (d : Deadlines) → next ≡ v + 1 → success ≡ true
+        → (success ≡ true → ltb x.current (v + 1) ≡ true → d ≡ deadlines_at x now) → ltb j.current next ≡ true
+        → d ≡ deadlines_at j now
     deadlines_judged next d is accepted before ahead =
         before accepted (sym (ap (λ w. ltb w next) (ap (λ z. z.current) judged_then) ∙ ap (ltb x.current) is) ∙ ahead)
         ∙ sym (ap (λ z. deadlines_at z now) judged_then)
 
-    pub verdict_refused : success ≡ false → (y : StateFacts K L D) → y ≡ with_timeout j v FailedCertification now → y ≡ verdict_taken elect (at_moment x now) v success now
+    pub verdict_refused : success ≡ false → (y : StateFacts K L D) → y ≡ with_timeout j v FailedCertification now
+        → y ≡ verdict_taken elect (at_moment x now) v success now
     verdict_refused refused y triggers =
-        triggers ∙ ap (λ w. with_timeout w v FailedCertification now) judged_then ∙ taken_false elect (at_moment x now) v now success refused
+        triggers ∙ ap (λ w. with_timeout w v FailedCertification now) judged_then
+        ∙ taken_false elect (at_moment x now) v now success refused
 
-    pub verdict_kept : {A E : Type 0} (r : Result A E) → success ≡ true → (e y : StateFacts K L D) (next : ℕ) → next ≡ v + 1 → e ≡ with_view_entered j next now → OnOk r (y ≡ with_waiting_candidate elect e v) → OnOk r (y ≡ verdict_taken elect (at_moment x now) v success now)
+    pub verdict_kept : {A E : Type 0} (r : Result A E) → success ≡ true → (e y : StateFacts K L D) (next : ℕ)
+        → next ≡ v + 1 → e ≡ with_view_entered j next now → OnOk r (y ≡ with_waiting_candidate elect e v)
+        → OnOk r (y ≡ verdict_taken elect (at_moment x now) v success now)
     verdict_kept (Ok t) accepted e y next is enters wakes =
-        wakes ∙ ap (λ w. with_waiting_candidate elect w v) (enters ∙ ap (λ n. with_view_entered j n now) is ∙ ap (λ w. with_view_entered w (v + 1) now) judged_then)
+        wakes ∙ ap (λ w. with_waiting_candidate elect w v)
+        (enters ∙ ap (λ n. with_view_entered j n now) is ∙ ap (λ w. with_view_entered w (v + 1) now) judged_then)
         ∙ taken_true elect (at_moment x now) v now success accepted
     verdict_kept (Err f) accepted e y next is enters wakes = wakes

@@ -12,7 +12,8 @@ use Rattle.simplex_view_maps.proofs.RisingEntries.{Rises, find_above}
 use Rattle.simplex_view_maps.proofs.Maps.{is_eq-nat_cmp, get-insert, get-kept, map_rises, same_maps}
 
 module _ {V : Type 0} where
-  pub first_of : (es : List (ℕ × V)) → Rises es → (e : ℕ × V) → Some e ≡ slice_get es 0 → (find nat_cmp e.0 es ≡ Some e.1) × ((q : ℕ) → q < e.0 → find nat_cmp q es ≡ None)
+  pub first_of : (es : List (ℕ × V)) → Rises es → (e : ℕ × V) → Some e ≡ slice_get es 0
+      → (find nat_cmp e.0 es ≡ Some e.1) × ((q : ℕ) → q < e.0 → find nat_cmp q es ≡ None)
   first_of [] rises e is = cc
   first_of (f ∷ es) rises e is =
       let same : e ≡ f = cc in
@@ -34,11 +35,16 @@ module _ {V : Type 0} where
     get_kept q = get-kept m (λ u. leb v u) q
 
     -- the first entry at or above v is at or above it and there, and no view from v up to it is
-    pub at_first : (e : ℕ × V) → Some e ≡ first_entry (at_or_above m v) → (v ≤ e.0) × (map.get m e.0 ≡ Some e.1) × ((q : ℕ) → v ≤ q → q < e.0 → map.get m q ≡ None)
+    pub at_first : (e : ℕ × V) → Some e ≡ first_entry (at_or_above m v)
+        → (v ≤ e.0) × (map.get m e.0 ≡ Some e.1) × ((q : ℕ) → v ≤ q → q < e.0 → map.get m q ≡ None)
     at_first e is =
         let first = first_of _ (map_rises (at_or_above m v)) e is in
-        let here = kept_value _ _ _ (sym (get_kept e.0) ∙ map.get-entries _ e.0 ∙ first.0) in
-        (leb-true v e.0 here.0, here.1, λ q within lower. sym (rw (le-leb v q within) at (get_kept q)) ∙ map.get-entries _ q ∙ first.1 q lower)
+        let here = kept_value _ _ _ (sym (get_kept e.0) ∙ map.get-entries _ e.0 ∙ first.0) in (
+          leb-true v e.0 here.0,
+          here.1,
+          λ q within lower. sym (rw (le-leb v q within) at (get_kept q))
+              ∙ map.get-entries _ q ∙ first.1 q lower,
+        )
 
     pub at_none : None ≡ first_entry (at_or_above m v) → (q : ℕ) → v ≤ q → map.get m q ≡ None
     at_none is q within = sym (rw (le-leb v q within) at (get_kept q)) ∙ map.get-entries _ q ∙ none_of _ is q
@@ -61,7 +67,8 @@ module _ {V : Type 0} (o m : FinMap nat_cmp V) (f : V → V) where
   ]
 
 -- a walk begins where no value below is changed
-pub walk_begins : {V : Type 0} (o : FinMap nat_cmp V) (f : V → V) (n : ℕ) → ((q : ℕ) (r : V) → map.get o q ≡ Some r → q < n → f r ≡ r) → Walked o o f n
+pub walk_begins : {V : Type 0} (o : FinMap nat_cmp V) (f : V → V) (n : ℕ)
+    → ((q : ℕ) (r : V) → map.get o q ≡ Some r → q < n → f r ≡ r) → Walked o o f n
 walk_begins o f n quiet q = by_test (cases_lt q n)
   where
     by_value : (r : Option _) → map.get o q ≡ r → q < n → r ≡ option_map f r
@@ -73,14 +80,22 @@ walk_begins o f n quiet q = by_test (cases_lt q n)
     by_test (inr above) = rw (le-ltb q n above) refl
 
 -- the first value at or above n is changed
-pub walked_step : {V : Type 0} (o m : FinMap nat_cmp V) (f : V → V) (n : ℕ) (e : ℕ × V) → Some e ≡ first_entry (at_or_above m n) → Walked o m f n → Walked o (map.insert m e.0 (f e.1)) f (e.0 + 1)
+pub walked_step : {V : Type 0} (o m : FinMap nat_cmp V) (f : V → V) (n : ℕ) (e : ℕ × V)
+    → Some e ≡ first_entry (at_or_above m n) → Walked o m f n → Walked o (map.insert m e.0 (f e.1)) f (e.0 + 1)
 walked_step o m f n e is done q =
     let first = at_first m n e is in
     let up = walked_on o m f n e.0 first.0 first.2 done in
     get-insert m e.0 (f e.1) q ∙ elim (cases_order q e.0) [
-      | inl same ↦ rw (same, eq-eqb e.0 e.0 refl, lt-ltb e.0 (e.0 + 1) (omega arith), sym (rw (le-ltb e.0 e.0 (omega arith)) at (up e.0)) ∙ first.1) refl
-      | inr (inl lower) ↦ rw (ne_eqb q e.0 (omega arith), lt-ltb q (e.0 + 1) (omega arith)) (up q ∙ rw (lt-ltb q e.0 lower) refl)
-      | inr (inr higher) ↦ rw (ne_eqb q e.0 (omega arith), le-ltb q (e.0 + 1) (omega arith)) (up q ∙ rw (le-ltb q e.0 (omega arith)) refl)
+      | inl same ↦ rw (
+        same,
+        eq-eqb e.0 e.0 refl,
+        lt-ltb e.0 (e.0 + 1) (omega arith),
+        sym (rw (le-ltb e.0 e.0 (omega arith)) at (up e.0)) ∙ first.1,
+      ) refl
+      | inr (inl lower) ↦ rw (ne_eqb q e.0 (omega arith), lt-ltb q (e.0 + 1) (omega arith))
+          (up q ∙ rw (lt-ltb q e.0 lower) refl)
+      | inr (inr higher) ↦ rw (ne_eqb q e.0 (omega arith), le-ltb q (e.0 + 1) (omega arith))
+          (up q ∙ rw (le-ltb q e.0 (omega arith)) refl)
     ]
 
 next_test : (q v : ℕ) → ltb q (v + 1) ≡ leb q v
@@ -99,24 +114,29 @@ module _ {V : Type 0} (h : ℕ → V → V) where
   sorted-changed [] = refl
   sorted-changed (e ∷ es) = rw (below-changed e.0 es, sorted-changed es) refl
 
-  pub find-changed : (q : ℕ) (es : List (ℕ × V)) → find nat_cmp q (map_list changed es) ≡ option_map (h q) (find nat_cmp q es)
+  pub find-changed : (q : ℕ) (es : List (ℕ × V))
+      → find nat_cmp q (map_list changed es) ≡ option_map (h q) (find nat_cmp q es)
   find-changed q [] = refl
   find-changed q (e ∷ es) = rw (is_eq-nat_cmp q e.0) (elim (cases_eq q e.0) [
     | inl same ↦ rw (eq-eqb q e.0 same) (ap (λ k. Some (h k e.1)) (sym same))
     | inr other ↦ rw (ne_eqb q e.0 other) (find-changed q es)
   ])
 
-  pub entries-changed : (o m : FinMap nat_cmp V) → ((q : ℕ) → map.get m q ≡ option_map (h q) (map.get o q)) → map.entries m ≡ map_list changed (map.entries o)
+  pub entries-changed : (o m : FinMap nat_cmp V) → ((q : ℕ) → map.get m q ≡ option_map (h q) (map.get o q))
+      → map.entries m ≡ map_list changed (map.entries o)
   entries-changed o m each =
-      let sorted : T (is_sorted nat_cmp (map_list changed (map.entries o))) = subst T (sym (sorted-changed (map.entries o))) (map.entries_sorted o) in
+      let sorted : T (is_sorted nat_cmp (map_list changed (map.entries o))) =
+      subst T (sym (sorted-changed (map.entries o))) (map.entries_sorted o) in
       let made : m ≡ map.from_sorted (map_list changed (map.entries o)) = same_maps _ _ (λ q.
       each q ∙ ap (option_map (h q)) (map.get-entries o q)
       ∙ sym (map.get-from_sorted nat_cmp _ q sorted ∙ find-changed q (map.entries o))) in
       ap map.entries made ∙ map.entries-from_sorted nat_cmp _ sorted
 
 -- the walk has passed v
-pub walked_entries : {V : Type 0} (o m : FinMap nat_cmp V) (f : V → V) (v : ℕ) → Walked o m f (v + 1) → map.entries m ≡ map_list (λ e. (e.0, cond (leb e.0 v) (f e.1) e.1)) (map.entries o)
-walked_entries o m f v done = entries-changed (λ u r. cond (leb u v) (f r) r) o m (λ q. done q ∙ rw (next_test q v) (by_value (leb q v) (map.get o q)))
+pub walked_entries : {V : Type 0} (o m : FinMap nat_cmp V) (f : V → V) (v : ℕ) → Walked o m f (v + 1)
+    → map.entries m ≡ map_list (λ e. (e.0, cond (leb e.0 v) (f e.1) e.1)) (map.entries o)
+walked_entries o m f v done = entries-changed (λ u r. cond (leb u v) (f r) r) o m
+    (λ q. done q ∙ rw (next_test q v) (by_value (leb q v) (map.get o q)))
   where
     by_value : (b : Bool) (r : Option _) → cond b (option_map f r) r ≡ option_map (λ s. cond b (f s) s) r
     by_value true None = refl

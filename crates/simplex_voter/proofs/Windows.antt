@@ -7,15 +7,22 @@ use Rattle.simplex_types.specs.Window.{AdmitsOutbound, AdmitsCertificate, Admits
 use Rattle.simplex_voter.specs.Facts.{StateFacts}
 use Rattle.simplex_voter.specs.Windows.{admits_outbound, admits_certificate, admits_vote, viewport, min_active}
 
-outbound_by : (last next optimistic most current view : ℕ) → ((leb 1 view && leb view current || ltb current view && leb view last && leb (view - current) optimistic || eqb view next && leb (view - current) most) ≡ true)
-    → ((1 ≤ view) × (view ≤ current)) ⊎ ((current < view) × (view ≤ last) × (view - current ≤ optimistic)) ⊎ ((view ≡ next) × (view - current ≤ most))
+outbound_by : (last next optimistic most current view : ℕ)
+    → ((leb 1 view && leb view current || ltb current view && leb view last && leb (view - current) optimistic || eqb
+    view next && leb (view - current) most) ≡ true)
+    → ((1 ≤ view) × (view ≤ current)) ⊎ ((current < view) × (view ≤ last) × (view - current ≤ optimistic))
+    ⊎ ((view ≡ next) × (view - current ≤ most))
 outbound_by last next optimistic most current view h = grind (arith, nat_tests)
 
-outbound_to : (last next optimistic most current view : ℕ) → ((1 ≤ view) × (view ≤ current)) ⊎ ((current < view) × (view ≤ last) × (view - current ≤ optimistic)) ⊎ ((view ≡ next) × (view - current ≤ most))
-    → ((leb 1 view && leb view current || ltb current view && leb view last && leb (view - current) optimistic || eqb view next && leb (view - current) most) ≡ true)
+outbound_to : (last next optimistic most current view : ℕ)
+    → ((1 ≤ view) × (view ≤ current)) ⊎ ((current < view) × (view ≤ last) × (view - current ≤ optimistic))
+    ⊎ ((view ≡ next) × (view - current ≤ most))
+    → ((leb 1 view && leb view current || ltb current view && leb view last && leb (view - current) optimistic || eqb
+    view next && leb (view - current) most) ≡ true)
 outbound_to last next optimistic most current view h = grind (arith, nat_tests)
 
-pub outbound_agrees : (length optimistic current view : ℕ) → (admits_outbound length optimistic current view ≡ true) ↔ AdmitsOutbound length optimistic current view
+pub outbound_agrees : (length optimistic current view : ℕ)
+    → (admits_outbound length optimistic current view ≡ true) ↔ AdmitsOutbound length optimistic current view
 outbound_agrees length optimistic current view = (
   outbound_by (term_end length current) (next_term_start length current) optimistic (max 1 optimistic) current view,
   outbound_to (term_end length current) (next_term_start length current) optimistic (max 1 optimistic) current view,
@@ -27,10 +34,12 @@ certificate_by low view h = grind (arith, nat_tests)
 certificate_to : (low view : ℕ) → (1 ≤ view) × (low ≤ view) → (leb 1 view && leb low view) ≡ true
 certificate_to low view h = grind (arith, nat_tests)
 
-vote_by : (low last view : ℕ) → (leb 1 view && leb low view && leb view last) ≡ true → ((1 ≤ view) × (low ≤ view)) × (view ≤ last)
+vote_by : (low last view : ℕ) → (leb 1 view && leb low view && leb view last) ≡ true
+    → ((1 ≤ view) × (low ≤ view)) × (view ≤ last)
 vote_by low last view h = grind (arith, nat_tests)
 
-vote_to : (low last view : ℕ) → ((1 ≤ view) × (low ≤ view)) × (view ≤ last) → (leb 1 view && leb low view && leb view last) ≡ true
+vote_to : (low last view : ℕ) → ((1 ≤ view) × (low ≤ view)) × (view ≤ last)
+    → (leb 1 view && leb low view && leb view last) ≡ true
 vote_to low last view h = grind (arith, nat_tests)
 
 module _ {K L D : Type 0} (x : StateFacts K L D) (v : ℕ) where

@@ -23,9 +23,12 @@ BARE = re.compile(rf"(?<![\w`/.-]){SNAKE}(?![\w`/-])")
 # Names of the Rattle kit, of Rust and of C that comments cite.
 ELSEWHERE = {"simplex_view_state"}
 SCRIPTS = ("tests/**/*", "bench/*", "bindings/*", "bindings/**/*.py")
-# What a reader of the crates reads first: statements, code and comments. The formatter keeps a `use` on one line; a script of lines is a text.
-READ_FIRST = ("crates/*/src/**/*.rt", "crates/*/specs/**/*.antt")
+# What is read side by side: statements, code, comments and proofs. The formatter keeps a `use` on one line; a script of lines is a text.
+READ_FIRST = ("crates/*/src/**/*.rt", "crates/*/specs/**/*.antt", "crates/*/proofs/**/*.antt")
 WIDTH = 120
+# The words of a module's name, and those in -ing that are nouns or adjectives.
+WORD = re.compile(r"[A-Z]?[a-z0-9]+")
+NO_GERUNDS = {"covering", "encoding", "missing", "nothing", "outstanding", "pending", "rising"}
 MAY_BE_LONG = re.compile(r'^\s*((pub |ghost )?use |#!\[)|"|\\n\\$')
 COMMENTED = (("crates/**/*.rt", "//"), ("crates/**/*.antt", "--"), ("bindings/**/*.rs", "//"))
 
@@ -94,9 +97,18 @@ def long_lines():
             yield from (f"{path.relative_to(ROOT)}:{number}: break this line before character {WIDTH}" for number in long)
 
 
+def gerunds():
+    """The modules of the crates that are named by a gerund. A folder of a function's proofs has that function's name."""
+    for pattern in READ_FIRST:
+        for path in files(pattern):
+            found = [it for it in WORD.findall(path.stem) if it.endswith("ing") and it.lower() not in NO_GERUNDS]
+            yield from (f"{path.relative_to(ROOT)}: {it!r} is a gerund: name the module by a noun" for it in found)
+
+
 def faults():
     """What is wrong with the words of comments and of scripts."""
     yield from long_lines()
+    yield from gerunds()
     for path in scripts():
         place = path.relative_to(ROOT)
         for line, text in texts_in(path):

@@ -32,10 +32,13 @@ pub record SaidOfView (K : Type 0) : Type 0 where
   pub inherited : Option (Leader K)
 
 abbrev pub with_said : {K L D : Type 0} → StateFacts K L D → SaidOfView K → Worked K D → Worked K D
-with_said x s k = with_leader s.opened s.inherited (with_settled s.here s.overruled (with_leader s.next s.chosen (work_entered_at x s.entry (with_certification s.from k))))
+with_said x s k = with_leader s.opened s.inherited
+    (with_settled s.here s.overruled
+    (with_leader s.next s.chosen (work_entered_at x s.entry (with_certification s.from k))))
 
 -- this is what the event says of the view
-pub record Says {K L D : Type 0} (same : D → D → Bool) (elect : Elect L) (x : StateFacts K L D) (e : Event K D) (v : ℕ) (s : SaidOfView K) : Type 0 where
+pub record Says {K L D : Type 0} (same : D → D → Bool) (elect : Elect L) (x : StateFacts K L D) (e : Event K D) (v : ℕ)
+    (s : SaidOfView K) : Type 0 where
   pub entered : enters v x e ≡ s.entry
   pub tracked : comes_to_track same elect v x e ≡ (s.here || s.next || s.opened)
   pub led : leader_by_event same elect v x e ≡ option_or s.chosen s.inherited
@@ -51,7 +54,8 @@ pub record Says {K L D : Type 0} (same : D → D → Bool) (elect : Elect L) (x 
   pub asked : asks_for same elect v x e ≡ None
   pub bound : binds same elect v x e ≡ None
 
-tracks_joined : (opened here next entry tracked : Bool) → (opened || (here || (next || (entry || tracked)))) ≡ (entry || ((here || next || opened) || tracked))
+tracks_joined : (opened here next entry tracked : Bool)
+    → (opened || (here || (next || (entry || tracked)))) ≡ (entry || ((here || next || opened) || tracked))
 tracks_joined true true next true tracked = refl
 tracks_joined true true next false tracked = refl
 tracks_joined true false true true tracked = refl
@@ -64,7 +68,8 @@ tracks_joined false false true true tracked = refl
 tracks_joined false false true false tracked = refl
 tracks_joined false false false entry tracked = refl
 
-leaders_joined : {A : Type 0} (old first later : Option A) → or_new (or_new old first) later ≡ or_new old (option_or first later)
+leaders_joined : {A : Type 0} (old first later : Option A)
+    → or_new (or_new old first) later ≡ or_new old (option_or first later)
 leaders_joined old None later = refl
 leaders_joined None (Some a) None = refl
 leaders_joined None (Some a) (Some b) = refl
@@ -80,7 +85,8 @@ true_or true old = refl
 true_or false old = refl
 
 module _ {K L D : Type 0} (same : D → D → Bool) (elect : Elect L) (x : StateFacts K L D) (e : Event K D) where
-  said_added : (v : ℕ) (s : SaidOfView K) → Says same elect x e v s → (k : Worked K D) → with_said x s k ≡ adds_work same elect x e v k
+  said_added : (v : ℕ) (s : SaidOfView K) → Says same elect x e v s → (k : Worked K D)
+      → with_said x s k ≡ adds_work same elect x e v k
   said_added v s a k = sym ((λ i. record k {
     tracked = is_some (a.entered i) || (a.tracked i || k.tracked);
     entered_at = or_new k.entered_at (a.entered i);
@@ -89,8 +95,11 @@ module _ {K L D : Type 0} (same : D → D → Bool) (elect : Elect L) (x : State
     verified = unwrap_or (a.verified i) k.verified;
     build_requested = unwrap_or (a.build i) k.build_requested;
     verify_requested = a.verify i || k.verify_requested;
-    decision = if a.no_finalize i then Finalize else (if a.no_nullify i then Nullify None else timed x.settings (a.entered i) (a.latched i) (a.retried i) k.decision);
-    stall_deadline = unwrap_or (option_map (λ at. option_map (λ time. at + time) x.terms.stall_timeout) (a.entered i)) k.stall_deadline;
+    decision = if a.no_finalize i then Finalize
+        else (if a.no_nullify i then Nullify None else timed x.settings (a.entered i) (a.latched i) (a.retried i)
+        k.decision);
+    stall_deadline = unwrap_or (option_map (λ at. option_map (λ time. at + time) x.terms.stall_timeout) (a.entered i))
+        k.stall_deadline;
     certification = unwrap_or (a.certified i) k.certification;
     last_request = option_or (a.asked i) k.last_request;
     binding = unwrap_or (a.bound i) k.binding;
@@ -101,7 +110,10 @@ module _ {K L D : Type 0} (same : D → D → Bool) (elect : Elect L) (x : State
     build_requested = true_or s.overruled k.build_requested i;
   }))
 
-  pub said_follows : (y : StateFacts K L D) (said : ℕ → SaidOfView K) → UnchangedSetUp x y → ((v : ℕ) → is_among v y.named ≡ unwrap_or (names elect v x e) (is_among v x.named)) → ((v : ℕ) → Says same elect x e v (said v)) → ((v : ℕ) → work_of y v ≡ with_said x (said v) (work_of x v)) → WorkFollows same elect e x y
+  pub said_follows : (y : StateFacts K L D) (said : ℕ → SaidOfView K) → UnchangedSetUp x y
+      → ((v : ℕ) → is_among v y.named ≡ unwrap_or (names elect v x e) (is_among v x.named))
+      → ((v : ℕ) → Says same elect x e v (said v)) → ((v : ℕ) → work_of y v ≡ with_said x (said v) (work_of x v))
+      → WorkFollows same elect e x y
   said_follows y said steady named says work = record {
     me = ap (λ (a : StateFacts K L D). a.me) steady;
     members = ap (λ (a : StateFacts K L D). a.members) steady;

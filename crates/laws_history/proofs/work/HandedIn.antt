@@ -36,7 +36,8 @@ no_entry true = refl
 no_entry false = refl
 
 module _ {K L D : Type 0} (same : D → D → Bool) (elect : Elect L) (x : StateFacts K L D) (c : ProposalFacts D) where
-  notarization_says : (v : ℕ) → Says same elect x (AddNotarization c) v (proposal_said same elect x c (is_none (round_of x c.proposal.round.view).notarization) None None v)
+  notarization_says : (v : ℕ) → Says same elect x (AddNotarization c) v
+      (proposal_said same elect x c (is_none (round_of x c.proposal.round.view).notarization) None None v)
   notarization_says v =
       let settled = settled_by c (is_none (round_of x c.proposal.round.view).notarization) v in
       record {
@@ -45,7 +46,8 @@ module _ {K L D : Type 0} (same : D → D → Bool) (elect : Elect L) (x : State
         led = refl;
         verified = rw (option_or_none settled) refl;
         build = rw (or-false (contradicts same (round_of x v).slot.held settled)) refl;
-        verify = or-false (contradicts same (round_of x v).slot.held settled || false) ∙ or-false (contradicts same (round_of x v).slot.held settled);
+        verify = or-false (contradicts same (round_of x v).slot.held settled || false)
+            ∙ or-false (contradicts same (round_of x v).slot.held settled);
         certified = refl;
         proposed = refl;
         latched = refl;
@@ -58,8 +60,10 @@ module _ {K L D : Type 0} (same : D → D → Bool) (elect : Elect L) (x : State
 
   pub notarization_works : WorkFollows same elect (AddNotarization c) x (after_add_notarization same elect x c)
   notarization_works =
-      said_follows same elect x (AddNotarization c) (after_add_notarization same elect x c) (proposal_said same elect x c (is_none standing) None None) steady waiting notarization_says
-      (λ v. proposal_work same elect x c x (λ w. None) (λ w. None) refl (λ w. without_entry x (work_of x w)) standing z (named_also z u) (named_steady z u ∙ kept) settled (λ w. named_work z u w) v)
+      said_follows same elect x (AddNotarization c) (after_add_notarization same elect x c)
+      (proposal_said same elect x c (is_none standing) None None) steady waiting notarization_says
+      (λ v. proposal_work same elect x c x (λ w. None) (λ w. None) refl (λ w. without_entry x (work_of x w)) standing z
+      (named_also z u) (named_steady z u ∙ kept) settled (λ w. named_work z u w) v)
     where
       u : ℕ
       u = c.proposal.round.view
@@ -77,34 +81,47 @@ module _ {K L D : Type 0} (same : D → D → Bool) (elect : Elect L) (x : State
       kept = elected_steady elect x (u + 1) (Some c.bytes)
 
       steady : UnchangedSetUp x (after_add_notarization same elect x c)
-      steady = steady_where x (is_some standing) z (with_window_leaders (named_also z u) u) kept (slid_steady (named_also z u) u ∙ named_steady z u ∙ kept)
+      steady = steady_where x (is_some standing) z (with_window_leaders (named_also z u) u) kept
+          (slid_steady (named_also z u) u ∙ named_steady z u ∙ kept)
 
-      settled : (v : ℕ) → work_of z v ≡ with_settled (eqb v u) (contradicts same (round_of x v).slot.held (settled_by c (is_none standing) v)) (work_of d v)
+      settled : (v : ℕ) → work_of z v ≡ with_settled (eqb v u)
+          (contradicts same (round_of x v).slot.held (settled_by c (is_none standing) v)) (work_of d v)
       settled v =
           let alike : UnchangedHistory x d = elected_quiet elect x (u + 1) (Some c.bytes) in
-          notarized_work same elect d c v ∙ (λ i. with_settled (eqb v u) (contradicts same (alike.rounds v i).held (settled_by c (is_none (alike.rounds u i).notarization) v)) (work_of d v))
+          notarized_work same elect d c v ∙ (λ i.
+          with_settled (eqb v u) (contradicts same (alike.rounds v i).held
+          (settled_by c (is_none (alike.rounds u i).notarization) v)) (work_of d v))
 
       only : OnlyRounds x d
       only = elected_only elect x (u + 1) (Some c.bytes)
 
-      waiting : (v : ℕ) → is_among v (after_add_notarization same elect x c).named ≡ unwrap_or (names elect v x (AddNotarization c)) (is_among v x.named)
+      waiting : (v : ℕ) → is_among v (after_add_notarization same elect x c).named ≡ unwrap_or
+          (names elect v x (AddNotarization c)) (is_among v x.named)
       waiting v = first standing
         where
-          first : (o : Option (ProposalFacts D)) → is_among v (if is_some o then z else with_window_leaders (named_also z u) u).named ≡ unwrap_or (if eqb v u && is_none o && nat_lt x.finalized u then Some true else None) (is_among v x.named)
+          first : (o : Option (ProposalFacts D))
+              → is_among v (if is_some o then z else with_window_leaders (named_also z u) u).named ≡ unwrap_or
+              (if eqb v u && is_none o && nat_lt x.finalized u then Some true else None) (is_among v x.named)
           first None =
               ap (λ (a : StateFacts K L D). is_among v a.named) (slid_only (named_also z u) u) ∙ named_among z u v
-              ∙ (λ i. unwrap_or (if sym (and-true (eqb v u)) i && nat_lt (only i).finalized u then Some true else None) (is_among v (only i).named))
+              ∙ (λ i. unwrap_or (if sym (and-true (eqb v u)) i && nat_lt (only i).finalized u then Some true else None)
+              (is_among v (only i).named))
           first (Some s) = rw (and-false (eqb v u)) (ap (λ (a : StateFacts K L D). is_among v a.named) only)
 
 -- nullifications, and the floor at genesis
 
 module _ {K L D : Type 0} (same : D → D → Bool) (elect : Elect L) (x : StateFacts K L D) where
-  pub nullification_works : (c : NullificationFacts) (now : ℕ) → WorkFollows same elect (AddNullification c now) x (after_add_nullification elect x c now)
+  pub nullification_works : (c : NullificationFacts) (now : ℕ)
+      → WorkFollows same elect (AddNullification c now) x (after_add_nullification elect x c now)
   nullification_works c now =
-      said_follows same elect x (AddNullification c now) (after_add_nullification elect x c now) (λ v. entry_said elect x (eqb v u) next now (Some c.bytes) v) steady
-      (λ v. ap (λ (a : StateFacts K L D). is_among v a.named) (elected_only elect e next (Some c.bytes)) ∙ ap (λ views. is_among v views) (entered_named (at_moment x now) next now))
+      said_follows same elect x (AddNullification c now) (after_add_nullification elect x c now)
+      (λ v. entry_said elect x (eqb v u) next now (Some c.bytes) v) steady
+      (λ v. ap (λ (a : StateFacts K L D). is_among v a.named) (elected_only elect e next (Some c.bytes))
+      ∙ ap (λ views. is_among v views) (entered_named (at_moment x now) next now))
       says
-      (λ v. nullified_work (with_elected_leader elect e next (Some c.bytes)) c v ∙ ap (with_settled (eqb v u) false) (entry_work elect x (at_moment x now) next now (Some c.bytes) v refl refl refl))
+      (λ v. nullified_work (with_elected_leader elect e next (Some c.bytes)) c v
+      ∙ ap (with_settled (eqb v u) false)
+      (entry_work elect x (at_moment x now) next now (Some c.bytes) v refl refl refl))
     where
       u : ℕ
       u = c.round.view
@@ -118,7 +135,8 @@ module _ {K L D : Type 0} (same : D → D → Bool) (elect : Elect L) (x : State
       steady : UnchangedSetUp x (after_add_nullification elect x c now)
       steady = elected_steady elect e next (Some c.bytes) ∙ entered_steady (at_moment x now) next now
 
-      says : (v : ℕ) → Says same elect x (AddNullification c now) v (entry_said elect x (eqb v u) next now (Some c.bytes) v)
+      says : (v : ℕ) → Says same elect x (AddNullification c now) v
+          (entry_said elect x (eqb v u) next now (Some c.bytes) v)
       says v = record {
         entered = refl;
         tracked = sym (or-false (eqb v u || eqb v next));
@@ -136,10 +154,13 @@ module _ {K L D : Type 0} (same : D → D → Bool) (elect : Elect L) (x : State
         bound = refl;
       }
 
-  pub genesis_works : (payload : D) (now : ℕ) → WorkFollows same elect (SetFloor (Genesis payload) now) x (after_set_floor same elect x (Genesis payload) now)
+  pub genesis_works : (payload : D) (now : ℕ)
+      → WorkFollows same elect (SetFloor (Genesis payload) now) x (after_set_floor same elect x (Genesis payload) now)
   genesis_works payload now =
-      said_follows same elect x (SetFloor (Genesis payload) now) (after_set_floor same elect x (Genesis payload) now) (entry_said elect x false 1 now None) steady
-      (λ v. ap (λ (y : StateFacts K L D). is_among v y.named) (elected_only elect e 1 None) ∙ ap (λ views. is_among v views) (entered_named a 1 now))
+      said_follows same elect x (SetFloor (Genesis payload) now) (after_set_floor same elect x (Genesis payload) now)
+      (entry_said elect x false 1 now None) steady
+      (λ v. ap (λ (y : StateFacts K L D). is_among v y.named) (elected_only elect e 1 None)
+      ∙ ap (λ views. is_among v views) (entered_named a 1 now))
       says
       (λ v. entry_work elect x a 1 now None v refl refl refl)
     where
@@ -173,12 +194,17 @@ module _ {K L D : Type 0} (same : D → D → Bool) (elect : Elect L) (x : State
 -- finalizations
 
 -- a view that is named after others were dropped
-named_later : (wakes : Bool) (dropped : Option Bool) (old : Bool) → unwrap_or (if wakes then Some true else None) (unwrap_or dropped old) ≡ unwrap_or (if wakes then Some true else dropped) old
+named_later : (wakes : Bool) (dropped : Option Bool) (old : Bool)
+    → unwrap_or (if wakes then Some true else None) (unwrap_or dropped old) ≡ unwrap_or
+    (if wakes then Some true else dropped) old
 named_later true dropped old = refl
 named_later false dropped old = refl
 
-module _ {K L D : Type 0} (same : D → D → Bool) (elect : Elect L) (x : StateFacts K L D) (c : ProposalFacts D) (now : ℕ) where
-  finalization_says : (v : ℕ) → Says same elect x (AddFinalization c now) v (proposal_said same elect x c (is_none (round_of x c.proposal.round.view).finalization) (entry_at x (c.proposal.round.view + 1) now v) (ends_certification v x c.proposal.round.view) v)
+module _ {K L D : Type 0} (same : D → D → Bool) (elect : Elect L) (x : StateFacts K L D) (c : ProposalFacts D)
+    (now : ℕ) where
+  finalization_says : (v : ℕ) → Says same elect x (AddFinalization c now) v
+      (proposal_said same elect x c (is_none (round_of x c.proposal.round.view).finalization)
+      (entry_at x (c.proposal.round.view + 1) now v) (ends_certification v x c.proposal.round.view) v)
   finalization_says v =
       let settled = settled_by c (is_none (round_of x c.proposal.round.view).finalization) v in
       record {
@@ -187,7 +213,8 @@ module _ {K L D : Type 0} (same : D → D → Bool) (elect : Elect L) (x : State
         led = refl;
         verified = rw (option_or_none settled) refl;
         build = rw (or-false (contradicts same (round_of x v).slot.held settled)) refl;
-        verify = or-false (contradicts same (round_of x v).slot.held settled || false) ∙ or-false (contradicts same (round_of x v).slot.held settled);
+        verify = or-false (contradicts same (round_of x v).slot.held settled || false)
+            ∙ or-false (contradicts same (round_of x v).slot.held settled);
         certified = refl;
         proposed = refl;
         latched = refl;
@@ -200,8 +227,12 @@ module _ {K L D : Type 0} (same : D → D → Bool) (elect : Elect L) (x : State
 
   pub finalization_works : WorkFollows same elect (AddFinalization c now) x (after_add_finalization same elect x c now)
   finalization_works =
-      said_follows same elect x (AddFinalization c now) (after_add_finalization same elect x c now) (λ v. proposal_said same elect x c (is_none standing) (entry_at x (u + 1) now v) (ends_certification v x u) v) steady waiting finalization_says
-      (λ v. proposal_work same elect x c e (entry_at x (u + 1) now) (λ w. ends_certification w x u) entering before standing z (with_waiting_candidate elect z u) (woken_steady elect z u ∙ kept) settled (λ w. woken_work elect z u w) v)
+      said_follows same elect x (AddFinalization c now) (after_add_finalization same elect x c now)
+      (λ v. proposal_said same elect x c (is_none standing) (entry_at x (u + 1) now v) (ends_certification v x u) v)
+      steady waiting finalization_says
+      (λ v. proposal_work same elect x c e (entry_at x (u + 1) now) (λ w. ends_certification w x u) entering before
+      standing z (with_waiting_candidate elect z u) (woken_steady elect z u ∙ kept) settled
+      (λ w. woken_work elect z u w) v)
     where
       u : ℕ
       u = c.proposal.round.view
@@ -231,25 +262,35 @@ module _ {K L D : Type 0} (same : D → D → Bool) (elect : Elect L) (x : State
       kept = elected_steady elect e (u + 1) (Some c.bytes) ∙ entering
 
       steady : UnchangedSetUp x (after_add_finalization same elect x c now)
-      steady = steady_where x (is_some standing) z (with_window_leaders (with_waiting_candidate elect z u) u) kept (slid_steady (with_waiting_candidate elect z u) u ∙ woken_steady elect z u ∙ kept)
+      steady = steady_where x (is_some standing) z (with_window_leaders (with_waiting_candidate elect z u) u) kept
+          (slid_steady (with_waiting_candidate elect z u) u ∙ woken_steady elect z u ∙ kept)
 
       raising : UnchangedButNumbers now x.current (max x.finalized u) x b
-      raising = leaves_joined now x.current x.finalized now x.current (max x.finalized u) x a b (moment_leaves x now) (raised_leaves a u)
+      raising = leaves_joined now x.current x.finalized now x.current (max x.finalized u) x a b (moment_leaves x now)
+          (raised_leaves a u)
 
       known : UnchangedButNumbers b.moment (max b.current (u + 1)) b.finalized x d
       known = then_quiet b.moment (max b.current (u + 1)) b.finalized x e d
-          (leaves_joined now x.current (max x.finalized u) b.moment (max b.current (u + 1)) b.finalized x b e raising (entered_leaves b (u + 1) now))
+          (leaves_joined now x.current (max x.finalized u) b.moment (max b.current (u + 1)) b.finalized x b e raising
+          (entered_leaves b (u + 1) now))
           (elected_quiet elect e (u + 1) (Some c.bytes))
 
-      before : (v : ℕ) → work_of e v ≡ work_entered_at x (entry_at x (u + 1) now v) (with_certification (ends_certification v x u) (work_of x v))
-      before v = entered_said x b (u + 1) now v (raised_steady a u) raising.current_is ∙ ap (work_entered_at x (entry_at x (u + 1) now v)) (raised_work a u v)
+      before : (v : ℕ) → work_of e v ≡ work_entered_at x (entry_at x (u + 1) now v)
+          (with_certification (ends_certification v x u) (work_of x v))
+      before v = entered_said x b (u + 1) now v (raised_steady a u) raising.current_is
+          ∙ ap (work_entered_at x (entry_at x (u + 1) now v)) (raised_work a u v)
 
-      settled : (v : ℕ) → work_of z v ≡ with_settled (eqb v u) (contradicts same (round_of x v).slot.held (settled_by c (is_none standing) v)) (work_of d v)
+      settled : (v : ℕ) → work_of z v ≡ with_settled (eqb v u)
+          (contradicts same (round_of x v).slot.held (settled_by c (is_none standing) v)) (work_of d v)
       settled v =
-          finalized_work same elect d c v ∙ (λ i. with_settled (eqb v u) (contradicts same (known.rounds v i).held (settled_by c (is_none (known.rounds u i).finalization) v)) (work_of d v))
+          finalized_work same elect d c v ∙ (λ i.
+          with_settled (eqb v u) (contradicts same (known.rounds v i).held
+          (settled_by c (is_none (known.rounds u i).finalization) v)) (work_of d v))
 
-      dropped : (v : ℕ) → is_among v z.named ≡ unwrap_or (if nat_lt x.finalized u && nat_le v u then Some false else None) (is_among v x.named)
-      dropped v = ap (λ (y : StateFacts K L D). is_among v y.named) (elected_only elect e (u + 1) (Some c.bytes)) ∙ ap (λ views. is_among v views) (entered_named b (u + 1) now) ∙ raised_among a u v
+      dropped : (v : ℕ) → is_among v z.named ≡ unwrap_or
+          (if nat_lt x.finalized u && nat_le v u then Some false else None) (is_among v x.named)
+      dropped v = ap (λ (y : StateFacts K L D). is_among v y.named) (elected_only elect e (u + 1) (Some c.bytes))
+          ∙ ap (λ views. is_among v views) (entered_named b (u + 1) now) ∙ raised_among a u v
 
       -- the view above waits after the finalization as it did before
       above : (v : ℕ) → wakes elect z z.finalized u v ≡ wakes elect x (max x.finalized u) u v
@@ -259,27 +300,36 @@ module _ {K L D : Type 0} (same : D → D → Bool) (elect : Elect L) (x : State
           finalized = known.finalized_is ∙ raising.finalized_is
 
           untouched : UnchangedKnown (round_of x (u + 1)) (round_of z (u + 1))
-          untouched = ap known_of_round (round_of-with_round d (u + 1) u (λ same_view. omega (arith, same_view)) (with_finalization (same_proposal same) (round_of d u) c)) ∙ known.rounds (u + 1)
+          untouched = ap known_of_round (round_of-with_round d (u + 1) u (λ same_view. omega (arith, same_view))
+              (with_finalization (same_proposal same) (round_of d u) c)) ∙ known.rounds (u + 1)
 
-          by_view : ((v ≡ u + 1) ⊎ (v ≡ u + 1 → ⊥)) → wakes elect z z.finalized u v ≡ wakes elect x (max x.finalized u) u v
-          by_view (inl here) = rw here (λ i. eqb (u + 1) (u + 1) && nat_lt (finalized i) (u + 1) && waits_alike elect x z u (wakings_steady x z kept) untouched i)
+          by_view : ((v ≡ u + 1) ⊎ (v ≡ u + 1 → ⊥))
+              → wakes elect z z.finalized u v ≡ wakes elect x (max x.finalized u) u v
+          by_view (inl here) = rw here (λ i. eqb (u + 1) (u + 1) && nat_lt (finalized i) (u + 1) && waits_alike elect x
+              z u (wakings_steady x z kept) untouched i)
           by_view (inr apart) = rw (ne_eqb v (u + 1) apart) refl
 
-      waiting : (v : ℕ) → is_among v (after_add_finalization same elect x c now).named ≡ unwrap_or (names elect v x (AddFinalization c now)) (is_among v x.named)
+      waiting : (v : ℕ) → is_among v (after_add_finalization same elect x c now).named ≡ unwrap_or
+          (names elect v x (AddFinalization c now)) (is_among v x.named)
       waiting v = first standing
         where
           gone : Option Bool
           gone = if nat_lt x.finalized u && nat_le v u then Some false else None
 
-          first : (o : Option (ProposalFacts D)) → is_among v (if is_some o then z else with_window_leaders (with_waiting_candidate elect z u) u).named ≡ unwrap_or (if is_none o && wakes elect x (max x.finalized u) u v then Some true else gone) (is_among v x.named)
+          first : (o : Option (ProposalFacts D))
+              → is_among v (if is_some o then z else with_window_leaders (with_waiting_candidate elect z u) u).named
+              ≡ unwrap_or (if is_none o && wakes elect x (max x.finalized u) u v then Some true else gone)
+              (is_among v x.named)
           first None =
-              ap (λ (y : StateFacts K L D). is_among v y.named) (slid_only (with_waiting_candidate elect z u) u) ∙ woken_among elect z u v
+              ap (λ (y : StateFacts K L D). is_among v y.named) (slid_only (with_waiting_candidate elect z u) u)
+              ∙ woken_among elect z u v
               ∙ (λ i. unwrap_or (if above v i then Some true else None) (dropped v i))
               ∙ named_later (wakes elect x (max x.finalized u) u v) gone (is_among v x.named)
           first (Some s) = dropped v
 
   -- the floor's finalization says what a finalization says, and is returned
-  pub floor_finalization_works : WorkFollows same elect (SetFloor (Finalized c) now) x (after_set_floor same elect x (Finalized c) now)
+  pub floor_finalization_works : WorkFollows same elect (SetFloor (Finalized c) now) x
+      (after_set_floor same elect x (Finalized c) now)
   floor_finalization_works = record {
     me = f.me;
     members = f.members;
@@ -303,7 +353,8 @@ module _ {K L D : Type 0} (same : D → D → Bool) (elect : Elect L) (x : State
       r = record (round_of y u) { finalization_broadcast = true }
 
       tracked : is_tracked y u ≡ true
-      tracked = ap (λ (k : Worked K D). k.tracked) (f.work u (omega arith)) ∙ rw (eq-eqb u u refl) (or-true (is_some (entry_at x (u + 1) now u)))
+      tracked = ap (λ (k : Worked K D). k.tracked) (f.work u (omega arith))
+          ∙ rw (eq-eqb u u refl) (or-true (is_some (entry_at x (u + 1) now u)))
 
       handed : (v : ℕ) → ((v ≡ u) ⊎ (v ≡ u → ⊥)) → work_of (with_round y u r) v ≡ work_of y v
       handed v (inl here) = rw here (work_put y u r ∙ (λ i. record (work_of y u) { tracked = sym tracked i }))

@@ -24,7 +24,14 @@ pub record Shared (K L : Type 0) : Type 0 where
   pub named : List ℕ
 
 abbrev pub shared_of : {K L D : Type 0} → StateFacts K L D → Shared K L
-shared_of x = record { me = x.me; members = x.members; elector = x.elector; elects_early = x.elects_early; failed = x.failed; named = x.named }
+shared_of x = record {
+  me = x.me;
+  members = x.members;
+  elector = x.elector;
+  elects_early = x.elects_early;
+  failed = x.failed;
+  named = x.named;
+}
 
 module _ {K L D : Type 0} (x : StateFacts K L D) where
   -- an event that enters no view
@@ -42,19 +49,24 @@ module _ {K L D : Type 0} (x : StateFacts K L D) where
       either false = refl
 
   -- the work on each view where another round is to be put at one
-  work_tracked : (v w : ℕ) (r : RoundFacts K D) → work_of (with_tracked x v r) w ≡ (if is_at x w v then work_in true r else work_of x w)
+  work_tracked : (v w : ℕ) (r : RoundFacts K D)
+      → work_of (with_tracked x v r) w ≡ (if is_at x w v then work_in true r else work_of x w)
   work_tracked v w r = by_tracked (is_tracked x v)
     where
-      by_tracked : (b : Bool) → work_of (if b then with_round x v r else x) w ≡ (if eqb w v && b then work_in true r else work_of x w)
+      by_tracked : (b : Bool) → work_of (if b then with_round x v r else x)
+          w ≡ (if eqb w v && b then work_in true r else work_of x w)
       by_tracked true = elim (cases_eq w v) [
         | inl here ↦ rw (here, eq-eqb v v refl) (work_put x v r)
         | inr apart ↦ rw (ne_eqb w v apart) (work_elsewhere x v w r (ne_eqb w v apart))
       ]
       by_tracked false = rw (and-false (eqb w v)) refl
 
-module _ {K L D : Type 0} (same : D → D → Bool) (elect : Elect L) (x : StateFacts K L D) (e : Event K D) (unnamed : (v : ℕ) → names elect v x e ≡ None) where
+module _ {K L D : Type 0} (same : D → D → Bool) (elect : Elect L) (x : StateFacts K L D) (e : Event K D)
+    (unnamed : (v : ℕ) → names elect v x e ≡ None) where
   -- an event that changes nothing that all views share
-  pub shared_follows : (y : StateFacts K L D) → shared_of y ≡ shared_of x → ((v : ℕ) → left_from x e ≤ v → work_of y v ≡ adds_work same elect x e v (work_of x v)) → WorkFollows same elect e x y
+  pub shared_follows : (y : StateFacts K L D) → shared_of y ≡ shared_of x
+      → ((v : ℕ) → left_from x e ≤ v → work_of y v ≡ adds_work same elect x e v (work_of x v))
+      → WorkFollows same elect e x y
   shared_follows y shared work = record {
     me = ap (λ s. s.me) shared;
     members = ap (λ s. s.members) shared;
@@ -66,21 +78,29 @@ module _ {K L D : Type 0} (same : D → D → Bool) (elect : Elect L) (x : State
   }
 
   -- an event that says nothing of the work
-  pub idle_follows : (y : StateFacts K L D) → shared_of y ≡ shared_of x → ((v : ℕ) → left_from x e ≤ v → work_of y v ≡ work_of x v) → ((v : ℕ) → SaysNoWork same elect x e v) → WorkFollows same elect e x y
+  pub idle_follows : (y : StateFacts K L D) → shared_of y ≡ shared_of x
+      → ((v : ℕ) → left_from x e ≤ v → work_of y v ≡ work_of x v) → ((v : ℕ) → SaysNoWork same elect x e v)
+      → WorkFollows same elect e x y
   idle_follows y shared stays idle = shared_follows y shared (λ v left. stays v left ∙ sym (idle v (work_of x v)))
 
   -- an event of one view, which puts another round there where the view is tracked
-  pub tracked_follows : (now v : ℕ) (r : RoundFacts K D) → (is_tracked x v ≡ true → work_in true r ≡ adds_work same elect x e v (work_in true (round_of x v))) → ((w : ℕ) → is_at x w v ≡ false → SaysNoWork same elect x e w) → WorkFollows same elect e x (with_tracked (at_moment x now) v r)
-  tracked_follows now v r said idle = shared_follows (with_tracked a v r) (shared_tracked a v r) (λ w _. work_tracked a v w r ∙ by_tracked w (is_tracked x v) refl)
+  pub tracked_follows : (now v : ℕ) (r : RoundFacts K D)
+      → (is_tracked x v ≡ true → work_in true r ≡ adds_work same elect x e v (work_in true (round_of x v)))
+      → ((w : ℕ) → is_at x w v ≡ false → SaysNoWork same elect x e w)
+      → WorkFollows same elect e x (with_tracked (at_moment x now) v r)
+  tracked_follows now v r said idle = shared_follows (with_tracked a v r) (shared_tracked a v r)
+      (λ w _. work_tracked a v w r ∙ by_tracked w (is_tracked x v) refl)
     where
       a : StateFacts K L D
       a = at_moment x now
 
       -- of the view it says what the round has, of others nothing
-      silent : (w : ℕ) → is_at x w v ≡ false → (if is_at x w v then work_in true r else work_of x w) ≡ adds_work same elect x e w (work_of x w)
+      silent : (w : ℕ) → is_at x w v ≡ false → (if is_at x w v then work_in true r else work_of x w) ≡ adds_work same
+          elect x e w (work_of x w)
       silent w apart = rw apart (sym (idle w apart (work_of x w)))
 
-      by_tracked : (w : ℕ) (b : Bool) → is_tracked x v ≡ b → (if is_at x w v then work_in true r else work_of x w) ≡ adds_work same elect x e w (work_of x w)
+      by_tracked : (w : ℕ) (b : Bool) → is_tracked x v ≡ b
+          → (if is_at x w v then work_in true r else work_of x w) ≡ adds_work same elect x e w (work_of x w)
       by_tracked w true tracked = elim (cases_eq w v) [
         | inl here ↦ rw (here, eq-eqb v v refl, tracked) (said tracked)
         | inr apart ↦ silent w (rw (ne_eqb w v apart) refl)

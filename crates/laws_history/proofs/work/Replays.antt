@@ -27,7 +27,9 @@ use Rattle.laws_history.proofs.work.WithoutMoment.{IsUnmoved, adds_unmoved, unmo
 -- a binding that is restored is all that changes
 
 module _ {K D : Type 0} (r : RoundFacts K D) where
-  bound_work : (binding : Option (Proposal D × D)) → work_in true (bound_again r binding) ≡ record (work_in true r) { binding = unwrap_or (option_map (λ bound. Some bound) binding) r.binding }
+  bound_work : (binding : Option (Proposal D × D))
+      → work_in true (bound_again r binding) ≡ record (work_in true r)
+      { binding = unwrap_or (option_map (λ bound. Some bound) binding) r.binding }
   bound_work None = refl
   bound_work (Some bound) = refl
 
@@ -45,10 +47,15 @@ module _ {K D : Type 0} (r : RoundFacts K D) where
 
 module _ {K L D : Type 0} (same : D → D → Bool) (elect : Elect L) (x : StateFacts K L D) where
   unmoved : (e : ArtifactFacts D) → IsUnmoved same elect x (Replay e)
-  unmoved e = record { moment = refl; proposed = λ _. refl; latched = λ _. refl; repeated = λ _. refl; asked = λ _. refl }
+  unmoved e =
+      record { moment = refl; proposed = λ _. refl; latched = λ _. refl; repeated = λ _. refl; asked = λ _. refl }
 
   -- a round is put, and views are noted
-  put_works : (e : ArtifactFacts D) (v : ℕ) (r : RoundFacts K D) (nullified nullify_votes : List ℕ) → work_in true r ≡ adds_unmoved same elect x (Replay e) v (work_of x v) → ((u : ℕ) → eqb u v ≡ false → adds_unmoved same elect x (Replay e) u (work_of x u) ≡ work_of x u) → WorkFollows same elect (Replay e) x (record (with_round x v r) { nullified = nullified; nullify_votes = nullify_votes })
+  put_works : (e : ArtifactFacts D) (v : ℕ) (r : RoundFacts K D) (nullified nullify_votes : List ℕ)
+      → work_in true r ≡ adds_unmoved same elect x (Replay e) v (work_of x v)
+      → ((u : ℕ) → eqb u v ≡ false → adds_unmoved same elect x (Replay e) u (work_of x u) ≡ work_of x u)
+      → WorkFollows same elect (Replay e) x
+      (record (with_round x v r) { nullified = nullified; nullify_votes = nullify_votes })
   put_works e v r nullified nullify_votes added elsewhere =
       record {
         me = refl;
@@ -60,7 +67,8 @@ module _ {K L D : Type 0} (same : D → D → Bool) (elect : Elect L) (x : State
         work = λ w _. put_work same elect x (Replay e) (unmoved e) v r added elsewhere w;
       }
 
-  replayed_notarize : (p : Proposal D) (signer : ℕ) → WorkFollows same elect (Replay (NotarizeVote p signer)) x (after_replaying same elect x (NotarizeVote p signer))
+  replayed_notarize : (p : Proposal D) (signer : ℕ)
+      → WorkFollows same elect (Replay (NotarizeVote p signer)) x (after_replaying same elect x (NotarizeVote p signer))
   replayed_notarize p signer =
       let only : OnlyRounds z (with_next_view_ready elect z v) = prepared_only elect z v in
       record {
@@ -70,7 +78,9 @@ module _ {K L D : Type 0} (same : D → D → Bool) (elect : Elect L) (x : State
         elects_early = ap (λ (y : StateFacts K L D). y.elects_early) only;
         failed = ap (λ (y : StateFacts K L D). y.failed) only;
         named = λ w. ap (λ (y : StateFacts K L D). is_among w y.named) only;
-        work = λ w _. readied w ∙ put w (cases_eq w v) ∙ sym (unmoved_adds same elect x (Replay (NotarizeVote p signer)) (unmoved (NotarizeVote p signer)) w (work_of x w));
+        work = λ w _. readied w ∙ put w (cases_eq w v)
+            ∙ sym (unmoved_adds same elect x (Replay (NotarizeVote p signer)) (unmoved (NotarizeVote p signer)) w
+            (work_of x w));
       }
     where
       v : ℕ
@@ -89,8 +99,10 @@ module _ {K L D : Type 0} (same : D → D → Bool) (elect : Elect L) (x : State
       z : StateFacts K L D
       z = with_round x v bound
 
-      readied : (w : ℕ) → work_of (with_next_view_ready elect z v) w ≡ with_leader (tracks_after elect x true v w) (leads_after elect x true v w) (work_of z w)
-      readied = readied_work elect x v bound (bound_notarized voted (restored_binding x p)) (bound_leader voted (restored_binding x p)) (bound_decided voted (restored_binding x p))
+      readied : (w : ℕ) → work_of (with_next_view_ready elect z v) w ≡ with_leader (tracks_after elect x true v w)
+          (leads_after elect x true v w) (work_of z w)
+      readied = readied_work elect x v bound (bound_notarized voted (restored_binding x p))
+          (bound_leader voted (restored_binding x p)) (bound_decided voted (restored_binding x p))
 
       tracked : Bool
       tracked = tracks_after elect x true v v
@@ -98,32 +110,46 @@ module _ {K L D : Type 0} (same : D → D → Bool) (elect : Elect L) (x : State
       leader : Option (Leader K)
       leader = leads_after elect x true v v
 
-      own : (b : Bool) → holds_or_empty (same_proposal same) r.slot p ≡ b → with_leader tracked leader (record (work_in true voted) { binding = unwrap_or (option_map (λ bound. Some bound) (restored_binding x p)) r.binding }) ≡ adds_unmoved same elect x (Replay (NotarizeVote p signer)) v (work_of x v)
+      own : (b : Bool) → holds_or_empty (same_proposal same) r.slot p ≡ b
+          → with_leader tracked leader (record (work_in true voted)
+          { binding = unwrap_or (option_map (λ bound. Some bound) (restored_binding x p)) r.binding }) ≡ adds_unmoved
+          same elect x (Replay (NotarizeVote p signer)) v (work_of x v)
       own true is = rw (eq-eqb v v refl, is, or-true tracked) refl
       own false is = rw (eq-eqb v v refl, is, or-true tracked) refl
 
-      put : (w : ℕ) → ((w ≡ v) ⊎ (w ≡ v → ⊥)) → with_leader (tracks_after elect x true v w) (leads_after elect x true v w) (work_of z w) ≡ adds_unmoved same elect x (Replay (NotarizeVote p signer)) w (work_of x w)
-      put w (inl here) = rw here (ap (with_leader tracked leader) (work_put x v bound ∙ bound_work voted (restored_binding x p)) ∙ own (holds_or_empty (same_proposal same) r.slot p) refl)
-      put w (inr apart) = ap (with_leader (tracks_after elect x true v w) (leads_after elect x true v w)) (work_elsewhere x v w bound (ne_eqb w v apart)) ∙ rw (ne_eqb w v apart) refl
+      put : (w : ℕ) → ((w ≡ v) ⊎ (w ≡ v → ⊥))
+          → with_leader (tracks_after elect x true v w) (leads_after elect x true v w) (work_of z w) ≡ adds_unmoved same
+          elect x (Replay (NotarizeVote p signer)) w (work_of x w)
+      put w (inl here) = rw here (ap (with_leader tracked leader)
+          (work_put x v bound ∙ bound_work voted (restored_binding x p))
+          ∙ own (holds_or_empty (same_proposal same) r.slot p) refl)
+      put w (inr apart) = ap (with_leader (tracks_after elect x true v w) (leads_after elect x true v w))
+          (work_elsewhere x v w bound (ne_eqb w v apart)) ∙ rw (ne_eqb w v apart) refl
 
   -- each artifact
   pub replay_works : (e : ArtifactFacts D) → WorkFollows same elect (Replay e) x (after_replaying same elect x e)
   replay_works (NotarizeVote p signer) = replayed_notarize p signer
   replay_works (NullifyVote round signer) =
       let v = round.view in
-      put_works (NullifyVote round signer) v (record (round_of x v) { decision = Nullify None }) x.nullified (insert_key nat_cmp x.nullify_votes v) (rw (eq-eqb v v refl) refl) (λ u apart. rw apart refl)
+      put_works (NullifyVote round signer) v (record (round_of x v) { decision = Nullify None }) x.nullified
+      (insert_key nat_cmp x.nullify_votes v) (rw (eq-eqb v v refl) refl) (λ u apart. rw apart refl)
   replay_works (FinalizeVote p signer) =
       let v = p.round.view in
-      put_works (FinalizeVote p signer) v (record (round_of x v) { decision = Finalize }) x.nullified x.nullify_votes (rw (eq-eqb v v refl) refl) (λ u apart. rw apart refl)
+      put_works (FinalizeVote p signer) v (record (round_of x v) { decision = Finalize }) x.nullified x.nullify_votes
+      (rw (eq-eqb v v refl) refl) (λ u apart. rw apart refl)
   replay_works (Verdict round success) =
       let v = round.view in
-      put_works (Verdict round success) v (certified_round (round_of x v) success) x.nullified x.nullify_votes (rw (eq-eqb v v refl) refl) (λ u apart. rw apart refl)
+      put_works (Verdict round success) v (certified_round (round_of x v) success) x.nullified x.nullify_votes
+      (rw (eq-eqb v v refl) refl) (λ u apart. rw apart refl)
   replay_works (Accepted (Notarized c)) =
       let v = c.proposal.round.view in
-      put_works (Accepted (Notarized c)) v (record (round_of x v) { notarization_broadcast = true }) x.nullified x.nullify_votes (rw (eq-eqb v v refl) refl) (λ u apart. rw apart refl)
+      put_works (Accepted (Notarized c)) v (record (round_of x v) { notarization_broadcast = true }) x.nullified
+      x.nullify_votes (rw (eq-eqb v v refl) refl) (λ u apart. rw apart refl)
   replay_works (Accepted (Nullified c)) =
       let v = c.round.view in
-      put_works (Accepted (Nullified c)) v (record (round_of x v) { nullification_broadcast = true }) (insert_key nat_cmp x.nullified v) x.nullify_votes (rw (eq-eqb v v refl) refl) (λ u apart. rw apart refl)
+      put_works (Accepted (Nullified c)) v (record (round_of x v) { nullification_broadcast = true })
+      (insert_key nat_cmp x.nullified v) x.nullify_votes (rw (eq-eqb v v refl) refl) (λ u apart. rw apart refl)
   replay_works (Accepted (Finalized c)) =
       let v = c.proposal.round.view in
-      put_works (Accepted (Finalized c)) v (record (round_of x v) { finalization_broadcast = true }) x.nullified x.nullify_votes (rw (eq-eqb v v refl) refl) (λ u apart. rw apart refl)
+      put_works (Accepted (Finalized c)) v (record (round_of x v) { finalization_broadcast = true }) x.nullified
+      x.nullify_votes (rw (eq-eqb v v refl) refl) (λ u apart. rw apart refl)

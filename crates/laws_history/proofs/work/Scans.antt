@@ -17,7 +17,8 @@ use Rattle.laws_history.proofs.work.Puts.{unentered, shared_follows}
 use Rattle.laws_history.proofs.work.Timeouts.{latched_timed}
 
 -- the work on a view, with what a scan makes of it where the view's proposal is in this state
-abbrev stood : {K D : Type 0} → Settings → (moment : ℕ) → (held : Option (Proposal D)) → Standing D → Worked K D → Worked K D
+abbrev stood : {K D : Type 0} → Settings → (moment : ℕ) → (held : Option (Proposal D)) → Standing D → Worked K D
+    → Worked K D
 stood settings moment held s k = record k {
   verify_requested = is_given_out s || k.verify_requested;
   decision = timed settings None (if is_invalid s then Some (moment, InvalidProposal) else None) None k.decision;
@@ -26,7 +27,9 @@ stood settings moment held s k = record k {
 }
 
 module _ {K D : Type 0} (settings : Settings) (moment : ℕ) (tracked : Bool) (r : RoundFacts K D) where
-  round_stood : (b : Bool) (s : Standing D) → work_in tracked (if b then round_left r moment s else r) ≡ stood settings moment r.slot.held (if b then s else NothingToDo) (work_in tracked r)
+  round_stood : (b : Bool) (s : Standing D)
+      → work_in tracked (if b then round_left r moment s else r) ≡ stood settings moment r.slot.held
+      (if b then s else NothingToDo) (work_in tracked r)
   round_stood true Invalid = rw (sym (latched_timed settings r.decision (moment, InvalidProposal))) refl
   round_stood false s = rw (untimed settings r.decision) refl
   round_stood true NothingToDo = rw (untimed settings r.decision) refl
@@ -43,4 +46,5 @@ module _ {K L D : Type 0} (same : D → D → Bool) (elect : Elect L) (x : State
       by_scan : (v : ℕ) → work_of (after_try_verify same elect x) v ≡ adds_work same elect x e v (work_of x v)
       by_scan v =
           rw (tracked_scanned same elect x v, round_scanned same elect x v, unentered x e v refl)
-          (round_stood x.settings x.moment (is_tracked x v) (round_of x v) (was_scanned same elect x v) (standing same elect x (v, round_of x v)))
+          (round_stood x.settings x.moment (is_tracked x v) (round_of x v) (was_scanned same elect x v)
+          (standing same elect x (v, round_of x v)))

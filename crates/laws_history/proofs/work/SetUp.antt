@@ -11,7 +11,8 @@ use Rattle.laws_history.proofs.work.Leaders.{OnlyRounds, elected_only}
 
 -- the facts without what certificates change
 abbrev pub set_up_facts : {K L D : Type 0} → StateFacts K L D → StateFacts K L D
-set_up_facts x = record x { genesis = None; current = 0; finalized = 0; moment = 0; named = []; nullified = []; rounds = [] }
+set_up_facts x =
+    record x { genesis = None; current = 0; finalized = 0; moment = 0; named = []; nullified = []; rounds = [] }
 
 -- these two were set up alike
 abbrev pub UnchangedSetUp : {K L D : Type 0} → StateFacts K L D → StateFacts K L D → Type 0
@@ -21,7 +22,8 @@ module _ {K L D : Type 0} where
   pub steady_joined : (x y z : StateFacts K L D) → UnchangedSetUp x y → UnchangedSetUp y z → UnchangedSetUp x z
   steady_joined x y z p q = q ∙ p
 
-  pub steady_where : (x : StateFacts K L D) (b : Bool) (y z : StateFacts K L D) → UnchangedSetUp x y → UnchangedSetUp x z → UnchangedSetUp x (if b then y else z)
+  pub steady_where : (x : StateFacts K L D) (b : Bool) (y z : StateFacts K L D) → UnchangedSetUp x y
+      → UnchangedSetUp x z → UnchangedSetUp x (if b then y else z)
   steady_where x true y z p q = p
   steady_where x false y z p q = q
 
@@ -51,8 +53,10 @@ module _ {K L D : Type 0} where
   }
 
 module _ {K L D : Type 0} (elect : Elect L) where
-  pub elected_steady : (x : StateFacts K L D) (v : ℕ) (seed : Option (List ℕ)) → UnchangedSetUp x (with_elected_leader elect x v seed)
+  pub elected_steady : (x : StateFacts K L D) (v : ℕ) (seed : Option (List ℕ))
+      → UnchangedSetUp x (with_elected_leader elect x v seed)
   elected_steady x v seed = only_steady x (with_elected_leader elect x v seed) (elected_only elect x v seed)
 
   pub woken_steady : (x : StateFacts K L D) (v : ℕ) → UnchangedSetUp x (with_waiting_candidate elect x v)
-  woken_steady x v = steady_where x (option_map_or (waits_for elect x v) (round_at x (v + 1)) false) (named_also x (v + 1)) x (named_steady x (v + 1)) refl
+  woken_steady x v = steady_where x (option_map_or (waits_for elect x v) (round_at x (v + 1)) false)
+      (named_also x (v + 1)) x (named_steady x (v + 1)) refl

@@ -32,12 +32,14 @@ module _ {D : Type 0} (same : D → D → Bool) (s : SlotFacts D) (p : Proposal 
   abbrev received_by : Option (Proposal D) → SlotFacts D
   received_by held =
       option_map_or
-      (λ h. record s { conflict = s.conflict || not (same_proposal same h p); verified = s.verified && same_proposal same h p })
+      (λ h. record s
+      { conflict = s.conflict || not (same_proposal same h p); verified = s.verified && same_proposal same h p })
       held
       (record s { held = Some p })
 
   -- another one than the stored one is not verified, and none is asked for
-  heard_verified : (held : Option (Proposal D)) → (received_by held).verified ≡ unwrap_or (if contradicts same held (Some p) then Some false else None) s.verified
+  heard_verified : (held : Option (Proposal D))
+      → (received_by held).verified ≡ unwrap_or (if contradicts same held (Some p) then Some false else None) s.verified
   heard_verified None = refl
   heard_verified (Some h) = by_same (same_proposal same h p)
     where
@@ -64,23 +66,55 @@ module _ {K L D : Type 0} (same : D → D → Bool) (elect : Elect L) (x : State
       z = with_round x v (after_nullify r)
 
       unmoved : IsUnmoved same elect x (ConstructNullify v)
-      unmoved = record { moment = refl; proposed = λ _. refl; latched = λ _. refl; repeated = λ _. refl; asked = λ _. refl }
+      unmoved =
+          record { moment = refl; proposed = λ _. refl; latched = λ _. refl; repeated = λ _. refl; asked = λ _. refl }
 
-      decided : may_nullify x v ≡ true → work_in true (after_nullify r) ≡ adds_unmoved same elect x (ConstructNullify v) v (work_of x v)
+      decided : may_nullify x v ≡ true → work_in true (after_nullify r) ≡ adds_unmoved same elect x (ConstructNullify v)
+          v (work_of x v)
       decided may =
           let open_vote : is_finalize r.decision ≡ false = (nullify_parts x v may).no_finalize in
           rw (may, open_vote, eq-eqb v v refl) refl
 
-      voted : may_nullify x v ≡ true → (w : ℕ) → work_of z w ≡ adds_work same elect x (ConstructNullify v) w (work_of x w)
-      voted may = put_work same elect x (ConstructNullify v) unmoved v (after_nullify r) (decided may) (λ u apart. rw apart refl)
+      voted : may_nullify x v ≡ true → (w : ℕ)
+          → work_of z w ≡ adds_work same elect x (ConstructNullify v) w (work_of x w)
+      voted may = put_work same elect x (ConstructNullify v) unmoved v (after_nullify r) (decided may)
+          (λ u apart. rw apart refl)
 
-      cast : (b : Bool) → may_nullify x v ≡ true → WorkFollows same elect (ConstructNullify v) x (if b then record z { nullify_votes = insert_key nat_cmp x.nullify_votes v } else z)
-      cast true may = record { me = refl; members = refl; elector = refl; elects_early = refl; failed = refl; named = λ _. refl; work = λ w _. voted may w }
-      cast false may = record { me = refl; members = refl; elector = refl; elects_early = refl; failed = refl; named = λ _. refl; work = λ w _. voted may w }
+      cast : (b : Bool) → may_nullify x v ≡ true
+          → WorkFollows same elect (ConstructNullify v) x
+          (if b then record z { nullify_votes = insert_key nat_cmp x.nullify_votes v } else z)
+      cast true may = record {
+        me = refl;
+        members = refl;
+        elector = refl;
+        elects_early = refl;
+        failed = refl;
+        named = λ _. refl;
+        work = λ w _. voted may w;
+      }
+      cast false may = record {
+        me = refl;
+        members = refl;
+        elector = refl;
+        elects_early = refl;
+        failed = refl;
+        named = λ _. refl;
+        work = λ w _. voted may w;
+      }
 
-      by_rule : (b : Bool) → may_nullify x v ≡ b → WorkFollows same elect (ConstructNullify v) x (if b then nullify_cast z v else x)
+      by_rule : (b : Bool) → may_nullify x v ≡ b
+          → WorkFollows same elect (ConstructNullify v) x (if b then nullify_cast z v else x)
       by_rule true may = cast (is_some x.me) may
-      by_rule false barred = record { me = refl; members = refl; elector = refl; elects_early = refl; failed = refl; named = λ _. refl; work = λ w _. sym (unmoved_adds same elect x (ConstructNullify v) unmoved w (work_of x w) ∙ rw (barred, and-false (eqb w v)) refl) }
+      by_rule false barred = record {
+        me = refl;
+        members = refl;
+        elector = refl;
+        elects_early = refl;
+        failed = refl;
+        named = λ _. refl;
+        work = λ w _. sym (unmoved_adds same elect x (ConstructNullify v) unmoved w (work_of x w)
+            ∙ rw (barred, and-false (eqb w v)) refl);
+      }
 
   pub finalize_works : WorkFollows same elect (ConstructFinalize v) x (after_construct_finalize elect x v)
   finalize_works = by_rule (may_finalize elect x v) refl
@@ -89,14 +123,35 @@ module _ {K L D : Type 0} (same : D → D → Bool) (elect : Elect L) (x : State
       r = record (round_of x v) { decision = Finalize }
 
       unmoved : IsUnmoved same elect x (ConstructFinalize v)
-      unmoved = record { moment = refl; proposed = λ _. refl; latched = λ _. refl; repeated = λ _. refl; asked = λ _. refl }
+      unmoved =
+          record { moment = refl; proposed = λ _. refl; latched = λ _. refl; repeated = λ _. refl; asked = λ _. refl }
 
-      decided : may_finalize elect x v ≡ true → work_in true r ≡ adds_unmoved same elect x (ConstructFinalize v) v (work_of x v)
+      decided : may_finalize elect x v ≡ true
+          → work_in true r ≡ adds_unmoved same elect x (ConstructFinalize v) v (work_of x v)
       decided may = rw (may, eq-eqb v v refl) refl
 
-      by_rule : (b : Bool) → may_finalize elect x v ≡ b → WorkFollows same elect (ConstructFinalize v) x (if b then finalize_cast x v else x)
-      by_rule true may = record { me = refl; members = refl; elector = refl; elects_early = refl; failed = refl; named = λ _. refl; work = λ w _. put_work same elect x (ConstructFinalize v) unmoved v r (decided may) (λ u apart. rw apart refl) w }
-      by_rule false barred = record { me = refl; members = refl; elector = refl; elects_early = refl; failed = refl; named = λ _. refl; work = λ w _. sym (unmoved_adds same elect x (ConstructFinalize v) unmoved w (work_of x w) ∙ rw (barred, and-false (eqb w v)) refl) }
+      by_rule : (b : Bool) → may_finalize elect x v ≡ b
+          → WorkFollows same elect (ConstructFinalize v) x (if b then finalize_cast x v else x)
+      by_rule true may = record {
+        me = refl;
+        members = refl;
+        elector = refl;
+        elects_early = refl;
+        failed = refl;
+        named = λ _. refl;
+        work = λ w _. put_work same elect x (ConstructFinalize v) unmoved v r (decided may)
+            (λ u apart. rw apart refl) w;
+      }
+      by_rule false barred = record {
+        me = refl;
+        members = refl;
+        elector = refl;
+        elects_early = refl;
+        failed = refl;
+        named = λ _. refl;
+        work = λ w _. sym (unmoved_adds same elect x (ConstructFinalize v) unmoved w (work_of x w)
+            ∙ rw (barred, and-false (eqb w v)) refl);
+      }
 
   pub notarize_works : WorkFollows same elect (ConstructNotarize v) x (after_construct_notarize same elect x v)
   notarize_works = by_rule (may_notarize same elect x v) refl
@@ -108,20 +163,26 @@ module _ {K L D : Type 0} (same : D → D → Bool) (elect : Elect L) (x : State
       z = with_round x v r
 
       unmoved : IsUnmoved same elect x (ConstructNotarize v)
-      unmoved = record { moment = refl; proposed = λ _. refl; latched = λ _. refl; repeated = λ _. refl; asked = λ _. refl }
+      unmoved =
+          record { moment = refl; proposed = λ _. refl; latched = λ _. refl; repeated = λ _. refl; asked = λ _. refl }
 
       -- the vote tracks its view, and readies the one above
-      voted : (tracked : Bool) (leader : Option (Leader K)) (w : ℕ) → ((w ≡ v) ⊎ (w ≡ v → ⊥)) → with_leader tracked leader (work_of z w) ≡ with_leader (eqb w v || tracked) leader (work_of x w)
-      voted tracked leader w (inl here) = rw here (ap (with_leader tracked leader) (work_put x v r) ∙ rw (eq-eqb v v refl, or-true tracked) refl)
-      voted tracked leader w (inr apart) = ap (with_leader tracked leader) (work_elsewhere x v w r (ne_eqb w v apart)) ∙ rw (ne_eqb w v apart) refl
+      voted : (tracked : Bool) (leader : Option (Leader K)) (w : ℕ) → ((w ≡ v) ⊎ (w ≡ v → ⊥))
+          → with_leader tracked leader (work_of z w) ≡ with_leader (eqb w v || tracked) leader (work_of x w)
+      voted tracked leader w (inl here) = rw here
+          (ap (with_leader tracked leader) (work_put x v r) ∙ rw (eq-eqb v v refl, or-true tracked) refl)
+      voted tracked leader w (inr apart) = ap (with_leader tracked leader) (work_elsewhere x v w r (ne_eqb w v apart))
+          ∙ rw (ne_eqb w v apart) refl
 
-      readied : may_notarize same elect x v ≡ true → (w : ℕ) → work_of (with_next_view_ready elect z v) w ≡ adds_unmoved same elect x (ConstructNotarize v) w (work_of x w)
+      readied : may_notarize same elect x v ≡ true → (w : ℕ)
+          → work_of (with_next_view_ready elect z v) w ≡ adds_unmoved same elect x (ConstructNotarize v) w (work_of x w)
       readied may w =
           readied_work elect x v r refl refl refl w
           ∙ voted (tracks_after elect x true v w) (leads_after elect x true v w) w (cases_eq w v)
           ∙ rw may refl
 
-      by_rule : (b : Bool) → may_notarize same elect x v ≡ b → WorkFollows same elect (ConstructNotarize v) x (if b then with_next_view_ready elect z v else x)
+      by_rule : (b : Bool) → may_notarize same elect x v ≡ b
+          → WorkFollows same elect (ConstructNotarize v) x (if b then with_next_view_ready elect z v else x)
       by_rule true may =
           let only : OnlyRounds z (with_next_view_ready elect z v) = prepared_only elect z v in
           record {
@@ -133,9 +194,18 @@ module _ {K L D : Type 0} (same : D → D → Bool) (elect : Elect L) (x : State
             named = λ w. ap (λ y. is_among w y.named) only;
             work = λ w _. readied may w ∙ sym (unmoved_adds same elect x (ConstructNotarize v) unmoved w (work_of x w));
           }
-      by_rule false barred = record { me = refl; members = refl; elector = refl; elects_early = refl; failed = refl; named = λ _. refl; work = λ w _. sym (unmoved_adds same elect x (ConstructNotarize v) unmoved w (work_of x w) ∙ rw barred refl) }
+      by_rule false barred = record {
+        me = refl;
+        members = refl;
+        elector = refl;
+        elects_early = refl;
+        failed = refl;
+        named = λ _. refl;
+        work = λ w _. sym (unmoved_adds same elect x (ConstructNotarize v) unmoved w (work_of x w) ∙ rw barred refl);
+      }
 
-  pub proposal_works : (p : Proposal D) → WorkFollows same elect (SetProposal v p) x (after_set_proposal same elect x v p)
+  pub proposal_works : (p : Proposal D) → WorkFollows same elect (SetProposal v p) x
+      (after_set_proposal same elect x v p)
   proposal_works p =
       let only : OnlyRounds x y = prepared_only elect x v in
       record {
@@ -155,19 +225,32 @@ module _ {K L D : Type 0} (same : D → D → Bool) (elect : Elect L) (x : State
       r = round_of x v
 
       unmoved : IsUnmoved same elect x (SetProposal v p)
-      unmoved = record { moment = refl; proposed = λ _. refl; latched = λ _. refl; repeated = λ _. refl; asked = λ _. refl }
+      unmoved =
+          record { moment = refl; proposed = λ _. refl; latched = λ _. refl; repeated = λ _. refl; asked = λ _. refl }
 
       -- the round is readied first
       readied : RoundFacts K D
       readied = record r { leader = or_new r.leader (leads_after elect x r.notarize_decided v v) }
 
       readied_is : round_of y v ≡ readied
-      readied_is = prepared_leaders elect x v v ∙ ap (λ leader. record r { leader = leader }) (ap (λ (k : Worked K D). k.leader) (prepared_work elect x v v))
+      readied_is = prepared_leaders elect x v v
+          ∙ ap (λ leader. record r { leader = leader }) (ap (λ (k : Worked K D). k.leader) (prepared_work elect x v v))
 
-      heard : (b : Bool) → is_nullify r.decision ≡ b → work_in true (if b then readied else record readied { slot = after_vote (same_proposal same) r.slot p }) ≡ adds_unmoved same elect x (SetProposal v p) v (work_of x v)
+      heard : (b : Bool) → is_nullify r.decision ≡ b
+          → work_in true (if b then readied else record readied { slot = after_vote (same_proposal same) r.slot p })
+          ≡ adds_unmoved same elect x (SetProposal v p) v (work_of x v)
       heard true is = rw (is, eq-eqb v v refl) refl
-      heard false is = rw (is, eq-eqb v v refl) (λ i. record (work_in true readied) { verified = heard_verified same r.slot p r.slot.held i; build_requested = heard_build same r.slot p r.slot.held i; verify_requested = heard_verify same r.slot p r.slot.held i })
+      heard false is = rw (is, eq-eqb v v refl)
+          (λ i. record (work_in true readied) {
+            verified = heard_verified same r.slot p r.slot.held i;
+            build_requested = heard_build same r.slot p r.slot.held i;
+            verify_requested = heard_verify same r.slot p r.slot.held i;
+          })
 
-      put : (w : ℕ) → ((w ≡ v) ⊎ (w ≡ v → ⊥)) → work_of (with_round y v (with_proposal same (round_of y v) p)) w ≡ adds_unmoved same elect x (SetProposal v p) w (work_of x w)
-      put w (inl here) = rw here (work_put y v (with_proposal same (round_of y v) p) ∙ ap (λ s. work_in true (with_proposal same s p)) readied_is ∙ heard (is_nullify r.decision) refl)
-      put w (inr apart) = work_elsewhere y v w (with_proposal same (round_of y v) p) (ne_eqb w v apart) ∙ prepared_work elect x v w ∙ rw (ne_eqb w v apart) refl
+      put : (w : ℕ) → ((w ≡ v) ⊎ (w ≡ v → ⊥))
+          → work_of (with_round y v (with_proposal same (round_of y v) p)) w ≡ adds_unmoved same elect x
+          (SetProposal v p) w (work_of x w)
+      put w (inl here) = rw here (work_put y v (with_proposal same (round_of y v) p)
+          ∙ ap (λ s. work_in true (with_proposal same s p)) readied_is ∙ heard (is_nullify r.decision) refl)
+      put w (inr apart) = work_elsewhere y v w (with_proposal same (round_of y v) p) (ne_eqb w v apart)
+          ∙ prepared_work elect x v w ∙ rw (ne_eqb w v apart) refl

@@ -53,13 +53,15 @@ module _ {K L D : Type 0} where
 
   -- after the first of them took its leader
 
-  leader_next : (x : StateFacts K L D) (u v : ℕ) → (v ≡ u + 1 → ⊥) → work_of (with_leader_of x u (u + 1)) v ≡ work_of x v
+  leader_next : (x : StateFacts K L D) (u v : ℕ) → (v ≡ u + 1 → ⊥)
+      → work_of (with_leader_of x u (u + 1)) v ≡ work_of x v
   leader_next x u v apart = inherited_work x u (u + 1) v ∙ rw (ne_eqb v (u + 1) apart) refl
 
   members_next : (x : StateFacts K L D) (u : ℕ) → (with_leader_of x u (u + 1)).members ≡ x.members
   members_next x u = ap (λ (y : StateFacts K L D). y.members) (inherited_only x u (u + 1))
 
-  nearest_next : (x : StateFacts K L D) (u k : ℕ) → nearest_leader (with_leader_of x u (u + 1)) (u + 1) k ≡ nearest_leader x u (suc k)
+  nearest_next : (x : StateFacts K L D) (u k : ℕ)
+      → nearest_leader (with_leader_of x u (u + 1)) (u + 1) k ≡ nearest_leader x u (suc k)
   nearest_next x u zero =
       ap (λ (k : Worked K D). k.leader) (inherited_work x u (u + 1) (u + 1))
       ∙ rw (eq-eqb (u + 1) (u + 1) refl) (or_new_or (round_of x (u + 1)).leader (same_member x (round_of x u).leader))
@@ -68,7 +70,8 @@ module _ {K L D : Type 0} where
       let behind : nearest_leader y (u + 1) k ≡ nearest_leader x u (suc k) = nearest_next x u k in
       let further : u + 1 + suc k ≡ u + suc (suc k) = omega arith in
       let own : (round_of y (u + 1 + suc k)).leader ≡ (round_of x (u + suc (suc k))).leader =
-      ap (λ (k : Worked K D). k.leader) (leader_next x u (u + 1 + suc k) (λ same. omega (arith, same))) ∙ ap (λ w. (round_of x w).leader) further in
+      ap (λ (k : Worked K D). k.leader) (leader_next x u (u + 1 + suc k) (λ same. omega (arith, same)))
+      ∙ ap (λ w. (round_of x w).leader) further in
       rw (own, members_next x u, behind) refl
 
   -- each of the views in turn takes the leader of the one before
@@ -79,7 +82,9 @@ module _ {K L D : Type 0} where
   abbrev reaches : StateFacts K L D → Option (Leader K) → Worked K D → Worked K D
   reaches x leader k = with_leader (is_some leader) (same_member x leader) k
 
-  reached_next : (x : StateFacts K L D) (u n v : ℕ) → reaches (with_leader_of x u (u + 1)) (reached (with_leader_of x u (u + 1)) (u + 1) n v) (work_of (with_leader_of x u (u + 1)) v) ≡ reaches x (reached x u (suc n) v) (work_of x v)
+  reached_next : (x : StateFacts K L D) (u n v : ℕ)
+      → reaches (with_leader_of x u (u + 1)) (reached (with_leader_of x u (u + 1)) (u + 1) n v)
+      (work_of (with_leader_of x u (u + 1)) v) ≡ reaches x (reached x u (suc n) v) (work_of x v)
   reached_next x u n v = by_view (cases_eq v (u + 1))
     where
       y : StateFacts K L D
@@ -103,7 +108,8 @@ module _ {K L D : Type 0} where
       taken =
           let leader = (round_of x u).leader in
           inherited_work x u (u + 1) (u + 1)
-          ∙ ap (λ b. with_leader (b && is_some leader) (if b then same_member x leader else None) (work_of x (u + 1))) (eq-eqb (u + 1) (u + 1) refl)
+          ∙ ap (λ b. with_leader (b && is_some leader) (if b then same_member x leader else None) (work_of x (u + 1)))
+          (eq-eqb (u + 1) (u + 1) refl)
 
       by_view : ((v ≡ u + 1) ⊎ (v ≡ u + 1 → ⊥)) → Next v
       by_view (inl here) =
@@ -111,13 +117,16 @@ module _ {K L D : Type 0} where
           rw (here, eq-eqb (u + 1) (u + 1) refl, range_below (u + 1 + 1) n (u + 1) (omega arith), none) taken
       by_view (inr apart) = there v apart (is_among v (range_with_len (u + 1 + 1) n)) refl
 
-  over_work : (n u : ℕ) (x : StateFacts K L D) (v : ℕ) → work_of (over x (range_with_len (u + 1) n)) v ≡ reaches x (reached x u n v) (work_of x v)
+  over_work : (n u : ℕ) (x : StateFacts K L D) (v : ℕ)
+      → work_of (over x (range_with_len (u + 1) n)) v ≡ reaches x (reached x u n v) (work_of x v)
   over_work zero u x v = refl
   over_work (suc n) u x v =
       let y : StateFacts K L D = with_leader_of x u (u + 1) in
       let back : u + 1 - 1 ≡ u = omega arith in
-      let behind : work_of (over y (range_with_len (u + 1 + 1) n)) v ≡ reaches y (reached y (u + 1) n v) (work_of y v) = over_work n (u + 1) y v in
-      subst (λ w. work_of (over (with_leader_of x w (u + 1)) (range_with_len (u + 1 + 1) n)) v ≡ reaches x (reached x u (suc n) v) (work_of x v)) (sym back) (behind ∙ reached_next x u n v)
+      let behind : work_of (over y (range_with_len (u + 1 + 1) n)) v ≡ reaches y (reached y (u + 1) n v) (work_of y v) =
+      over_work n (u + 1) y v in
+      subst (λ w. work_of (over (with_leader_of x w (u + 1)) (range_with_len (u + 1 + 1) n)) v ≡ reaches x
+      (reached x u (suc n) v) (work_of x v)) (sym back) (behind ∙ reached_next x u n v)
 
   over_only : (views : List ℕ) (x : StateFacts K L D) → OnlyRounds x (over x views)
   over_only [] x = refl
@@ -129,11 +138,15 @@ module _ {K L D : Type 0} where
   slid_only x u = over_only (opened_views x u) x
 
   -- a view whose window opens takes the nearest leader, unless one is set there
-  pub slid_work : (x : StateFacts K L D) (u v : ℕ) → work_of (with_window_leaders x u) v ≡ with_leader (is_some (window_leader x u v)) (same_member x (window_leader x u v)) (work_of x v)
-  slid_work x u v = elim (eqb x.terms.optimistic_views 0) as (λ b. work_of (over x (if b then [] else views)) v ≡ reaches x (if is_among v (if b then [] else views) then nearest_leader x u (v - 1 - u) else None) (work_of x v)) [
-    | true ↦ refl
-    | false ↦ over_work (min (term_end x.terms.term_length u) (u + x.terms.optimistic_views + 1) - u) u x v
-  ]
+  pub slid_work : (x : StateFacts K L D) (u v : ℕ)
+      → work_of (with_window_leaders x u) v ≡ with_leader (is_some (window_leader x u v))
+      (same_member x (window_leader x u v)) (work_of x v)
+  slid_work x u v = elim (eqb x.terms.optimistic_views 0) as
+      (λ b. work_of (over x (if b then [] else views)) v ≡ reaches x
+      (if is_among v (if b then [] else views) then nearest_leader x u (v - 1 - u) else None) (work_of x v)) [
+        | true ↦ refl
+        | false ↦ over_work (min (term_end x.terms.term_length u) (u + x.terms.optimistic_views + 1) - u) u x v
+      ]
     where
       views : List ℕ
       views = range_with_len (u + 1) (min (term_end x.terms.term_length u) (u + x.terms.optimistic_views + 1) - u)

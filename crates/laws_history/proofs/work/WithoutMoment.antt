@@ -29,7 +29,8 @@ module _ {K L D : Type 0} (same : D → D → Bool) (elect : Elect L) (x : State
     verified = unwrap_or (sets_verified same elect v x e) k.verified;
     build_requested = unwrap_or (asks_to_build same elect v x e) k.build_requested;
     verify_requested = asks_to_verify same elect v x e || k.verify_requested;
-    decision = if decides_finalize same elect v x e then Finalize else (if decides_nullify v x e then Nullify None else k.decision);
+    decision = if decides_finalize same elect v x e then Finalize
+        else (if decides_nullify v x e then Nullify None else k.decision);
     certification = unwrap_or (sets_certification v x e) k.certification;
     binding = unwrap_or (binds same elect v x e) k.binding;
   }
@@ -45,10 +46,19 @@ module _ {K L D : Type 0} (same : D → D → Bool) (elect : Elect L) (x : State
       nothing false = refl
 
   pub unmoved_adds : IsUnmoved → (v : ℕ) (k : Worked K D) → adds_work same elect x e v k ≡ adds_unmoved v k
-  unmoved_adds unmoved v k = rw (no_entry unmoved v, unmoved.proposed v, unmoved.latched v, unmoved.repeated v, unmoved.asked v, untimed x.settings k.decision) refl
+  unmoved_adds unmoved v k = rw (
+    no_entry unmoved v,
+    unmoved.proposed v,
+    unmoved.latched v,
+    unmoved.repeated v,
+    unmoved.asked v,
+    untimed x.settings k.decision,
+  ) refl
 
   -- what is put at the one view of which the event speaks
-  pub put_work : IsUnmoved → (v : ℕ) (r : RoundFacts K D) → work_in true r ≡ adds_unmoved v (work_of x v) → ((u : ℕ) → eqb u v ≡ false → adds_unmoved u (work_of x u) ≡ work_of x u) → (w : ℕ) → work_of (with_round x v r) w ≡ adds_work same elect x e w (work_of x w)
+  pub put_work : IsUnmoved → (v : ℕ) (r : RoundFacts K D) → work_in true r ≡ adds_unmoved v (work_of x v)
+      → ((u : ℕ) → eqb u v ≡ false → adds_unmoved u (work_of x u) ≡ work_of x u) → (w : ℕ)
+      → work_of (with_round x v r) w ≡ adds_work same elect x e w (work_of x w)
   put_work unmoved v r added elsewhere w = put (cases_eq w v) ∙ sym (unmoved_adds unmoved w (work_of x w))
     where
       put : ((w ≡ v) ⊎ (w ≡ v → ⊥)) → work_of (with_round x v r) w ≡ adds_unmoved w (work_of x w)

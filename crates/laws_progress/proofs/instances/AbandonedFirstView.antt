@@ -1,4 +1,5 @@
--- So do the premises of the second one: of four members that have just started, three give view 1 up and finalize view 2.
+-- So do the premises of the second one: of four members that have just started, three give view 1 up and finalize view
+-- 2.
 use Rattle.std.proofs.Common.{◌≡◌, refl, ap, sym, ◌∙◌, subst, ◌<◌, inl, inr, ℕ, zero, suc, cond, slice_get, Contains, Some, None, nat_eq, arith}
 use Rattle.std.proofs.lemmas.Bool.{eq-eqb, eqb-true, ne_eqb, cases_eq}
 use Rattle.std.specs.Prelude.{option_and_then}
@@ -29,7 +30,8 @@ tests me v some = elim (cases_eq v 1) [
   | inl at ↦ explicit_first me v at some
   | inr apart ↦
       (let not_first = is_eq-nat_cmp v 1 ∙ ne_eqb v 1 apart in
-      explicit_by (state me) v some ∙ ap (λ b. option_and_then certified_payload (cond b (Some (first me)) None)) not_first)
+      explicit_by (state me) v some ∙ ap (λ b. option_and_then certified_payload (cond b (Some (first me)) None))
+      not_first)
 ]
 
 knows : (me : ℕ) → StandsBeforeSecond me (state me)
@@ -52,14 +54,17 @@ each_ran (suc (suc (suc zero))) s at = absurd (cc)
 each_ran (suc (suc (suc (suc i)))) s at = absurd (cc)
 
 pub each_lives : EachRuns nat_eq in_turn with_second_leader StandsBeforeSecond
-each_lives i s at = (state i, subst (λ t. RunsWith nat_eq in_turn t (state i)) (sym (each_ran i s at).1) (lives i), knows i)
+each_lives i s at =
+    (state i, subst (λ t. RunsWith nat_eq in_turn t (state i)) (sym (each_ran i s at).1) (lives i), knows i)
 
 pub is_network : IsNetworkOf nat_eq in_turn 1 with_second_leader
 is_network = record {
   few_faulty = inl (omega arith, omega arith);
   honest = λ i s at. subst (λ t. IsExecution nat_eq in_turn 1 i t) (sym (each_ran i s at).1) (idle_ran i);
-  backed = λ i s c at h. absurd (let none = subst (λ t. Contains (trace_of t) (Accepts c)) (each_ran i s at).1 h in omega (arith, none.1));
+  backed = λ i s c at h.
+      absurd (let none = subst (λ t. Contains (trace_of t) (Accepts c)) (each_ran i s at).1 h in omega (arith, none.1));
 }
 
 pub gives_up_to_finalize : Finalizes with_second_leader 2
-gives_up_to_finalize = together_they_go_on ℕ nat_eq eqb-true (λ d. eq-eqb d d refl) in_turn 1 1 0 0 1 2 0 1 with_second_leader 7 is_network (omega arith) refl refl refl (λ bytes. refl) (idle 0, refl) each_lives
+gives_up_to_finalize = together_they_go_on ℕ nat_eq eqb-true (λ d. eq-eqb d d refl) in_turn 1 1 0 0 1 2 0 1
+    with_second_leader 7 is_network (omega arith) refl refl refl (λ bytes. refl) (idle 0, refl) each_lives

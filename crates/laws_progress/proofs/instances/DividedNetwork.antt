@@ -30,7 +30,9 @@ abbrev pub first : Execution ℕ ℕ ℕ
 first = deceived 0 one rival
 
 pub first_worked : IsWorked 1 6 0 first
-unfolding first_recover_error recovered_state after_kept_entry may_drop pruned_entries standing has_valid_parent_span ancestry_payload_for_child first_unnullified_view explicit_ancestry_payload in_issuance_window is_admitted verification_matches parent_payload_for may_notarize
+unfolding first_recover_error recovered_state after_kept_entry may_drop pruned_entries standing has_valid_parent_span
+    ancestry_payload_for_child first_unnullified_view explicit_ancestry_payload in_issuance_window is_admitted
+    verification_matches parent_payload_for may_notarize
 first_worked = record {
   told = refl;
   alive = refl;
@@ -40,14 +42,18 @@ first_worked = record {
 }
 
 first_lives : (x : StateFacts ℕ ℕ ℕ) × RunsWith nat_eq in_turn first x × Alive 0 x
-unfolding first_recover_error recovered_state after_kept_entry may_drop pruned_entries standing has_valid_parent_span ancestry_payload_for_child first_unnullified_view explicit_ancestry_payload in_issuance_window is_admitted verification_matches parent_payload_for may_notarize
+unfolding first_recover_error recovered_state after_kept_entry may_drop pruned_entries standing has_valid_parent_span
+    ancestry_payload_for_child first_unnullified_view explicit_ancestry_payload in_issuance_window is_admitted
+    verification_matches parent_payload_for may_notarize
 first_lives = lives_by 1 6 0 first (rises entry_view 0 (NotarizeVote one 0 ∷ []) refl, tt) first_worked
 
 abbrev pub second : Execution ℕ ℕ ℕ
 second = deceived 1 rival one
 
 pub second_worked : IsWorked 1 6 1 second
-unfolding first_recover_error recovered_state after_kept_entry may_drop pruned_entries standing has_valid_parent_span ancestry_payload_for_child first_unnullified_view explicit_ancestry_payload in_issuance_window is_admitted verification_matches parent_payload_for may_notarize
+unfolding first_recover_error recovered_state after_kept_entry may_drop pruned_entries standing has_valid_parent_span
+    ancestry_payload_for_child first_unnullified_view explicit_ancestry_payload in_issuance_window is_admitted
+    verification_matches parent_payload_for may_notarize
 second_worked = record {
   told = refl;
   alive = refl;
@@ -57,14 +63,18 @@ second_worked = record {
 }
 
 second_lives : (x : StateFacts ℕ ℕ ℕ) × RunsWith nat_eq in_turn second x × Alive 1 x
-unfolding first_recover_error recovered_state after_kept_entry may_drop pruned_entries standing has_valid_parent_span ancestry_payload_for_child first_unnullified_view explicit_ancestry_payload in_issuance_window is_admitted verification_matches parent_payload_for may_notarize
+unfolding first_recover_error recovered_state after_kept_entry may_drop pruned_entries standing has_valid_parent_span
+    ancestry_payload_for_child first_unnullified_view explicit_ancestry_payload in_issuance_window is_admitted
+    verification_matches parent_payload_for may_notarize
 second_lives = lives_by 1 6 1 second (rises entry_view 0 (NotarizeVote rival 1 ∷ []) refl, tt) second_worked
 
 abbrev pub third : Execution ℕ ℕ ℕ
 third = warned 2
 
 pub third_worked : IsWorked 1 6 2 third
-unfolding first_recover_error recovered_state after_kept_entry may_drop pruned_entries standing has_valid_parent_span ancestry_payload_for_child first_unnullified_view explicit_ancestry_payload in_issuance_window is_admitted verification_matches parent_payload_for may_notarize
+unfolding first_recover_error recovered_state after_kept_entry may_drop pruned_entries standing has_valid_parent_span
+    ancestry_payload_for_child first_unnullified_view explicit_ancestry_payload in_issuance_window is_admitted
+    verification_matches parent_payload_for may_notarize
 third_worked = record {
   told = refl;
   alive = refl;
@@ -74,7 +84,9 @@ third_worked = record {
 }
 
 third_lives : (x : StateFacts ℕ ℕ ℕ) × RunsWith nat_eq in_turn third x × Alive 2 x
-unfolding first_recover_error recovered_state after_kept_entry may_drop pruned_entries standing has_valid_parent_span ancestry_payload_for_child first_unnullified_view explicit_ancestry_payload in_issuance_window is_admitted verification_matches parent_payload_for may_notarize
+unfolding first_recover_error recovered_state after_kept_entry may_drop pruned_entries standing has_valid_parent_span
+    ancestry_payload_for_child first_unnullified_view explicit_ancestry_payload in_issuance_window is_admitted
+    verification_matches parent_payload_for may_notarize
 third_lives = lives_by 1 6 2 third (rises entry_view 0 [] refl, tt) third_worked
 
 pub divided_may_go_on : MayReach 1 divided 6
@@ -89,4 +101,5 @@ divided_may_go_on = record {
 }
 
 pub divided_reaches : Reaches 1 divided 6
-divided_reaches = no_network_is_stuck ℕ nat_eq eqb-true (λ d. eq-eqb d d refl) in_turn 1 1 0 6 1 divided 7 divided_network divided_may_go_on
+divided_reaches = no_network_is_stuck ℕ nat_eq eqb-true (λ d. eq-eqb d d refl) in_turn 1 1 0 6 1 divided 7
+    divided_network divided_may_go_on

@@ -25,7 +25,10 @@ abbrev first : Execution ℕ ℕ ℕ
 first = takes_over
 
 first_worked : IsWorked 2 11 0 first
-unfolding standing propose_answer proposed_answer find_parent captured_parent_valid has_valid_parent_span ancestry_payload_for_child first_unnullified_view explicit_ancestry_payload optimistic_ancestry_payload is_handoff_parent is_voted_ancestor can_chain_on in_issuance_window is_admitted verification_matches parent_payload_for may_notarize may_nullify may_finalize has_conflicting_nullify required_certification_parent
+unfolding standing propose_answer proposed_answer find_parent captured_parent_valid has_valid_parent_span
+    ancestry_payload_for_child first_unnullified_view explicit_ancestry_payload optimistic_ancestry_payload
+    is_handoff_parent is_voted_ancestor can_chain_on in_issuance_window is_admitted verification_matches
+    parent_payload_for may_notarize may_nullify may_finalize has_conflicting_nullify required_certification_parent
 first_worked = record {
   told = refl;
   alive = refl;
@@ -41,7 +44,10 @@ abbrev second : Execution ℕ ℕ ℕ
 second = can_not_verify 1
 
 second_worked : IsWorked 2 11 1 second
-unfolding standing propose_answer proposed_answer find_parent captured_parent_valid has_valid_parent_span ancestry_payload_for_child first_unnullified_view explicit_ancestry_payload optimistic_ancestry_payload is_handoff_parent is_voted_ancestor can_chain_on in_issuance_window is_admitted verification_matches parent_payload_for may_notarize may_nullify may_finalize has_conflicting_nullify required_certification_parent
+unfolding standing propose_answer proposed_answer find_parent captured_parent_valid has_valid_parent_span
+    ancestry_payload_for_child first_unnullified_view explicit_ancestry_payload optimistic_ancestry_payload
+    is_handoff_parent is_voted_ancestor can_chain_on in_issuance_window is_admitted verification_matches
+    parent_payload_for may_notarize may_nullify may_finalize has_conflicting_nullify required_certification_parent
 second_worked = record {
   told = refl;
   alive = refl;
@@ -57,7 +63,10 @@ abbrev third : Execution ℕ ℕ ℕ
 third = can_not_verify 2
 
 third_worked : IsWorked 2 11 2 third
-unfolding standing propose_answer proposed_answer find_parent captured_parent_valid has_valid_parent_span ancestry_payload_for_child first_unnullified_view explicit_ancestry_payload optimistic_ancestry_payload is_handoff_parent is_voted_ancestor can_chain_on in_issuance_window is_admitted verification_matches parent_payload_for may_notarize may_nullify may_finalize has_conflicting_nullify required_certification_parent
+unfolding standing propose_answer proposed_answer find_parent captured_parent_valid has_valid_parent_span
+    ancestry_payload_for_child first_unnullified_view explicit_ancestry_payload optimistic_ancestry_payload
+    is_handoff_parent is_voted_ancestor can_chain_on in_issuance_window is_admitted verification_matches
+    parent_payload_for may_notarize may_nullify may_finalize has_conflicting_nullify required_certification_parent
 third_worked = record {
   told = refl;
   alive = refl;
@@ -81,4 +90,5 @@ taken_over_may_go_on = record {
 }
 
 pub taken_over_reaches : Reaches 2 taken_over 11
-taken_over_reaches = no_network_is_stuck ℕ nat_eq eqb-true (λ d. eq-eqb d d refl) in_turn 2 1 0 11 2 taken_over 7 taken_over_network taken_over_may_go_on
+taken_over_reaches = no_network_is_stuck ℕ nat_eq eqb-true (λ d. eq-eqb d d refl) in_turn 2 1 0 11 2 taken_over 7
+    taken_over_network taken_over_may_go_on

@@ -31,7 +31,8 @@ lives me = (_, refl, refl)
 
 knows : (me : ℕ) → IsSetUpAs 1 5 1 me (state me) × (is_tracked (state me) 4 ≡ false) × ((state me).current < 4)
 unfolding state
-knows me = (record { signs = refl; of_epoch = refl; elects_by = refl; members = refl; on_time = refl }, refl, omega arith)
+knows me =
+    (record { signs = refl; of_epoch = refl; elects_by = refl; members = refl; on_time = refl }, refl, omega arith)
 
 each_idle : (i : ℕ) (s : Execution ℕ ℕ ℕ) → slice_get with_two_faulty i ≡ Some (Honest s) → s ≡ idle_of_five i
 each_idle zero s at = absurd (cc)
@@ -45,14 +46,26 @@ pub is_network : IsNetworkOf nat_eq in_turn 1 with_two_faulty
 is_network = record {
   few_faulty = inr (omega arith);
   honest = λ i s at. subst (λ t. IsExecution nat_eq in_turn 1 i t) (sym (each_idle i s at)) (idle_ran i);
-  backed = λ i s c at h. absurd (let none = subst (λ t. Contains (trace_of t) (Accepts c)) (each_idle i s at) h in omega (arith, none.1));
+  backed = λ i s c at h.
+      absurd (let none = subst (λ t. Contains (trace_of t) (Accepts c)) (each_idle i s at) h in omega (arith, none.1));
 }
 
-each_lives : EachRuns nat_eq in_turn with_two_faulty (λ i x. IsSetUpAs 1 5 1 i x × (is_tracked x 4 ≡ false) × (x.current < 4))
-each_lives i s at = (state i, subst (λ t. RunsWith nat_eq in_turn t (state i)) (sym (each_idle i s at)) (lives i), knows i)
+each_lives : EachRuns nat_eq in_turn with_two_faulty
+    (λ i x. IsSetUpAs 1 5 1 i x × (is_tracked x 4 ≡ false) × (x.current < 4))
+each_lives i s at =
+    (state i, subst (λ t. RunsWith nat_eq in_turn t (state i)) (sym (each_idle i s at)) (lives i), knows i)
 
 pub may_otherwise : MayContinueOtherwise
-may_otherwise = (each_lives, agree 1 with_two_faulty is_network (refl, (refl, (refl, tt))), refl, refl, λ bytes. refl, idle_of_five 2, refl)
+may_otherwise = (
+  each_lives,
+  agree 1 with_two_faulty is_network (refl, (refl, (refl, tt))),
+  refl,
+  refl,
+  λ bytes. refl,
+  idle_of_five 2,
+  refl,
+)
 
 pub is_stuck : IsStuck
-is_stuck later final on = too_many_are_faulty ℕ nat_eq in_turn 1 with_two_faulty later final is_network (omega arith) 2 (idle_of_five 2) refl on
+is_stuck later final on = too_many_are_faulty ℕ nat_eq in_turn 1 with_two_faulty later final is_network (omega arith) 2
+    (idle_of_five 2) refl on

@@ -22,22 +22,27 @@ use Rattle.laws_progress.proofs.runs.LedLives.{state_led}
 
 -- what a member knows at the end of an execution whose replies are computed
 abbrev pub state_at_end : Execution ℕ ℕ ℕ → StateFacts ℕ ℕ ℕ
-state_at_end s = unwrap_or (end_from nat_eq in_turn (new_member nat_eq in_turn s.start) s.steps).life (new_state s.start.setup)
+state_at_end s = unwrap_or (end_from nat_eq in_turn (new_member nat_eq in_turn s.start) s.steps).life
+    (new_state s.start.setup)
 
 some_is : {A : Type 0} (o : Option A) (a : A) → is_some o ≡ true → o ≡ Some (unwrap_or o a)
 some_is None a is = absurd (false≢true is)
 some_is (Some b) a is = refl
 
 -- where it has not failed
-pub lives_there : (s : Execution ℕ ℕ ℕ) → FitsIn s → told_in s ≡ s.replies → is_some (end_from nat_eq in_turn (new_member nat_eq in_turn s.start) s.steps).life ≡ true → RunsWith nat_eq in_turn s (state_at_end s)
+pub lives_there : (s : Execution ℕ ℕ ℕ) → FitsIn s → told_in s ≡ s.replies
+    → is_some (end_from nat_eq in_turn (new_member nat_eq in_turn s.start) s.steps).life ≡ true
+    → RunsWith nat_eq in_turn s (state_at_end s)
 lives_there s fits told alive =
     let m = new_member nat_eq in_turn s.start in (
       end_from nat_eq in_turn m s.steps,
-      subst (λ replies. IsRun nat_eq in_turn m s.steps replies (end_from nat_eq in_turn m s.steps)) told (fits_run nat_eq in_turn m s.steps fits),
+      subst (λ replies. IsRun nat_eq in_turn m s.steps replies (end_from nat_eq in_turn m s.steps)) told
+          (fits_run nat_eq in_turn m s.steps fits),
       some_is (end_from nat_eq in_turn m s.steps).life (new_state s.start.setup) alive,
     )
 
--- what is computed of a member: it received what its execution says, has not failed at the end, was set up so, and its view lies below the start,
+-- what is computed of a member: it received what its execution says, has not failed at the end, was set up so, and its
+-- view lies below the start,
 -- which it doesn't know
 pub record IsWorked (term_length start i : ℕ) (s : Execution ℕ ℕ ℕ) : Type 0 where
   pub told : told_in s ≡ s.replies
@@ -47,16 +52,24 @@ pub record IsWorked (term_length start i : ℕ) (s : Execution ℕ ℕ ℕ) : Ty
   pub below : nat_lt (state_at_end s).current start ≡ true
 
 -- so it has not failed
-pub lives_by : (term_length start i : ℕ) (s : Execution ℕ ℕ ℕ) → FitsIn s → IsWorked term_length start i s → (x : StateFacts ℕ ℕ ℕ) × RunsWith nat_eq in_turn s x × (IsSetUpAs 1 4 term_length i x × (is_tracked x start ≡ false) × (x.current < start))
-lives_by term_length start i s fits worked = (state_at_end s, lives_there s fits worked.told worked.alive, (worked.set_up, worked.unknown, ltb-true (state_at_end s).current start worked.below))
+pub lives_by : (term_length start i : ℕ) (s : Execution ℕ ℕ ℕ) → FitsIn s → IsWorked term_length start i s
+    → (x : StateFacts ℕ ℕ ℕ) × RunsWith nat_eq in_turn s x
+    × (IsSetUpAs 1 4 term_length i x × (is_tracked x start ≡ false) × (x.current < start))
+lives_by term_length start i s fits worked = (
+  state_at_end s,
+  lives_there s fits worked.told worked.alive,
+  (worked.set_up, worked.unknown, ltb-true (state_at_end s).current start worked.below),
+)
 
 -- the same for each honest member, one after another
 abbrev pub AllLive : (ℕ → StateFacts ℕ ℕ ℕ → Type 0) → List (Replica ℕ ℕ ℕ) → Type 0
 AllLive P [] = Unit {0}
 AllLive P (Faulty ∷ network) = AllLive (λ i. P (suc i)) network
-AllLive P (Honest s ∷ network) = ((x : StateFacts ℕ ℕ ℕ) × RunsWith nat_eq in_turn s x × P 0 x) × AllLive (λ i. P (suc i)) network
+AllLive P (Honest s ∷ network) = ((x : StateFacts ℕ ℕ ℕ) × RunsWith nat_eq in_turn s x × P 0 x)
+    × AllLive (λ i. P (suc i)) network
 
-pub each_lives_so : (P : ℕ → StateFacts ℕ ℕ ℕ → Type 0) (network : List (Replica ℕ ℕ ℕ)) → AllLive P network → EachRuns nat_eq in_turn network P
+pub each_lives_so : (P : ℕ → StateFacts ℕ ℕ ℕ → Type 0) (network : List (Replica ℕ ℕ ℕ)) → AllLive P network
+    → EachRuns nat_eq in_turn network P
 each_lives_so P [] all i s at = absurd (cc)
 each_lives_so P (Faulty ∷ network) all zero s at = absurd (cc)
 each_lives_so P (Faulty ∷ network) all (suc i) s at = each_lives_so (λ i. P (suc i)) network all i s at
@@ -74,27 +87,39 @@ AllFine [] = Unit {0}
 AllFine (Faulty ∷ network) = AllFine network
 AllFine (Honest s ∷ network) = (refuses (judged_of s) ≡ false) × AllFine network
 
-none_refused : (verdicts : List (Bool × Proposal ℕ)) → refuses verdicts ≡ false → (p : Proposal ℕ) → Contains verdicts (false, p) → ⊥
+none_refused : (verdicts : List (Bool × Proposal ℕ)) → refuses verdicts ≡ false → (p : Proposal ℕ)
+    → Contains verdicts (false, p) → ⊥
 none_refused [] fine p h = omega (arith, h.1)
-none_refused ((success, q) ∷ verdicts) fine p h = by_verdict success fine (Contains-cases (success, q) verdicts (false, p) h) (λ rest later. none_refused verdicts rest p later)
+none_refused ((success, q) ∷ verdicts) fine p h =
+    by_verdict success fine (Contains-cases (success, q) verdicts (false, p) h)
+    (λ rest later. none_refused verdicts rest p later)
   where
-    by_verdict : (b : Bool) → (not b || refuses verdicts) ≡ false → (◌≡◌ {A = Bool × Proposal ℕ} (b, q) (false, p)) ⊎ Contains verdicts (false, p) → (refuses verdicts ≡ false → Contains verdicts (false, p) → ⊥) → ⊥
+    by_verdict : (b : Bool) → (not b || refuses verdicts) ≡ false
+        → (◌≡◌ {A = Bool × Proposal ℕ} (b, q) (false, p)) ⊎ Contains verdicts (false, p)
+        → (refuses verdicts ≡ false → Contains verdicts (false, p) → ⊥) → ⊥
     by_verdict true rest (inl here) behind = false≢true (ap (λ (e : Bool × Proposal ℕ). e.0) (sym here))
     by_verdict true rest (inr later) behind = behind rest later
     by_verdict false fine h behind = false≢true (sym fine)
 
-each_fine : (network : List (Replica ℕ ℕ ℕ)) → AllFine network → EachHonest network (λ i s. refuses (judged_of s) ≡ false)
+each_fine : (network : List (Replica ℕ ℕ ℕ)) → AllFine network
+    → EachHonest network (λ i s. refuses (judged_of s) ≡ false)
 each_fine [] all i s at = absurd (cc)
 each_fine (Faulty ∷ network) all zero s at = absurd (cc)
 each_fine (Faulty ∷ network) all (suc i) s at = each_fine network all i s at
-each_fine (Honest t ∷ network) all zero s at = let one : t ≡ s = cc in subst (λ u. refuses (judged_of u) ≡ false) one all.0
+each_fine (Honest t ∷ network) all zero s at = let one : t ≡ s = cc in
+    subst (λ u. refuses (judged_of u) ≡ false) one all.0
 each_fine (Honest t ∷ network) all (suc i) s at = each_fine network all.1 i s at
 
 -- so none is stored
-pub agree : (term_length : ℕ) (network : List (Replica ℕ ℕ ℕ)) → IsNetworkOf nat_eq in_turn term_length network → AllFine network → EachHonest network (λ i s. EachHonest network (λ j t. (x : StateFacts ℕ ℕ ℕ) (v : ℕ) → HasCertified 1 (judged_of s) v → RunsWith nat_eq in_turn t x → x.finalized < v → is_judged false (round_of x v).certification ≡ false))
-agree term_length network good all i s at j t from x v certified lives above = elim (cases_Bool (is_judged false (round_of x v).certification)) [
-  | inr fine ↦ fine
-  | inl bad ↦ absurd (
-      let told = verdict_led term_length _ _ x (state_led nat_eq eqb-true in_turn term_length j t (good.honest j t from) x lives) v false bad in
-      none_refused (judged_of t) (each_fine network all j t from) told.0 told.1)
-]
+pub agree : (term_length : ℕ) (network : List (Replica ℕ ℕ ℕ)) → IsNetworkOf nat_eq in_turn term_length network
+    → AllFine network → EachHonest network (λ i s.
+    EachHonest network (λ j t. (x : StateFacts ℕ ℕ ℕ) (v : ℕ) → HasCertified 1 (judged_of s) v
+    → RunsWith nat_eq in_turn t x → x.finalized < v → is_judged false (round_of x v).certification ≡ false))
+agree term_length network good all i s at j t from x v certified lives above =
+    elim (cases_Bool (is_judged false (round_of x v).certification)) [
+      | inr fine ↦ fine
+      | inl bad ↦ absurd (
+          let told = verdict_led term_length _ _ x
+          (state_led nat_eq eqb-true in_turn term_length j t (good.honest j t from) x lives) v false bad in
+          none_refused (judged_of t) (each_fine network all j t from) told.0 told.1)
+    ]

@@ -43,34 +43,51 @@ two_before a b xs x h = Contains-cons_rest a (b ∷ xs) x (Contains-cons_rest b 
 -- what is done in the abandoned views adds its own, and preserves the rest
 
 module _ (K L : Type 0) {D : Type 0} (epoch length : ℕ) (p : Proposal D) where
-  pub skip_hears : (count view : ℕ) (calls : List (CallFacts D)) → AllHave (HearsOnly {K = K} {L = L} p) (map Calls calls) → AllHave (HearsOnly {K = K} {L = L} p) (map Calls (skip_calls epoch length count view calls))
+  pub skip_hears : (count view : ℕ) (calls : List (CallFacts D))
+      → AllHave (HearsOnly {K = K} {L = L} p) (map Calls calls)
+      → AllHave (HearsOnly {K = K} {L = L} p) (map Calls (skip_calls epoch length count view calls))
   skip_hears zero view calls all = all
-  skip_hears (suc count) view calls all = (λ v o e. absurd (cc), (λ v o e. absurd (cc), skip_hears count (next_term_start length view) calls all))
+  skip_hears (suc count) view calls all =
+      (λ v o e. absurd (cc), (λ v o e. absurd (cc), skip_hears count (next_term_start length view) calls all))
 
-  pub skip_holds : (count view : ℕ) (calls : List (CallFacts D)) (step : StepFacts K L D) → Contains (map Calls calls) step → Contains (map Calls (skip_calls epoch length count view calls)) step
+  pub skip_holds : (count view : ℕ) (calls : List (CallFacts D)) (step : StepFacts K L D)
+      → Contains (map Calls calls) step → Contains (map Calls (skip_calls epoch length count view calls)) step
   skip_holds zero view calls step h = h
-  skip_holds (suc count) view calls step h = two_before (Calls (ConstructNullify view)) (Calls (AddNullification (null_cert epoch view) 0)) (map Calls (skip_calls epoch length count (next_term_start length view) calls)) step (skip_holds count (next_term_start length view) calls step h)
+  skip_holds (suc count) view calls step h =
+      two_before (Calls (ConstructNullify view)) (Calls (AddNullification (null_cert epoch view) 0))
+      (map Calls (skip_calls epoch length count (next_term_start length view) calls)) step
+      (skip_holds count (next_term_start length view) calls step h)
 
 module _ {D : Type 0} (epoch length : ℕ) where
   -- the vote to nullify a view
   abbrev gives : ℕ → Subject D
   gives view = Nullify (record { epoch = epoch; view = view })
 
-  skip_does : (me count view : ℕ) (rest : List (TraceEvent D)) (d : TraceEvent D) → Contains rest d → Contains (skip_trace epoch length me count view rest) d
+  skip_does : (me count view : ℕ) (rest : List (TraceEvent D)) (d : TraceEvent D) → Contains rest d
+      → Contains (skip_trace epoch length me count view rest) d
   skip_does me zero view rest d h = h
-  skip_does me (suc count) view rest d h = two_before (Signs me (gives view)) (Accepts (gives view)) (skip_trace epoch length me count (next_term_start length view) rest) d (skip_does me count (next_term_start length view) rest d h)
+  skip_does me (suc count) view rest d h = two_before (Signs me (gives view)) (Accepts (gives view))
+      (skip_trace epoch length me count (next_term_start length view) rest) d
+      (skip_does me count (next_term_start length view) rest d h)
 
   -- each signs what one accepts
-  skip_alone : (i j count view : ℕ) (mine theirs : List (TraceEvent D)) (c : Subject D) → (Contains mine (Accepts c) → Contains theirs (Signs j c)) → Contains (skip_trace epoch length i count view mine) (Accepts c) → Contains (skip_trace epoch length j count view theirs) (Signs j c)
+  skip_alone : (i j count view : ℕ) (mine theirs : List (TraceEvent D)) (c : Subject D)
+      → (Contains mine (Accepts c) → Contains theirs (Signs j c))
+      → Contains (skip_trace epoch length i count view mine) (Accepts c)
+      → Contains (skip_trace epoch length j count view theirs) (Signs j c)
   skip_alone i j zero view mine theirs c alone h = alone h
   skip_alone i j (suc count) view mine theirs c alone h =
       let next = next_term_start length view in
-      elim (Contains-cases (Signs i (gives view)) (Accepts (gives view) ∷ skip_trace epoch length i count next mine) (Accepts c) h) [
+      elim (Contains-cases (Signs i (gives view)) (Accepts (gives view) ∷ skip_trace epoch length i count next mine)
+      (Accepts c) h) [
         | inl a ↦ absurd (cc)
-        | inr rest ↦ elim (Contains-cases (Accepts (gives view)) (skip_trace epoch length i count next mine) (Accepts c) rest) [
-          | inl b ↦ (0, omega arith, ap (Signs j) (same_subject (gives view) c b))
-          | inr later ↦ two_before (Signs j (gives view)) (Accepts (gives view)) (skip_trace epoch length j count next theirs) (Signs j c) (skip_alone i j count next mine theirs c alone later)
-        ]
+        | inr rest ↦
+            elim (Contains-cases (Accepts (gives view)) (skip_trace epoch length i count next mine) (Accepts c) rest) [
+              | inl b ↦ (0, omega arith, ap (Signs j) (same_subject (gives view) c b))
+              | inr later ↦ two_before (Signs j (gives view)) (Accepts (gives view))
+                  (skip_trace epoch length j count next theirs) (Signs j c)
+                  (skip_alone i j count next mine theirs c alone later)
+            ]
       ]
 
 module _ {D : Type 0} (p : Proposal D) where
@@ -123,11 +140,16 @@ module _ {K L D : Type 0} (x : StateFacts K L D) (p v : ℕ) (some : 0 < x.terms
 
 -- of one member
 
-module _ {K L D : Type 0} (same : D → D → Bool) (decides : (d e : D) → same d e ≡ true → d ≡ e) (reflexive : (d : D) → same d d ≡ true) (elect : Elect L)
-    (term_length epoch count leader parent view start terms i : ℕ) (elector : L) (q : D) (s : Execution K L D) (ran : IsExecution same elect term_length i s)
-    (far : start ≡ terms_on term_length (suc terms) view) (is_term_start : start ≡ term_start term_length start) (small : is_too_large start ≡ false)
-    (elected : (bytes : List ℕ) → elect elector (record { epoch = epoch; view = start }) (Some bytes) ≡ leader) (one_of_them : leader < count)
-    (x : StateFacts K L D) (lives : RunsWith same elect s x) (set : IsSetUpAs epoch count elector i x) (before : StandsBefore parent view start x) where
+module _ {K L D : Type 0} (same : D → D → Bool) (decides : (d e : D) → same d e ≡ true → d ≡ e)
+    (reflexive : (d : D) → same d d ≡ true) (elect : Elect L)
+    (term_length epoch count leader parent view start terms i : ℕ) (elector : L) (q : D) (s : Execution K L D)
+    (ran : IsExecution same elect term_length i s)
+    (far : start ≡ terms_on term_length (suc terms) view) (is_term_start : start ≡ term_start term_length start)
+    (small : is_too_large start ≡ false)
+    (elected : (bytes : List ℕ) → elect elector (record { epoch = epoch; view = start }) (Some bytes) ≡ leader)
+    (one_of_them : leader < count)
+    (x : StateFacts K L D) (lives : RunsWith same elect s x) (set : IsSetUpAs epoch count elector i x)
+    (before : StandsBefore parent view start x) where
   abbrev p : Proposal D
   p = proposal_in epoch start parent q
 
@@ -154,11 +176,14 @@ module _ {K L D : Type 0} (same : D → D → Bool) (decides : (d e : D) → sam
     current = before.current;
     start = is_term_start;
     low = before.stands.below;
-    high = (let on = on_from term_length some (suc terms) view (omega (arith, before.stands.below)) in omega (arith, on, far));
+    high = (let on = on_from term_length some (suc terms) view (omega (arith, before.stands.below)) in
+        omega (arith, on, far));
     above = before.stands.not_passed;
     explicit = before.stands.explicit;
-    gapless = gapless_each x parent view (subst (λ n. 0 < n) (sym shown.living.keeps.stays.stands.terms) some) before.stands.gapless;
-    undecided = λ v from. none_decided same decides elect term_length i s ran x lives v (omega (arith, from, before.current));
+    gapless = gapless_each x parent view (subst (λ n. 0 < n) (sym shown.living.keeps.stays.stands.terms) some)
+        before.stands.gapless;
+    undecided = λ v from. none_decided same decides elect term_length i s ran x lives v
+        (omega (arith, from, before.current));
     highest = before.highest;
     on_time = set.on_time;
     small = small;
@@ -171,29 +196,45 @@ module _ {K L D : Type 0} (same : D → D → Bool) (decides : (d e : D) → sam
   elects : Elects elect l leader x
   elects =
       let key = there x.members leader (omega (arith, one_of_them, set.members)) in
-      (λ j. option_map (λ (o : Leader K). o.idx) (leader_at x.members ((ap (λ (e : L). elect e (record { epoch = epoch; view = start }) (Some [])) set.elects_by ∙ elected []) j))) ∙ ap (λ o. option_map (λ (f : Leader K). f.idx) (option_map (λ k. record { idx = leader; key = k }) o)) key.1
+      (λ j. option_map (λ (o : Leader K). o.idx)
+      (leader_at x.members ((ap (λ (e : L). elect e (record { epoch = epoch; view = start }) (Some []))
+      set.elects_by ∙ elected []) j)))
+      ∙ ap (λ o. option_map (λ (f : Leader K). f.idx) (option_map (λ k. record { idx = leader; key = k }) o)) key.1
 
-  goes_by : (last : List (CallFacts D × List (TraceEvent D))) → whole_trace last ≡ trace_done l q → AllHave (HearsOnly {K = K} {L = L} p) (map Calls (calls_in last))
+  goes_by : (last : List (CallFacts D × List (TraceEvent D))) → whole_trace last ≡ trace_done l q
+      → AllHave (HearsOnly {K = K} {L = L} p) (map Calls (calls_in last))
       → Sequence same elect lives.0 (skip_sequence epoch term_length i (suc terms) view last)
       → (i ≡ leader → Contains {X = StepFacts K L D} (map Calls (calls_in last)) (Calls (Proposed start q 0)))
-      → (t : Execution K L D) × ContinuesBy same elect term_length leader p (λ k. skip_trace epoch term_length k (suc terms) view (trace_done (replica_of epoch start parent q k) q)) i s t
+      → (t : Execution K L D) × ContinuesBy same elect term_length leader p
+      (λ k. skip_trace epoch term_length k (suc terms) view (trace_done (replica_of epoch start parent q k) q)) i s
+      t
   goes_by last ends hears traced built =
       let calls = calls_in last in
       let all = skip_calls epoch term_length (suc terms) view calls in
       let does = does_of same elect (skip_sequence epoch term_length i (suc terms) view last) lives.0 traced in
-      let done_so : whole_trace (skip_sequence epoch term_length i (suc terms) view last) ≡ done = skip_trace_is epoch term_length i (suc terms) view last ∙ ap (skip_trace epoch term_length i (suc terms) view) ends in
-      let passed : Does same elect lives.0 (map Calls all) done = subst (λ cs. Does same elect lives.0 (map Calls cs) done) (skip_calls_are epoch term_length i (suc terms) view last) (subst (Does same elect lives.0 (map Calls (calls_in (skip_sequence epoch term_length i (suc terms) view last)))) done_so does) in
+      let done_so : whole_trace (skip_sequence epoch term_length i (suc terms) view last) ≡ done =
+      skip_trace_is epoch term_length i (suc terms) view last
+      ∙ ap (skip_trace epoch term_length i (suc terms) view) ends in
+      let passed : Does same elect lives.0 (map Calls all) done =
+      subst (λ cs. Does same elect lives.0 (map Calls cs) done)
+      (skip_calls_are epoch term_length i (suc terms) view last)
+      (subst (Does same elect lives.0
+      (map Calls (calls_in (skip_sequence epoch term_length i (suc terms) view last)))) done_so does) in
       let on = execution_on same elect term_length i s lives.0 all done ran lives.1 passed in (
         on.execution,
         record {
           continues = on.continues;
           ran = on.ran;
           trace = on.trace;
-          heard = λ v o h. elim (Contains-append_cases s.steps (map Calls all) (Calls (SetProposal v o)) (subst (λ ss. Contains ss (Calls (SetProposal v o))) on.steps h)) [
-            | inl old ↦ inl old
-            | inr new ↦ inr (one_has (HearsOnly {K = K} {L = L} p) (map Calls all) (Calls (SetProposal v o)) (skip_hears K L epoch term_length p (suc terms) view calls hears) new v o refl)
-          ];
-          builds = λ is. subst (λ ss. Contains ss (Calls (Proposed start q 0))) (sym on.steps) (Contains-append_right s.steps (map Calls all) (Calls (Proposed start q 0)) (skip_holds K L epoch term_length p (suc terms) view calls (Calls (Proposed start q 0)) (built is)));
+          heard = λ v o h. elim (Contains-append_cases s.steps (map Calls all) (Calls (SetProposal v o))
+              (subst (λ ss. Contains ss (Calls (SetProposal v o))) on.steps h)) [
+                | inl old ↦ inl old
+                | inr new ↦ inr (one_has (HearsOnly {K = K} {L = L} p) (map Calls all) (Calls (SetProposal v o))
+                    (skip_hears K L epoch term_length p (suc terms) view calls hears) new v o refl)
+              ];
+          builds = λ is. subst (λ ss. Contains ss (Calls (Proposed start q 0))) (sym on.steps)
+              (Contains-append_right s.steps (map Calls all) (Calls (Proposed start q 0))
+              (skip_holds K L epoch term_length p (suc terms) view calls (Calls (Proposed start q 0)) (built is)));
         },
       )
 
@@ -201,26 +242,38 @@ module _ {K L D : Type 0} (same : D → D → Bool) (decides : (d e : D) → sam
   signs y r = λ j. signs_as (r.me j) (r.index j)
 
   -- what it calls: it builds the proposal, or verifies it
-  pub leader_traced : i ≡ leader → Sequence same elect lives.0 (skip_sequence epoch term_length i (suc terms) view (leader_sequence l q [] []))
-  leader_traced leads = passes same elect term_length some l leader (leader_sequence l q [] []) terms view lives.0 x lives.2 waits (sym far) elects
-      (λ n y alive r. leader_done same elect reflexive l q [] [] r.round r.pending r.none r.lead r.leads n y alive r.stands (signs y r ∙ eq-eqb i leader leads) (highest_at y l.parent l.view l.payload r.stands.below r.stands.explicit r.highest r.stands.ordered))
+  pub leader_traced : i ≡ leader → Sequence same elect lives.0
+      (skip_sequence epoch term_length i (suc terms) view (leader_sequence l q [] []))
+  leader_traced leads = passes same elect term_length some l leader (leader_sequence l q [] []) terms view lives.0 x
+      lives.2 waits (sym far) elects
+      (λ n y alive r. leader_done same elect reflexive l q [] [] r.round r.pending r.none r.lead r.leads n y alive
+      r.stands (signs y r ∙ eq-eqb i leader leads)
+      (highest_at y l.parent l.view l.payload r.stands.below r.stands.explicit r.highest r.stands.ordered))
 
-  pub follower_traced : (i ≡ leader → ⊥) → Sequence same elect lives.0 (skip_sequence epoch term_length i (suc terms) view (follower_sequence l q [] []))
-  follower_traced other = passes same elect term_length some l leader (follower_sequence l q [] []) terms view lives.0 x lives.2 waits (sym far) elects
-      (λ n y alive r. follower_done same elect reflexive l q [] [] r.round r.pending r.none r.lead r.leads n y alive r.stands (signs y r ∙ ne_eqb i leader other))
+  pub follower_traced : (i ≡ leader → ⊥) → Sequence same elect lives.0
+      (skip_sequence epoch term_length i (suc terms) view (follower_sequence l q [] []))
+  follower_traced other = passes same elect term_length some l leader (follower_sequence l q [] []) terms view lives.0 x
+      lives.2 waits (sym far) elects
+      (λ n y alive r. follower_done same elect reflexive l q [] [] r.round r.pending r.none r.lead r.leads n y alive
+      r.stands (signs y r ∙ ne_eqb i leader other))
 
-  pub member_goes : (t : Execution K L D) × ContinuesBy same elect term_length leader p (λ k. skip_trace epoch term_length k (suc terms) view (trace_done (replica_of epoch start parent q k) q)) i s t
+  pub member_goes : (t : Execution K L D) × ContinuesBy same elect term_length leader p
+      (λ k. skip_trace epoch term_length k (suc terms) view (trace_done (replica_of epoch start parent q k) q)) i s t
   member_goes = elim (cases_eq i leader) [
-    | inl leads ↦ goes_by (leader_sequence l q [] []) refl (leader_hears p) (leader_traced leads) (λ is. (1, omega arith, refl))
-    | inr other ↦ goes_by (follower_sequence l q [] []) refl (follower_hears p) (follower_traced other) (λ is. absurd (other is))
+    | inl leads ↦ goes_by (leader_sequence l q [] []) refl (leader_hears p) (leader_traced leads)
+        (λ is. (1, omega arith, refl))
+    | inr other ↦ goes_by (follower_sequence l q [] []) refl (follower_hears p) (follower_traced other)
+        (λ is. absurd (other is))
   ]
 
 -- of the network
 
 -- no view from the start on was finalized
-pub none_above : {K L D : Type 0} (same : D → D → Bool) (decides : (d e : D) → same d e ≡ true → d ≡ e) (elect : Elect L) (term_length epoch parent view start terms : ℕ) (elector : L) (network : List (Member K L D))
+pub none_above : {K L D : Type 0} (same : D → D → Bool) (decides : (d e : D) → same d e ≡ true → d ≡ e)
+    (elect : Elect L) (term_length epoch parent view start terms : ℕ) (elector : L) (network : List (Member K L D))
     → IsNetworkOf same elect term_length network → start ≡ terms_on term_length (suc terms) view
-    → EachRuns same elect network (λ i x. IsSetUpAs epoch (length network) elector i x × StandsBefore parent view start x)
+    → EachRuns same elect network
+    (λ i x. IsSetUpAs epoch (length network) elector i x × StandsBefore parent view start x)
     → (o : Proposal D) → Backed network (Finalize o) → o.round.view < start
 none_above same decides elect term_length epoch parent view start terms elector network good far each o backs =
     let one = shared_member network (Finalize o) (Finalize o) good.few_faulty backs backs in
@@ -230,9 +283,16 @@ none_above same decides elect term_length epoch parent view start terms elector 
     let on = on_from term_length ran.lives.first.terms.some (suc terms) view (omega (arith, alive.2.1.stands.below)) in
     omega (arith, shown.living.keeps.stays.stands.passed o one.3, alive.2.1.current, far, on)
 
-pub together_they_go_on : {L D : Type 0} (K : Type 0) (same : D → D → Bool) (decides : (d e : D) → same d e ≡ true → d ≡ e) (reflexive : (d : D) → same d d ≡ true) (elect : Elect L) → MembersOfOneViewContinue K same elect
-together_they_go_on {L} {D} K same decides reflexive elect term_length epoch leader parent view start terms elector network q good few far is_term_start small elected leads each =
-    (_, goes_on_to_finalize same elect term_length leader p done (enough p term_length (suc terms) view) network good few leads goes (none_above same decides elect term_length epoch parent view start terms elector network good far each))
+pub together_they_go_on : {L D : Type 0} (K : Type 0) (same : D → D → Bool)
+    (decides : (d e : D) → same d e ≡ true → d ≡ e) (reflexive : (d : D) → same d d ≡ true) (elect : Elect L)
+    → MembersOfOneViewContinue K same elect
+together_they_go_on {L} {D} K same decides reflexive elect term_length epoch leader parent view start terms elector
+    network q good few far is_term_start small elected leads each = (
+      _,
+      goes_on_to_finalize same elect term_length leader p done (enough p term_length (suc terms) view) network good
+          few leads goes
+          (none_above same decides elect term_length epoch parent view start terms elector network good far each),
+    )
   where
     p : Proposal D
     p = proposal_in epoch start parent q
@@ -240,7 +300,11 @@ together_they_go_on {L} {D} K same decides reflexive elect term_length epoch lea
     done : ℕ → List (TraceEvent D)
     done = λ k. skip_trace epoch term_length k (suc terms) view (trace_done (replica_of epoch start parent q k) q)
 
-    goes : (i : ℕ) (s : Execution K L D) → slice_get network i ≡ Some (Honest s) → (t : Execution K L D) × ContinuesBy same elect term_length leader (proposal_in epoch start parent q) (λ k. skip_trace epoch term_length k (suc terms) view (trace_done (replica_of epoch start parent q k) q)) i s t
+    goes : (i : ℕ) (s : Execution K L D) → slice_get network i ≡ Some (Honest s)
+        → (t : Execution K L D) × ContinuesBy same elect term_length leader (proposal_in epoch start parent q)
+        (λ k. skip_trace epoch term_length k (suc terms) view (trace_done (replica_of epoch start parent q k) q)) i s t
     goes i s at =
         let alive = each i s at in
-        member_goes same decides reflexive elect term_length epoch (length network) leader parent view start terms i elector q s (good.honest i s at) far is_term_start small elected (within network leader (Honest leads.0) leads.1) alive.0 alive.1 alive.2.0 alive.2.1
+        member_goes same decides reflexive elect term_length epoch (length network) leader parent view start terms i
+        elector q s (good.honest i s at) far is_term_start small elected
+        (within network leader (Honest leads.0) leads.1) alive.0 alive.1 alive.2.0 alive.2.1

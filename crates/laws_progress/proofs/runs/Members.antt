@@ -46,7 +46,8 @@ AllHave P (x ∷ xs) = P x × AllHave P xs
 
 pub one_has : {X : Type 0} (P : X → Type 0) (xs : List X) (x : X) → AllHave P xs → Contains xs x → P x
 one_has P [] x all h = absurd (omega (arith, h.1))
-one_has P (y ∷ xs) x all h = elim (Contains-cases y xs x h) [ inl here ↦ subst P here all.0 | inr later ↦ one_has P xs x all.1 later ]
+one_has P (y ∷ xs) x all h = elim (Contains-cases y xs x h)
+    [ inl here ↦ subst P here all.0 | inr later ↦ one_has P xs x all.1 later ]
 
 module _ {K L D : Type 0} (p : Proposal D) where
   -- no other proposal is received
@@ -54,23 +55,49 @@ module _ {K L D : Type 0} (p : Proposal D) where
   HearsOnly step = (v : ℕ) (o : Proposal D) → step ≡ Calls (SetProposal v o) → o ≡ p
 
   pub follower_hears : AllHave HearsOnly (map Calls (follower_calls p))
-  follower_hears = (λ v o e. cc, (λ v o e. absurd (cc), (λ v o e. absurd (cc), (λ v o e. absurd (cc), (λ v o e. absurd (cc), (λ v o e. absurd (cc), (λ v o e. absurd (cc), (λ v o e. absurd (cc), tt))))))))
+  follower_hears = (
+    λ v o e. cc,
+    (
+      λ v o e. absurd (cc),
+      (
+        λ v o e. absurd (cc),
+        (
+          λ v o e. absurd (cc),
+          (λ v o e. absurd (cc), (λ v o e. absurd (cc), (λ v o e. absurd (cc), (λ v o e. absurd (cc), tt)))),
+        ),
+      ),
+    ),
+  )
 
   pub leader_hears : AllHave HearsOnly (map Calls (leader_calls p))
-  leader_hears = (λ v o e. absurd (cc), (λ v o e. absurd (cc), (λ v o e. absurd (cc), (λ v o e. absurd (cc), (λ v o e. absurd (cc), (λ v o e. absurd (cc), (λ v o e. absurd (cc), tt)))))))
+  leader_hears = (
+    λ v o e. absurd (cc),
+    (
+      λ v o e. absurd (cc),
+      (
+        λ v o e. absurd (cc),
+        (λ v o e. absurd (cc), (λ v o e. absurd (cc), (λ v o e. absurd (cc), (λ v o e. absurd (cc), tt)))),
+      ),
+    ),
+  )
 
 module _ {K L D : Type 0} (same : D → D → Bool) (elect : Elect L) where
   -- the member continues to finalize the proposal, which it receives or builds
   pub record MemberFinalizes (term_length leader : ℕ) (p : Proposal D) (i : ℕ) (s t : Execution K L D) : Type 0 where
     pub continues : ExecutionContinues s t
     pub ran : IsExecution same elect term_length i t
-    pub trace : trace_of t ≡ trace_of s ++ trace_done (replica_of p.round.epoch p.round.view p.parent p.payload i) p.payload
+    pub trace : trace_of t ≡ trace_of s ++ trace_done (replica_of p.round.epoch p.round.view p.parent p.payload i)
+        p.payload
     pub heard : (v : ℕ) (o : Proposal D) → HasHeard v o t → HasHeard v o s ⊎ (o ≡ p)
     pub builds : i ≡ leader → Contains t.steps (Calls (Proposed p.round.view p.payload 0))
 
-module _ {K L D : Type 0} (same : D → D → Bool) (decides : (d e : D) → same d e ≡ true → d ≡ e) (reflexive : (d : D) → same d d ≡ true) (elect : Elect L)
-    (term_length epoch count leader start parent i : ℕ) (elector : L) (q : D) (s : Execution K L D) (ran : IsExecution same elect term_length i s) (small : is_too_large start ≡ false)
-    (x : StateFacts K L D) (lives : RunsWith same elect s x) (set : IsSetUpAs epoch count elector i x) (fresh : IsFreshStart leader start x) (can : CanStandOn parent start x) (builds : i ≡ leader → BuildsOn parent start x) where
+module _ {K L D : Type 0} (same : D → D → Bool) (decides : (d e : D) → same d e ≡ true → d ≡ e)
+    (reflexive : (d : D) → same d d ≡ true) (elect : Elect L)
+    (term_length epoch count leader start parent i : ℕ) (elector : L) (q : D) (s : Execution K L D)
+    (ran : IsExecution same elect term_length i s) (small : is_too_large start ≡ false)
+    (x : StateFacts K L D) (lives : RunsWith same elect s x) (set : IsSetUpAs epoch count elector i x)
+    (fresh : IsFreshStart leader start x) (can : CanStandOn parent start x)
+    (builds : i ≡ leader → BuildsOn parent start x) where
   abbrev p : Proposal D
   p = proposal_in epoch start parent q
 
@@ -90,26 +117,57 @@ module _ {K L D : Type 0} (same : D → D → Bool) (decides : (d e : D) → sam
       lead = leader_there term_length epoch count leader start parent i elector s lives.0 x shown set fresh can
 
       signs : signs_as fresh.round.me lead.0.idx ≡ (i == leader)
-      signs = (λ j. signs_as (signs_there term_length epoch count leader start parent i elector s lives.0 x shown set fresh can j) (lead.2 j))
+      signs = (λ j. signs_as (signs_there term_length epoch count leader start parent i elector s lives.0 x shown set
+          fresh can j) (lead.2 j))
 
-      hears : (calls : List (CallFacts D)) → AllHave (HearsOnly {K = K} {L = L} p) (map Calls calls) → (t : Execution K L D) → t.steps ≡ s.steps ++ map Calls calls → (v : ℕ) (o : Proposal D) → HasHeard v o t → HasHeard v o s ⊎ (o ≡ p)
-      hears calls all t steps v o h = elim (Contains-append_cases s.steps (map Calls calls) (Calls (SetProposal v o)) (subst (λ ss. Contains ss (Calls (SetProposal v o))) steps h)) [
-        | inl old ↦ inl old
-        | inr new ↦ inr (one_has (HearsOnly {K = K} {L = L} p) (map Calls calls) (Calls (SetProposal v o)) all new v o refl)
-      ]
+      hears : (calls : List (CallFacts D)) → AllHave (HearsOnly {K = K} {L = L} p) (map Calls calls)
+          → (t : Execution K L D) → t.steps ≡ s.steps ++ map Calls calls → (v : ℕ) (o : Proposal D) → HasHeard v o t
+          → HasHeard v o s ⊎ (o ≡ p)
+      hears calls all t steps v o h = elim (Contains-append_cases s.steps (map Calls calls) (Calls (SetProposal v o))
+          (subst (λ ss. Contains ss (Calls (SetProposal v o))) steps h)) [
+            | inl old ↦ inl old
+            | inr new ↦
+                inr (one_has (HearsOnly {K = K} {L = L} p) (map Calls calls) (Calls (SetProposal v o)) all new v o refl)
+          ]
 
       as_follower : (i ≡ leader → ⊥) → (t : Execution K L D) × MemberFinalizes same elect term_length leader p i s t
       as_follower other =
-          let does = does_of same elect (follower_sequence l q [] []) lives.0 (follower_done same elect reflexive l q [] [] fresh.round fresh.pending fresh.no_finalization lead.0 lead.1 lives.0 x lives.2 stands (signs ∙ ne_eqb i leader other)) in
-          let on = execution_on same elect term_length i s lives.0 (follower_calls p) (trace_done l q) ran lives.1 does in
-          (on.execution, record { continues = on.continues; ran = on.ran; trace = on.trace; heard = hears (follower_calls p) (follower_hears p) on.execution on.steps; builds = λ is. absurd (other is) })
+          let does = does_of same elect (follower_sequence l q [] []) lives.0
+          (follower_done same elect reflexive l q [] [] fresh.round fresh.pending fresh.no_finalization lead.0
+          lead.1 lives.0 x lives.2 stands (signs ∙ ne_eqb i leader other)) in
+          let on = execution_on same elect term_length i s lives.0 (follower_calls p) (trace_done l q) ran lives.1 does
+          in (
+            on.execution,
+            record {
+              continues = on.continues;
+              ran = on.ran;
+              trace = on.trace;
+              heard = hears (follower_calls p) (follower_hears p) on.execution on.steps;
+              builds = λ is. absurd (other is);
+            },
+          )
 
       as_leader : i ≡ leader → (t : Execution K L D) × MemberFinalizes same elect term_length leader p i s t
       as_leader leads =
           let above = builds leads in
-          let same_payload : above.0 ≡ can.payload = ap (λ o. unwrap_or o (above.0)) (sym (highest_is x start (parent, above.0) above.1) ∙ can.explicit) in
-          let highest : highest_explicit x start ≡ Some (parent, can.payload) = above.1 ∙ ap (λ d. Some (parent, d)) same_payload in
-          let does = does_of same elect (leader_sequence l q [] []) lives.0 (leader_done same elect reflexive l q [] [] fresh.round fresh.pending fresh.no_finalization lead.0 lead.1 lives.0 x lives.2 stands (signs ∙ eq-eqb i leader leads) highest) in
+          let same_payload : above.0 ≡ can.payload =
+          ap (λ o. unwrap_or o (above.0)) (sym (highest_is x start (parent, above.0) above.1) ∙ can.explicit) in
+          let highest : highest_explicit x start ≡ Some (parent, can.payload) = above.1
+          ∙ ap (λ d. Some (parent, d)) same_payload in
+          let does = does_of same elect (leader_sequence l q [] []) lives.0
+          (leader_done same elect reflexive l q [] [] fresh.round fresh.pending fresh.no_finalization lead.0 lead.1
+          lives.0 x lives.2 stands (signs ∙ eq-eqb i leader leads) highest) in
           let on = execution_on same elect term_length i s lives.0 (leader_calls p) (trace_done l q) ran lives.1 does in
-          let built : Contains on.execution.steps (Calls (Proposed start q 0)) = subst (λ ss. Contains ss (Calls (Proposed start q 0))) (sym on.steps) (Contains-append_right s.steps (map Calls (leader_calls p)) (Calls (Proposed start q 0)) (1, omega arith, refl)) in
-          (on.execution, record { continues = on.continues; ran = on.ran; trace = on.trace; heard = hears (leader_calls p) (leader_hears p) on.execution on.steps; builds = λ is. built })
+          let built : Contains on.execution.steps (Calls (Proposed start q 0)) =
+          subst (λ ss. Contains ss (Calls (Proposed start q 0))) (sym on.steps)
+          (Contains-append_right s.steps (map Calls (leader_calls p)) (Calls (Proposed start q 0))
+          (1, omega arith, refl)) in (
+            on.execution,
+            record {
+              continues = on.continues;
+              ran = on.ran;
+              trace = on.trace;
+              heard = hears (leader_calls p) (leader_hears p) on.execution on.steps;
+              builds = λ is. built;
+            },
+          )

@@ -36,52 +36,75 @@ module _ {D : Type 0} (signer : ℕ) (round : Round) where
   abbrev IsAlone : List (TraceEvent D) → List (TraceEvent D) → Type 0
   IsAlone trace before = (before ≡ []) × (trace ≡ vote ∷ [])
 
-  one_split : (trace_event : TraceEvent D) (before after : List (TraceEvent D)) → trace_event ∷ [] ≡ before ++ vote ∷ after → IsAlone (trace_event ∷ []) before
-  one_split trace_event before after is = (let one = single_split trace_event vote before after is in (one.0, ap (λ (z : TraceEvent D). z ∷ []) one.1))
+  one_split : (trace_event : TraceEvent D) (before after : List (TraceEvent D))
+      → trace_event ∷ [] ≡ before ++ vote ∷ after → IsAlone (trace_event ∷ []) before
+  one_split trace_event before after is =
+      (let one = single_split trace_event vote before after is in (one.0, ap (λ (z : TraceEvent D). z ∷ []) one.1))
 
-  entry_split : (entry : ArtifactFacts D) (before after : List (TraceEvent D)) → of_vote entry ≡ before ++ vote ∷ after → IsAlone (of_vote entry) before
+  entry_split : (entry : ArtifactFacts D) (before after : List (TraceEvent D)) → of_vote entry ≡ before ++ vote ∷ after
+      → IsAlone (of_vote entry) before
   entry_split (NotarizeVote p i) before after is = one_split _ before after is
   entry_split (NullifyVote r i) before after is = one_split _ before after is
   entry_split (FinalizeVote p i) before after is = one_split _ before after is
   entry_split _ before after is = absurd (none_split before after vote is)
 
   -- none is passed in
-  no_certificate : (call : CallFacts D) (before after : List (TraceEvent D)) → passed_certificates call ++ [] ≡ before ++ vote ∷ after → ⊥
-  no_certificate (AddNotarization c) before after is = let one = single_split _ vote before after is in let apart = one.1 in cc
-  no_certificate (AddNullification c now) before after is = let one = single_split _ vote before after is in let apart = one.1 in cc
-  no_certificate (AddFinalization c now) before after is = let one = single_split _ vote before after is in let apart = one.1 in cc
+  no_certificate : (call : CallFacts D) (before after : List (TraceEvent D))
+      → passed_certificates call ++ [] ≡ before ++ vote ∷ after → ⊥
+  no_certificate (AddNotarization c) before after is = let one = single_split _ vote before after is in
+      let apart = one.1 in cc
+  no_certificate (AddNullification c now) before after is = let one = single_split _ vote before after is in
+      let apart = one.1 in cc
+  no_certificate (AddFinalization c now) before after is = let one = single_split _ vote before after is in
+      let apart = one.1 in cc
   no_certificate _ before after is = none_split before after vote is
 
   no_floor : (floor : _) (before after : List (TraceEvent D)) → of_floor floor ≡ before ++ vote ∷ after → ⊥
-  no_floor floor before after is = floor_signs_none floor round (signer, subst (λ ds. Contains ds vote) (sym is) (Contains-middle before after vote))
+  no_floor floor before after is = floor_signs_none floor round
+      (signer, subst (λ ds. Contains ds vote) (sym is) (Contains-middle before after vote))
 
   -- the vote is all that its step does, and no verdict is received then
-  record IsAll {K L : Type 0} (step : StepFacts K L D) (told : ReplyFacts K D) (before : List (TraceEvent D)) : Type 0 where
+  record IsAll {K L : Type 0} (step : StepFacts K L D) (told : ReplyFacts K D) (before : List (TraceEvent D)) : Type
+      0 where
     alone : IsAlone (trace_at step told) before
     no_verdict : judged_by told ≡ []
 
-  call_all : {K L : Type 0} (call : CallFacts D) (told : ReplyFacts K D) (before after : List (TraceEvent D)) → trace_at {L = L} (Calls call) told ≡ before ++ vote ∷ after → IsAll {L = L} (Calls call) told before
+  call_all : {K L : Type 0} (call : CallFacts D) (told : ReplyFacts K D) (before after : List (TraceEvent D))
+      → trace_at {L = L} (Calls call) told ≡ before ++ vote ∷ after → IsAll {L = L} (Calls call) told before
   call_all call (Added b o) before after is = absurd (no_certificate call before after is)
   call_all call (AddedNullification b) before after is = absurd (no_certificate call before after is)
-  call_all call (Nullify (Some (retry, entry))) before after is = record { alone = entry_split entry before after is; no_verdict = refl }
-  call_all call (Finalize (Some entry)) before after is = record { alone = entry_split entry before after is; no_verdict = refl }
-  call_all call (Notarize (Some entry)) before after is = record { alone = entry_split entry before after is; no_verdict = refl }
+  call_all call (Nullify (Some (retry, entry))) before after is =
+      record { alone = entry_split entry before after is; no_verdict = refl }
+  call_all call (Finalize (Some entry)) before after is =
+      record { alone = entry_split entry before after is; no_verdict = refl }
+  call_all call (Notarize (Some entry)) before after is =
+      record { alone = entry_split entry before after is; no_verdict = refl }
   call_all call _ before after is = absurd (none_split before after vote is)
 
-  restart_all : {K L : Type 0} (r : _) (told : ReplyFacts K D) (before after : List (TraceEvent D)) → trace_at {L = L} (Restarts r) told ≡ before ++ vote ∷ after → IsAll {L = L} (Restarts r) told before
-  restart_all r (Nullify (Some (retry, entry))) before after is = record { alone = entry_split entry before after is; no_verdict = refl }
-  restart_all r (Finalize (Some entry)) before after is = record { alone = entry_split entry before after is; no_verdict = refl }
-  restart_all r (Notarize (Some entry)) before after is = record { alone = entry_split entry before after is; no_verdict = refl }
-  restart_all r Restarted before after is = absurd (no_floor r.start.floor before after (sym (append-nil (of_floor r.start.floor)) ∙ is))
+  restart_all : {K L : Type 0} (r : _) (told : ReplyFacts K D) (before after : List (TraceEvent D))
+      → trace_at {L = L} (Restarts r) told ≡ before ++ vote ∷ after → IsAll {L = L} (Restarts r) told before
+  restart_all r (Nullify (Some (retry, entry))) before after is =
+      record { alone = entry_split entry before after is; no_verdict = refl }
+  restart_all r (Finalize (Some entry)) before after is =
+      record { alone = entry_split entry before after is; no_verdict = refl }
+  restart_all r (Notarize (Some entry)) before after is =
+      record { alone = entry_split entry before after is; no_verdict = refl }
+  restart_all r Restarted before after is =
+      absurd (no_floor r.start.floor before after (sym (append-nil (of_floor r.start.floor)) ∙ is))
   restart_all r _ before after is = absurd (none_split before after vote is)
 
-  prune_all : {K L : Type 0} (told : ReplyFacts K D) (before after : List (TraceEvent D)) → trace_at {L = L} Prunes told ≡ before ++ vote ∷ after → IsAll {L = L} Prunes told before
-  prune_all (Nullify (Some (retry, entry))) before after is = record { alone = entry_split entry before after is; no_verdict = refl }
-  prune_all (Finalize (Some entry)) before after is = record { alone = entry_split entry before after is; no_verdict = refl }
-  prune_all (Notarize (Some entry)) before after is = record { alone = entry_split entry before after is; no_verdict = refl }
+  prune_all : {K L : Type 0} (told : ReplyFacts K D) (before after : List (TraceEvent D))
+      → trace_at {L = L} Prunes told ≡ before ++ vote ∷ after → IsAll {L = L} Prunes told before
+  prune_all (Nullify (Some (retry, entry))) before after is =
+      record { alone = entry_split entry before after is; no_verdict = refl }
+  prune_all (Finalize (Some entry)) before after is =
+      record { alone = entry_split entry before after is; no_verdict = refl }
+  prune_all (Notarize (Some entry)) before after is =
+      record { alone = entry_split entry before after is; no_verdict = refl }
   prune_all _ before after is = absurd (none_split before after vote is)
 
-  step_all : {K L : Type 0} (step : StepFacts K L D) (told : ReplyFacts K D) (before after : List (TraceEvent D)) → trace_at step told ≡ before ++ vote ∷ after → IsAll step told before
+  step_all : {K L : Type 0} (step : StepFacts K L D) (told : ReplyFacts K D) (before after : List (TraceEvent D))
+      → trace_at step told ≡ before ++ vote ∷ after → IsAll step told before
   step_all (Calls call) told before after is = call_all call told before after is
   step_all Prunes told before after is = prune_all told before after is
   step_all (Restarts r) told before after is = restart_all r told before after is
@@ -89,7 +112,8 @@ module _ {D : Type 0} (signer : ℕ) (round : Round) where
 -- the vote's step, in a run
 
 module _ {K L D : Type 0} (same : D → D → Bool) (elect : Elect L) (signer : ℕ) (round : Round) where
-  record VoteAt (steps : List (StepFacts K L D)) (replies : List (ReplyFacts K D)) (before : List (TraceEvent D)) : Type 0 where
+  record VoteAt (steps : List (StepFacts K L D)) (replies : List (ReplyFacts K D)) (before : List (TraceEvent D)) : Type
+      0 where
     first : List (StepFacts K L D)
     told : List (ReplyFacts K D)
     as_many : length first ≡ length told
@@ -102,7 +126,9 @@ module _ {K L D : Type 0} (same : D → D → Bool) (elect : Elect L) (signer : 
     alone : trace_at step reply ≡ vote signer round ∷ []
     no_verdict : judged_by reply ≡ []
 
-  vote_at : (steps : List (StepFacts K L D)) (replies : List (ReplyFacts K D)) (m end : MemberFacts K L D) → IsRun same elect m steps replies end → (before after : List (TraceEvent D)) → trace_of_steps steps replies ≡ before ++ vote signer round ∷ after → VoteAt steps replies before
+  vote_at : (steps : List (StepFacts K L D)) (replies : List (ReplyFacts K D)) (m end : MemberFacts K L D)
+      → IsRun same elect m steps replies end → (before after : List (TraceEvent D))
+      → trace_of_steps steps replies ≡ before ++ vote signer round ∷ after → VoteAt steps replies before
   vote_at [] [] m end run before after is = absurd (none_split before after (vote signer round) is)
   vote_at [] (reply ∷ replies) m end run before after is = absurd run
   vote_at (step ∷ steps) [] m end run before after is = absurd run
@@ -143,26 +169,38 @@ module _ {K L D : Type 0} (same : D → D → Bool) (elect : Elect L) (signer : 
 
 -- the execution up to the vote's step
 
-trace_pushed : {K L D : Type 0} (steps : List (StepFacts K L D)) (replies : List (ReplyFacts K D)) (step : StepFacts K L D) (reply : ReplyFacts K D) → length steps ≡ length replies → trace_of_steps (steps ++ step ∷ []) (replies ++ reply ∷ []) ≡ trace_of_steps steps replies ++ trace_at step reply
+trace_pushed : {K L D : Type 0} (steps : List (StepFacts K L D)) (replies : List (ReplyFacts K D))
+    (step : StepFacts K L D) (reply : ReplyFacts K D) → length steps ≡ length replies
+    → trace_of_steps (steps ++ step ∷ []) (replies ++ reply ∷ []) ≡ trace_of_steps steps replies ++ trace_at step reply
 trace_pushed [] [] step reply as_many = append-nil (trace_at step reply)
 trace_pushed [] (r ∷ replies) step reply as_many = absurd (omega (arith, as_many))
 trace_pushed (s ∷ steps) [] step reply as_many = absurd (omega (arith, as_many))
 trace_pushed (s ∷ steps) (r ∷ replies) step reply as_many =
-    ap (λ ds. trace_at s r ++ ds) (trace_pushed steps replies step reply (omega (arith, as_many))) ∙ sym (append_assoc (trace_at s r) (trace_of_steps steps replies) (trace_at step reply))
+    ap (λ ds. trace_at s r ++ ds) (trace_pushed steps replies step reply (omega (arith, as_many)))
+    ∙ sym (append_assoc (trace_at s r) (trace_of_steps steps replies) (trace_at step reply))
 
 -- the vote itself leads to no view
-module _ {D : Type 0} (term_length epoch signer : ℕ) (round : Round) (before : List (TraceEvent D)) (verdicts : List (Bool × Proposal D)) (view : ℕ) where
-  accepted_before : (c : Subject D) → Contains (before ++ vote signer round ∷ []) (Accepts c) → Contains before (Accepts c)
-  accepted_before c h = elim (Contains-append_cases before (vote signer round ∷ []) (Accepts c) h) [ inl old ↦ old | inr new ↦ absurd (let e = only_one _ _ new in cc) ]
+module _ {D : Type 0} (term_length epoch signer : ℕ) (round : Round) (before : List (TraceEvent D))
+    (verdicts : List (Bool × Proposal D)) (view : ℕ) where
+  accepted_before : (c : Subject D) → Contains (before ++ vote signer round ∷ []) (Accepts c)
+      → Contains before (Accepts c)
+  accepted_before c h = elim (Contains-append_cases before (vote signer round ∷ []) (Accepts c) h)
+      [ inl old ↦ old | inr new ↦ absurd (let e = only_one _ _ new in cc) ]
 
-  led_before : IsLedTo term_length epoch (before ++ vote signer round ∷ []) verdicts view → IsLedTo term_length epoch before verdicts view
+  led_before : IsLedTo term_length epoch (before ++ vote signer round ∷ []) verdicts view
+      → IsLedTo term_length epoch before verdicts view
   led_before (First is) = First is
-  led_before (PastFinalized below (p, h, is_in) is) = PastFinalized below (p, accepted_before (subject.Finalize p) h, is_in) is
+  led_before (PastFinalized below (p, h, is_in) is) =
+      PastFinalized below (p, accepted_before (subject.Finalize p) h, is_in) is
   led_before (PastCertified below h is) = PastCertified below h is
-  led_before (PastNullified below (r, h, is_in) is) = PastNullified below (r, accepted_before (subject.Nullify r) h, is_in) is
+  led_before (PastNullified below (r, h, is_in) is) =
+      PastNullified below (r, accepted_before (subject.Nullify r) h, is_in) is
 
-module _ {K L D : Type 0} (same : D → D → Bool) (decides : (d e : D) → same d e ≡ true → d ≡ e) (elect : Elect L) (term_length i : ℕ) (s : Execution K L D) (ran : IsExecution same elect term_length i s) (signer : ℕ) (round : Round) (before later : List (TraceEvent D))
-    (before_is : before ≡ of_floor s.start.floor ++ later) (v : VoteAt same elect signer round s.steps s.replies later) where
+module _ {K L D : Type 0} (same : D → D → Bool) (decides : (d e : D) → same d e ≡ true → d ≡ e) (elect : Elect L)
+    (term_length i : ℕ) (s : Execution K L D) (ran : IsExecution same elect term_length i s) (signer : ℕ)
+    (round : Round) (before later : List (TraceEvent D))
+    (before_is : before ≡ of_floor s.start.floor ++ later)
+    (v : VoteAt same elect signer round s.steps s.replies later) where
   abbrev earlier : Execution K L D
   earlier = record s { steps = v.first; replies = v.told }
 
@@ -178,11 +216,15 @@ module _ {K L D : Type 0} (same : D → D → Bool) (decides : (d e : D) → sam
 
   until_trace : trace_of until ≡ before ++ vote signer round ∷ []
   until_trace =
-      ap (λ ds. of_floor s.start.floor ++ ds) (trace_pushed v.first v.told v.step v.reply v.as_many ∙ ap (λ ds. trace_of_steps v.first v.told ++ ds) v.alone)
-      ∙ (sym (append_assoc (of_floor s.start.floor) (trace_of_steps v.first v.told) (vote signer round ∷ [])) ∙ ap (λ ds. ds ++ vote signer round ∷ []) trace_is)
+      ap (λ ds. of_floor s.start.floor ++ ds)
+      (trace_pushed v.first v.told v.step v.reply v.as_many
+      ∙ ap (λ ds. trace_of_steps v.first v.told ++ ds) v.alone)
+      ∙ (sym (append_assoc (of_floor s.start.floor) (trace_of_steps v.first v.told) (vote signer round ∷ []))
+      ∙ ap (λ ds. ds ++ vote signer round ∷ []) trace_is)
 
   until_judged : judged_of until ≡ judged_of earlier
-  until_judged = judged_joined v.told (v.reply ∷ []) ∙ (ap (λ ps. judged_in v.told ++ (ps ++ [])) v.no_verdict ∙ append-nil (judged_in v.told))
+  until_judged = judged_joined v.told (v.reply ∷ [])
+      ∙ (ap (λ ps. judged_in v.told ++ (ps ++ [])) v.no_verdict ∙ append-nil (judged_in v.told))
 
   steps_whole : s.steps ≡ (v.first ++ v.step ∷ []) ++ map (λ e. e.0) v.more
   steps_whole = v.steps_are ∙ sym (append_assoc v.first (v.step ∷ []) (map (λ e. e.0) v.more))
@@ -194,14 +236,18 @@ module _ {K L D : Type 0} (same : D → D → Bool) (decides : (d e : D) → sam
   until_ran = record {
     lives = record {
       first = ran.lives.first;
-      later = λ r h. ran.lives.later r (subst (λ ss. Contains ss (Restarts r)) (sym steps_whole) (Contains-append_left (v.first ++ v.step ∷ []) (map (λ e. e.0) v.more) (Restarts r) h));
+      later = λ r h. ran.lives.later r (subst (λ ss. Contains ss (Restarts r)) (sym steps_whole)
+          (Contains-append_left (v.first ++ v.step ∷ []) (map (λ e. e.0) v.more) (Restarts r) h));
     };
-    run = run_from_before same elect s.start (v.first ++ v.step ∷ []) (map (λ e. e.0) v.more) (v.told ++ v.reply ∷ []) (map (λ e. e.1) v.more)
+    run = run_from_before same elect s.start (v.first ++ v.step ∷ []) (map (λ e. e.0) v.more) (v.told ++ v.reply ∷ [])
+        (map (λ e. e.1) v.more)
         (omega (arith, v.as_many, length-append v.first (v.step ∷ []), length-append v.told (v.reply ∷ [])))
-        (subst (λ ss. IsRunFrom same elect s.start ss ((v.told ++ v.reply ∷ []) ++ map (λ e. e.1) v.more)) steps_whole (subst (λ rs. IsRunFrom same elect s.start s.steps rs) replies_whole ran.run));
+        (subst (λ ss. IsRunFrom same elect s.start ss ((v.told ++ v.reply ∷ []) ++ map (λ e. e.1) v.more)) steps_whole
+        (subst (λ rs. IsRunFrom same elect s.start s.steps rs) replies_whole ran.run));
   }
 
-  of_step : (t : Execution K L D) × ExecutionContinues t s × (trace_of t ≡ before) × IsLedTo term_length round.epoch before (judged_of t) round.view
+  of_step : (t : Execution K L D) × ExecutionContinues t s × (trace_of t ≡ before)
+      × IsLedTo term_length round.epoch before (judged_of t) round.view
   of_step = (
     earlier,
     continues,
@@ -209,15 +255,25 @@ module _ {K L D : Type 0} (same : D → D → Bool) (decides : (d e : D) → sam
     led_before term_length round.epoch signer round before (judged_of earlier) round.view
         (subst (λ ds. IsLedTo term_length round.epoch ds (judged_of earlier) round.view) until_trace
         (subst (λ ps. IsLedTo term_length round.epoch (trace_of until) ps round.view) until_judged
-        (nullified_led same decides elect term_length i until until_ran round (signer, subst (λ ds. Contains ds (vote signer round)) (sym until_trace) (Contains-middle before [] (vote signer round)))))),
+        (nullified_led same decides elect term_length i until until_ran round (
+          signer,
+          subst (λ ds. Contains ds (vote signer round)) (sym until_trace)
+              (Contains-middle before [] (vote signer round)),
+        )))),
   )
 
-pub vote_ordered : {K L D : Type 0} (same : D → D → Bool) (decides : (d e : D) → same d e ≡ true → d ≡ e) (elect : Elect L) (term_length i : ℕ) (s : Execution K L D) → IsExecution same elect term_length i s → (before : List (TraceEvent D)) (round : Round) → SignsAfter (trace_of s) before (subject.Nullify round)
-    → (earlier : Execution K L D) × ExecutionContinues earlier s × (trace_of earlier ≡ before) × IsLedTo term_length round.epoch before (judged_of earlier) round.view
+pub vote_ordered : {K L D : Type 0} (same : D → D → Bool) (decides : (d e : D) → same d e ≡ true → d ≡ e)
+    (elect : Elect L) (term_length i : ℕ) (s : Execution K L D) → IsExecution same elect term_length i s
+    → (before : List (TraceEvent D)) (round : Round) → SignsAfter (trace_of s) before (subject.Nullify round)
+    → (earlier : Execution K L D) × ExecutionContinues earlier s × (trace_of earlier ≡ before)
+    × IsLedTo term_length round.epoch before (judged_of earlier) round.view
 unfolding IsRunFrom
 vote_ordered same decides elect term_length i s ran before round (signer, after, is) =
-    elim (append_split (of_floor s.start.floor) (trace_of_steps s.steps s.replies) before after (vote signer round) is) [
+    elim (append_split (of_floor s.start.floor) (trace_of_steps s.steps s.replies) before after (vote signer round)
+    is) [
       | inl (rest, here) ↦ absurd (no_floor signer round s.start.floor before rest here)
-      | inr (later, before_is, there) ↦ of_step same decides elect term_length i s ran signer round before later before_is
-          (vote_at same elect signer round s.steps s.replies (new_member same elect s.start) ran.run.1 ran.run.2 later after there)
+      | inr (later, before_is, there) ↦ of_step same decides elect term_length i s ran signer round before later
+          before_is
+          (vote_at same elect signer round s.steps s.replies (new_member same elect s.start) ran.run.1 ran.run.2 later
+          after there)
     ]

@@ -31,13 +31,17 @@ module _ {K L D : Type 0} (same : D → D → Bool) (elect : Elect L) (x : State
       goes = event_goes same elect x e
 
       mine : (v : ℕ) → (round_of y v).me ≡ y.me
-      mine v = elim (rounds_or_gone same elect x e 0 (λ v r s. s.me ≡ r.me) (λ v r s t p q. q ∙ p) of_same (event_path same elect 0 x e (omega arith) (asked_of_all x e)) v) [
-        | inl stays ↦ stays ∙ owns.mine v ∙ sym goes.me
-        | inr gone ↦ ap (λ (o : Option (RoundFacts K D)). (unwrap_or o (new_round y.me y.members (round_number y v))).me) gone.1.untracked
-      ]
+      mine v = elim (rounds_or_gone same elect x e 0 (λ v r s. s.me ≡ r.me) (λ v r s t p q. q ∙ p) of_same
+          (event_path same elect 0 x e (omega arith) (asked_of_all x e)) v) [
+            | inl stays ↦ stays ∙ owns.mine v ∙ sym goes.me
+            | inr gone ↦ ap (λ (o : Option (RoundFacts K D)).
+                (unwrap_or o (new_round y.me y.members (round_number y v))).me) gone.1.untracked
+          ]
 
 module _ {K L D : Type 0} (same : D → D → Bool) (elect : Elect L) where
-  pub floor_owns : (term_length : ℕ) (x : StateFacts K L D) (floor : FloorFacts D) (now : ℕ) → IsNewState term_length x → Owns (after_set_floor same elect x floor now)
+  pub floor_owns : (term_length : ℕ) (x : StateFacts K L D) (floor : FloorFacts D) (now : ℕ) → IsNewState term_length x
+      → Owns (after_set_floor same elect x floor now)
   floor_owns term_length x floor now fresh =
       let begun : StateFacts K L D = new_facts x.settings x.me x.members x.elector x.terms x.elects_early in
-      event_owns same elect x (event.SetFloor floor now) (subst (λ y. Owns y) (sym fresh.fresh) (record { alive = refl; mine = λ v. refl }))
+      event_owns same elect x (event.SetFloor floor now)
+      (subst (λ y. Owns y) (sym fresh.fresh) (record { alive = refl; mine = λ v. refl }))

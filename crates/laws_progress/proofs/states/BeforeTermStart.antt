@@ -24,8 +24,10 @@ use Rattle.simplex_record.proofs.Rounds.{round_put}
 use Rattle.laws_progress.proofs.states.AtTermStart.{StandingMember, StandsAtView, round_kept, round_here}
 use Rattle.laws_progress.proofs.runs.Starts.{no_gate}
 
--- the member is at a view up to the start, where this is known of the start's round; all between the parent and `covered_to` is nullified
-pub record Waits {K L D : Type 0} (length : ℕ) (l : StandingMember D) (h : Option (RoundFacts K D)) (stands_at covered_to : ℕ) (x : StateFacts K L D) : Type 0 where
+-- the member is at a view up to the start, where this is known of the start's round; all between the parent and
+-- `covered_to` is nullified
+pub record Waits {K L D : Type 0} (length : ℕ) (l : StandingMember D) (h : Option (RoundFacts K D))
+    (stands_at covered_to : ℕ) (x : StateFacts K L D) : Type 0 where
   pub here : round_at x l.view ≡ h
   pub ordered : T (is_sorted nat_cmp x.rounds)
   pub alive : x.failed ≡ false
@@ -47,19 +49,23 @@ pub record Waits {K L D : Type 0} (length : ℕ) (l : StandingMember D) (h : Opt
 
 module _ {K L D : Type 0} where
   -- a payload is explicit by the round of its view alone
-  explicit_same : (x y : StateFacts K L D) (p : ℕ) → y.genesis ≡ x.genesis → round_at y p ≡ round_at x p → explicit_ancestry_payload y p ≡ explicit_ancestry_payload x p
+  explicit_same : (x y : StateFacts K L D) (p : ℕ) → y.genesis ≡ x.genesis → round_at y p ≡ round_at x p
+      → explicit_ancestry_payload y p ≡ explicit_ancestry_payload x p
   unfolding explicit_ancestry_payload
   explicit_same x y p genesis rounds = rw (genesis, rounds) refl
 
   -- what is explicit, by the round
-  pub explicit_by : (x : StateFacts K L D) (v : ℕ) → 0 < v → explicit_ancestry_payload x v ≡ option_and_then certified_payload (round_at x v)
+  pub explicit_by : (x : StateFacts K L D) (v : ℕ) → 0 < v
+      → explicit_ancestry_payload x v ≡ option_and_then certified_payload (round_at x v)
   unfolding explicit_ancestry_payload
   explicit_by x v some = rw (ne_eqb v 0 (λ is. absurd (omega (arith, is, some)))) refl
 
-  pub unexplicit_round : (x : StateFacts K L D) (v : ℕ) → 0 < v → explicit_ancestry_payload x v ≡ None → certified_payload (round_of x v) ≡ None
+  pub unexplicit_round : (x : StateFacts K L D) (v : ℕ) → 0 < v → explicit_ancestry_payload x v ≡ None
+      → certified_payload (round_of x v) ≡ None
   unexplicit_round x v some none = by_round (round_at x v) (sym (explicit_by x v some) ∙ none)
     where
-      by_round : (o : Option (RoundFacts K D)) → option_and_then certified_payload o ≡ None → certified_payload (unwrap_or o (new_round x.me x.members (round_number x v))) ≡ None
+      by_round : (o : Option (RoundFacts K D)) → option_and_then certified_payload o ≡ None
+          → certified_payload (unwrap_or o (new_round x.me x.members (round_number x v))) ≡ None
       by_round None is = refl
       by_round (Some r) is = is
 
@@ -68,14 +74,18 @@ any_of_new : (test : ℕ → Bool) (us : List ℕ) (u : ℕ) → test u ≡ true
 any_of_new test [] u is = rw is refl
 any_of_new test (v ∷ us) u is = by_order (nat_cmp u v) refl (any_of_new test us u is)
   where
-    by_order : (o : Ordering) → nat_cmp u v ≡ o → list_any test (insert_key nat_cmp us u) ≡ true → list_any test (match_ordering o (u ∷ v ∷ us) (v ∷ us) (v ∷ insert_key nat_cmp us u)) ≡ true
+    by_order : (o : Ordering) → nat_cmp u v ≡ o → list_any test (insert_key nat_cmp us u) ≡ true
+        → list_any test (match_ordering o (u ∷ v ∷ us) (v ∷ us) (v ∷ insert_key nat_cmp us u)) ≡ true
     by_order Less at behind = rw is refl
-    by_order Equal at behind = let same : u ≡ v = eqb-true u v (sym (is_eq-nat_cmp u v) ∙ ap is_eq at) in rw (ap test (sym same) ∙ is) refl
+    by_order Equal at behind = let same : u ≡ v = eqb-true u v (sym (is_eq-nat_cmp u v) ∙ ap is_eq at) in
+        rw (ap test (sym same) ∙ is) refl
     by_order Greater at behind = or_right (test v) _ behind
 
 module _ {K L D : Type 0} (length : ℕ) (l : StandingMember D) where
   -- a round above the parent, with nothing decided or certified
-  pub put_waits : (h : Option (RoundFacts K D)) (c g v : ℕ) (r : RoundFacts K D) (x : StateFacts K L D) → Waits length l h c g x → l.parent < v → (c ≤ v → is_finalize r.decision ≡ false) → certified_payload r ≡ None → Waits length l (round_at (with_round x v r) l.view) c g (with_round x v r)
+  pub put_waits : (h : Option (RoundFacts K D)) (c g v : ℕ) (r : RoundFacts K D) (x : StateFacts K L D)
+      → Waits length l h c g x → l.parent < v → (c ≤ v → is_finalize r.decision ≡ false) → certified_payload r ≡ None
+      → Waits length l (round_at (with_round x v r) l.view) c g (with_round x v r)
   put_waits h c g v r x w up open_still no_payload = record {
     here = refl;
     ordered = is_sorted-put nat_cmp nat_cmp_total v r x.rounds w.ordered;
@@ -91,22 +101,30 @@ module _ {K L D : Type 0} (length : ℕ) (l : StandingMember D) where
     explicit = parent_same w.explicit;
     gapless = w.gapless;
     undecided = λ u from. elim (cases_eq u v) [
-      | inl at ↦ subst (λ n. is_finalize (round_of (with_round x v r) n).decision ≡ false) (sym at) (ap (λ (s : RoundFacts K D). is_finalize s.decision) (round_put x v r) ∙ open_still (omega (arith, from, at)))
-      | inr apart ↦ ap (λ (s : RoundFacts K D). is_finalize s.decision) (round_of-with_round x u v apart r) ∙ w.undecided u from
+      | inl at ↦ subst (λ n. is_finalize (round_of (with_round x v r) n).decision ≡ false) (sym at)
+          (ap (λ (s : RoundFacts K D). is_finalize s.decision) (round_put x v r) ∙ open_still (omega (arith, from, at)))
+      | inr apart ↦ ap (λ (s : RoundFacts K D). is_finalize s.decision) (round_of-with_round x u v apart r)
+          ∙ w.undecided u from
     ];
     highest = λ u from. explicit_by (with_round x v r) u (omega (arith, from)) ∙ elim (cases_eq u v) [
-      | inl at ↦ subst (λ n. option_and_then certified_payload (round_at (with_round x v r) n) ≡ None) (sym at) (ap (option_and_then certified_payload) (round_here x v r) ∙ no_payload)
-      | inr apart ↦ ap (option_and_then certified_payload) (round_kept x v u r apart) ∙ (sym (explicit_by x u (omega (arith, from))) ∙ w.highest u from)
+      | inl at ↦ subst (λ n. option_and_then certified_payload (round_at (with_round x v r) n) ≡ None) (sym at)
+          (ap (option_and_then certified_payload) (round_here x v r) ∙ no_payload)
+      | inr apart ↦ ap (option_and_then certified_payload) (round_kept x v u r apart)
+          ∙ (sym (explicit_by x u (omega (arith, from))) ∙ w.highest u from)
     ];
     on_time = w.on_time;
     small = w.small;
   }
     where
-      parent_same : explicit_ancestry_payload x l.parent ≡ Some l.payload → explicit_ancestry_payload (with_round x v r) l.parent ≡ Some l.payload
-      parent_same is = explicit_same x (with_round x v r) l.parent refl (round_kept x v l.parent r (λ at. absurd (omega (arith, at, up)))) ∙ is
+      parent_same : explicit_ancestry_payload x l.parent ≡ Some l.payload
+          → explicit_ancestry_payload (with_round x v r) l.parent ≡ Some l.payload
+      parent_same is = explicit_same x (with_round x v r) l.parent refl
+          (round_kept x v l.parent r (λ at. absurd (omega (arith, at, up)))) ∙ is
 
   -- another moment, other views that were voted to be nullified, and a later current view
-  pub reached : (h : Option (RoundFacts K D)) (c d g moment : ℕ) (votes : List ℕ) (x : StateFacts K L D) → Waits length l h c g x → c ≤ d → d ≤ l.view → Waits length l h d g (record x { current = d; moment = moment; nullify_votes = votes })
+  pub reached : (h : Option (RoundFacts K D)) (c d g moment : ℕ) (votes : List ℕ) (x : StateFacts K L D)
+      → Waits length l h c g x → c ≤ d → d ≤ l.view
+      → Waits length l h d g (record x { current = d; moment = moment; nullify_votes = votes })
   unfolding explicit_ancestry_payload
   reached h c d g moment votes x w later high = record {
     here = w.here;
@@ -129,7 +147,8 @@ module _ {K L D : Type 0} (length : ℕ) (l : StandingMember D) where
   }
 
   -- a nullification covers the rest of its term
-  pub covered_on : (h : Option (RoundFacts K D)) (c g : ℕ) (x : StateFacts K L D) → 1 ≤ g → Waits length l h c g x → Waits length l h c (next_term_start length g) (nullified_also x g)
+  pub covered_on : (h : Option (RoundFacts K D)) (c g : ℕ) (x : StateFacts K L D) → 1 ≤ g → Waits length l h c g x
+      → Waits length l h c (next_term_start length g) (nullified_also x g)
   unfolding explicit_ancestry_payload
   covered_on h c g x some w = record {
     here = w.here;
@@ -146,7 +165,9 @@ module _ {K L D : Type 0} (length : ℕ) (l : StandingMember D) where
     explicit = w.explicit;
     gapless = λ v up down. elim (cases_lt v g) [
       | inl before ↦ covering_stays x g v (w.gapless v up before)
-      | inr from ↦ any_of_new (λ n. covers x.terms.term_length n v) x.nullified g (ap (λ n. covers n g v) w.terms ∙ covers_from length g v (omega (arith, from)) (sym (same_start length g v some (omega (arith, from)) down)))
+      | inr from ↦ any_of_new (λ n. covers x.terms.term_length n v) x.nullified g
+          (ap (λ n. covers n g v) w.terms ∙ covers_from length g v (omega (arith, from))
+          (sym (same_start length g v some (omega (arith, from)) down)))
     ];
     undecided = w.undecided;
     highest = w.highest;
@@ -155,9 +176,11 @@ module _ {K L D : Type 0} (length : ℕ) (l : StandingMember D) where
   }
 
   -- where the start is entered, the member is there
-  pub stands_now : (r : RoundFacts K D) (x : StateFacts K L D) → 0 < length → Waits length l (Some r) l.view l.view x → StandsAtView l r l.view x
+  pub stands_now : (r : RoundFacts K D) (x : StateFacts K L D) → 0 < length → Waits length l (Some r) l.view l.view x
+      → StandsAtView l r l.view x
   stands_now r x some w =
-      let start : l.view ≡ term_start x.terms.term_length l.view = w.start ∙ ap (λ n. term_start n l.view) (sym w.terms) in
+      let start : l.view ≡ term_start x.terms.term_length l.view = w.start
+      ∙ ap (λ n. term_start n l.view) (sym w.terms) in
       record {
         here = w.here;
         ordered = w.ordered;
@@ -169,23 +192,29 @@ module _ {K L D : Type 0} (length : ℕ) (l : StandingMember D) where
         below = w.low;
         above = w.above;
         explicit = w.explicit;
-        gapless = by_gap (first_unnullified_view x l.parent l.view) (first_unnullified_view-is x l.parent l.view (subst (λ n. 0 < n) (sym w.terms) some));
+        gapless = by_gap (first_unnullified_view x l.parent l.view)
+            (first_unnullified_view-is x l.parent l.view (subst (λ n. 0 < n) (sym w.terms) some));
         ungated = no_gate x l.view start;
         on_time = w.on_time;
         small = w.small;
       }
     where
-      by_gap : (o : Option ℕ) → MatchOption o (IsGapless x l.parent l.view) (IsFirstGap x l.parent l.view) → is_none o ≡ true
+      by_gap : (o : Option ℕ) → MatchOption o (IsGapless x l.parent l.view) (IsFirstGap x l.parent l.view)
+          → is_none o ≡ true
       by_gap None none = refl
       by_gap (Some v) gap = absurd (true≢false (sym (w.gapless v gap.above gap.below) ∙ gap.uncovered))
 
   -- what is known of the start's round
-  pub known_as : (h k : Option (RoundFacts K D)) (c g : ℕ) (x : StateFacts K L D) → Waits length l h c g x → round_at x l.view ≡ k → Waits length l k c g x
+  pub known_as : (h k : Option (RoundFacts K D)) (c g : ℕ) (x : StateFacts K L D) → Waits length l h c g x
+      → round_at x l.view ≡ k → Waits length l k c g x
   known_as h k c g x w is = subst (λ o. Waits length l o c g x) (sym w.here ∙ is) w
 
-  pub at_its_own : (h : Option (RoundFacts K D)) (c g : ℕ) (x : StateFacts K L D) → Waits length l h c g x → Waits length l h x.current g x
+  pub at_its_own : (h : Option (RoundFacts K D)) (c g : ℕ) (x : StateFacts K L D) → Waits length l h c g x
+      → Waits length l h x.current g x
   at_its_own h c g x w = subst (λ n. Waits length l h n g x) (sym w.current) w
 
-  pub either_waits : (c g : ℕ) (b : Bool) (x y : StateFacts K L D) → Waits length l (round_at x l.view) c g x → Waits length l (round_at y l.view) c g y → Waits length l (round_at (if b then x else y) l.view) c g (if b then x else y)
+  pub either_waits : (c g : ℕ) (b : Bool) (x y : StateFacts K L D) → Waits length l (round_at x l.view) c g x
+      → Waits length l (round_at y l.view) c g y
+      → Waits length l (round_at (if b then x else y) l.view) c g (if b then x else y)
   either_waits c g true x y v w = v
   either_waits c g false x y v w = w

@@ -14,7 +14,9 @@ use Rattle.simplex_voter.specs.Payloads.{certified_payload, explicit_ancestry_pa
 use Rattle.laws_history.proofs.UnchangedHistories.{from_T}
 use Rattle.laws_progress.proofs.states.BeforeTermStart.{explicit_by}
 
-module _ {K L D : Type 0} (x : StateFacts K L D) (p v : ℕ) (d : D) (low : p < v) (here : explicit_ancestry_payload x p ≡ Some d) (none : (w : ℕ) → p < w → explicit_ancestry_payload x w ≡ None) where
+module _ {K L D : Type 0} (x : StateFacts K L D) (p v : ℕ) (d : D) (low : p < v)
+    (here : explicit_ancestry_payload x p ≡ Some d)
+    (none : (w : ℕ) → p < w → explicit_ancestry_payload x w ≡ None) where
   abbrev gives : ℕ × RoundFacts K D → Option (ℕ × D)
   gives = explicit_below x v
 
@@ -29,26 +31,32 @@ module _ {K L D : Type 0} (x : StateFacts K L D) (p v : ℕ) (d : D) (low : p < 
   gives_it e at = rw (at, lt-ltb p v low, here) refl
 
   -- all above give nothing
-  last_kept : (o : Option (ℕ × D)) (es : List (ℕ × RoundFacts K D)) → AllAbove p es → last_or o (filter_map gives es) ≡ o
+  last_kept : (o : Option (ℕ × D)) (es : List (ℕ × RoundFacts K D)) → AllAbove p es
+      → last_or o (filter_map gives es) ≡ o
   last_kept o [] above = refl
   last_kept o (e ∷ es) above = rw (nothing_above e above.0) (last_kept o es above.1)
 
   -- the parent is the last that gives something
-  last_found : (o : Option (ℕ × D)) (es : List (ℕ × RoundFacts K D)) → Rises es → is_some (find nat_cmp p es) ≡ true → last_or o (filter_map gives es) ≡ Some (p, d)
+  last_found : (o : Option (ℕ × D)) (es : List (ℕ × RoundFacts K D)) → Rises es → is_some (find nat_cmp p es) ≡ true
+      → last_or o (filter_map gives es) ≡ Some (p, d)
   last_found o [] rise is = absurd (false≢true is)
   last_found o (e ∷ es) rise is = elim (cases_eq p e.0) [
     | inl at ↦ rw (gives_it e (sym at)) (last_kept (Some (p, d)) es (subst (λ n. AllAbove n es) (sym at) rise.0))
     | inr apart ↦
-        (let behind : is_some (find nat_cmp p es) ≡ true = sym (ap (λ b. is_some (cond b (Some e.1) (find nat_cmp p es))) (is_eq-nat_cmp p e.0 ∙ ne_eqb p e.0 apart)) ∙ is in
+        (let behind : is_some (find nat_cmp p es) ≡ true =
+        sym (ap (λ b. is_some (cond b (Some e.1) (find nat_cmp p es))) (is_eq-nat_cmp p e.0 ∙ ne_eqb p e.0 apart))
+        ∙ is in
         by_value (λ q. last_found q es rise.1 behind) (gives e))
   ]
     where
-      by_value : ((q : Option (ℕ × D)) → last_or q (filter_map gives es) ≡ Some (p, d)) → (q : Option (ℕ × D)) → last_or o (cons_option q (filter_map gives es)) ≡ Some (p, d)
+      by_value : ((q : Option (ℕ × D)) → last_or q (filter_map gives es) ≡ Some (p, d)) → (q : Option (ℕ × D))
+          → last_or o (cons_option q (filter_map gives es)) ≡ Some (p, d)
       by_value rest None = rest o
       by_value rest (Some a) = rest (Some a)
 
   -- genesis, where all tracked views lie above it or are it
-  last_first : (o : Option (ℕ × D)) → o ≡ Some (p, d) → p ≡ 0 → (es : List (ℕ × RoundFacts K D)) → last_or o (filter_map gives es) ≡ Some (p, d)
+  last_first : (o : Option (ℕ × D)) → o ≡ Some (p, d) → p ≡ 0 → (es : List (ℕ × RoundFacts K D))
+      → last_or o (filter_map gives es) ≡ Some (p, d)
   last_first o is zero_is [] = is
   last_first o is zero_is (e ∷ es) = elim (cases_lt p e.0) [
     | inl up ↦ rw (nothing_above e up) (last_first o is zero_is es)
@@ -59,7 +67,8 @@ module _ {K L D : Type 0} (x : StateFacts K L D) (p v : ℕ) (d : D) (low : p < 
   unfolding explicit_ancestry_payload
   highest_at ordered = elim (cases_eq p 0) [
     | inl genesis ↦ last_first (at_view 0 x.genesis) (by_genesis genesis) genesis x.rounds
-    | inr higher ↦ last_found (at_view 0 x.genesis) x.rounds (rises x.rounds (from_T (is_sorted nat_cmp x.rounds) ordered)) (tracked (omega (arith, higher)))
+    | inr higher ↦ last_found (at_view 0 x.genesis) x.rounds
+        (rises x.rounds (from_T (is_sorted nat_cmp x.rounds) ordered)) (tracked (omega (arith, higher)))
   ]
     where
       by_genesis : p ≡ 0 → at_view 0 x.genesis ≡ Some (p, d)

@@ -28,23 +28,29 @@ use Rattle.laws_safety.proofs.votes.ShownVotesByVotes.{not_nullified}
 
 -- a block was asked for
 abbrev pub asked_for : {D : Type 0} → Work D
-asked_for = record nothing_done { slot = record { held = None; conflict = false; verified = false; build_requested = true; verify_requested = false } }
+asked_for = record nothing_done {
+  slot =
+      record { held = None; conflict = false; verified = false; build_requested = true; verify_requested = false };
+}
 
 -- what the leader is asked to build on
 abbrev pub build_context : {K D : Type 0} → StandingMember D → Leader K → Context D K
-build_context l lead = record { round = record { epoch = l.epoch; view = l.view }; leader = lead.key; parent = (l.parent, l.payload) }
+build_context l lead =
+    record { round = record { epoch = l.epoch; view = l.view }; leader = lead.key; parent = (l.parent, l.payload) }
 
 -- the own proposal was built at this moment
 abbrev pub built_at : {K D : Type 0} → RoundFacts K D → ℕ → RoundFacts K D
 built_at r now = record r { proposed_at = Some now }
 
-module _ {K L D : Type 0} (same : D → D → Bool) (elect : Elect L) (reflexive : (d : D) → same d d ≡ true) (l : StandingMember D) (q : D) (r : RoundFacts K D) (pending : is_pending r.decision ≡ true)
+module _ {K L D : Type 0} (same : D → D → Bool) (elect : Elect L) (reflexive : (d : D) → same d d ≡ true)
+    (l : StandingMember D) (q : D) (r : RoundFacts K D) (pending : is_pending r.decision ≡ true)
     (lead : Leader K) (leads : r.leader ≡ Some lead) (own : signs_as r.me lead.idx ≡ true)
     (x : StateFacts K L D) where
   abbrev p : Proposal D
   p = built_on l q
 
-  module _ (s : StandsAtView l (with_work r nothing_done) l.view x) (builds : highest_explicit x l.view ≡ Some (l.parent, l.payload)) where
+  module _ (s : StandsAtView l (with_work r nothing_done) l.view x)
+      (builds : highest_explicit x l.view ≡ Some (l.parent, l.payload)) where
     abbrev here : RoundFacts K D
     here = with_work r nothing_done
 
@@ -53,26 +59,44 @@ module _ {K L D : Type 0} (same : D → D → Bool) (elect : Elect L) (reflexive
     preferred = rw (starts l here l.view x s, builds, s.gapless) refl
 
     requests : request_in same elect x (l.view, here) ≡ Some (Propose (build_context l lead))
-    requests = rw (admitted l here l.view x s (omega arith), leads, own, not_nullified r.decision pending, preferred, starts l here l.view x s, s.explicit, reflexive l.payload) (ap (λ (e : ℕ). Some (Propose (record { round = record { epoch = e; view = l.view }; leader = lead.key; parent = (l.parent, l.payload) }))) s.epoch)
+    requests = rw (
+      admitted l here l.view x s (omega arith),
+      leads,
+      own,
+      not_nullified r.decision pending,
+      preferred,
+      starts l here l.view x s,
+      s.explicit,
+      reflexive l.payload,
+    )
+        (ap (λ (e : ℕ). Some (Propose (record
+        { round = record { epoch = e; view = l.view }; leader = lead.key; parent = (l.parent, l.payload) }))) s.epoch)
 
     pub propose_told : propose_answer same elect x ≡ Some (Propose (build_context l lead))
     unfolding propose_answer
-    propose_told = first_given (request_in same elect x) (views_ahead x) l.view here (ahead_rises l here x s) (ahead_here l here x s) (ap is_some requests) nothing ∙ requests
+    propose_told = first_given (request_in same elect x) (views_ahead x) l.view here (ahead_rises l here x s)
+        (ahead_here l here x s) (ap is_some requests) nothing ∙ requests
       where
-        nothing : (v : ℕ) (u : RoundFacts K D) → v < l.view → find nat_cmp v (views_ahead x) ≡ Some u → request_in same elect x (v, u) ≡ None
+        nothing : (v : ℕ) (u : RoundFacts K D) → v < l.view → find nat_cmp v (views_ahead x) ≡ Some u
+            → request_in same elect x (v, u) ≡ None
         nothing v u less at = absurd (false≢true (ap is_some (sym (ahead_below l here x s v less) ∙ at)))
 
     pub tries_propose : (o : OutstandingWork K D) → Makes same elect l (with_work r asked_for) l.view x o TryPropose
     tries_propose o = record {
       allowed = refl;
       no_fault = no_fault_due x.failed false false s.alive refl refl;
-      leaves = rw (propose_told, tracked_is l here l.view x s, round_is l here l.view x s) (put_here l here (with_work r asked_for) l.view x s);
+      leaves = rw (propose_told, tracked_is l here l.view x s, round_is l here l.view x s)
+          (put_here l here (with_work r asked_for) l.view x s);
     }
 
-    pub opens : (o : OutstandingWork K D) → context_at (outstanding_work_after same elect x o TryPropose) l.view ≡ Some (build_context l lead)
-    opens o = rw propose_told (find-put nat_cmp nat_cmp_total l.view l.view (build_context l lead) o.contexts ∙ ap (λ b. cond b (Some (build_context l lead)) (find nat_cmp l.view o.contexts)) (is_eq-nat_cmp l.view l.view ∙ eq-eqb l.view l.view refl))
+    pub opens : (o : OutstandingWork K D) → context_at (outstanding_work_after same elect x o TryPropose) l.view ≡ Some
+        (build_context l lead)
+    opens o = rw propose_told (find-put nat_cmp nat_cmp_total l.view l.view (build_context l lead) o.contexts
+        ∙ ap (λ b. cond b (Some (build_context l lead)) (find nat_cmp l.view o.contexts))
+        (is_eq-nat_cmp l.view l.view ∙ eq-eqb l.view l.view refl))
 
-  module _ (s : StandsAtView l (with_work r asked_for) l.view x) (o : OutstandingWork K D) (open_now : context_at o l.view ≡ Some (build_context l lead)) where
+  module _ (s : StandsAtView l (with_work r asked_for) l.view x) (o : OutstandingWork K D)
+      (open_now : context_at o l.view ≡ Some (build_context l lead)) where
     stands_still : captured_parent_valid same elect x l.view l.parent l.payload ≡ true
     unfolding captured_parent_valid
     stands_still = rw (allowed_parent same elect reflexive l _ l.view x s, reflexive l.payload) (or-true _)
@@ -81,9 +105,12 @@ module _ {K L D : Type 0} (same : D → D → Bool) (elect : Elect L) (reflexive
     unfolding proposed_answer
     taken = rw (stands_still, s.here, not_nullified r.decision pending) refl
 
-    pub builds_it : Makes same elect l (with_work (built_at r 0) (verified true p l.payload)) l.view x o (Proposed l.view q 0)
+    pub builds_it : Makes same elect l (with_work (built_at r 0) (verified true p l.payload)) l.view x o
+        (Proposed l.view q 0)
     builds_it = record {
       allowed = rw open_now refl;
       no_fault = no_fault_due x.failed false false s.alive refl refl;
-      leaves = rw (open_now, taken, round_is l _ l.view x s) (put_here l _ (with_work (built_at r 0) (verified true p l.payload)) l.view (at_moment x 0) (at_another l _ l.view x x.named 0 s));
+      leaves = rw (open_now, taken, round_is l _ l.view x s)
+          (put_here l _ (with_work (built_at r 0) (verified true p l.payload)) l.view (at_moment x 0)
+          (at_another l _ l.view x x.named 0 s));
     }

@@ -33,7 +33,8 @@ below_span : (low high v : ℕ) → v < low → (nat_le low v && nat_le v high) 
 below_span low high v less = grind (arith, nat_tests)
 
 -- from the current view on: the first of them is the view itself
-module _ {K L D : Type 0} (l : StandingMember D) (r : RoundFacts K D) (x : StateFacts K L D) (s : StandsAtView l r l.view x) where
+module _ {K L D : Type 0} (l : StandingMember D) (r : RoundFacts K D) (x : StateFacts K L D)
+    (s : StandsAtView l r l.view x) where
   abbrev reach : ℕ → Bool
   reach v = nat_le x.current v && nat_le v (next_term_start x.terms.term_length x.current)
 
@@ -42,19 +43,22 @@ module _ {K L D : Type 0} (l : StandingMember D) (r : RoundFacts K D) (x : State
 
   reached : reach l.view ≡ true
   reached =
-      let next : next_term_start x.terms.term_length x.current ≡ next_term_start x.terms.term_length l.view = ap (next_term_start x.terms.term_length) s.current in
+      let next : next_term_start x.terms.term_length x.current ≡ next_term_start x.terms.term_length l.view =
+      ap (next_term_start x.terms.term_length) s.current in
       and_both _ _ (le-leb x.current l.view (omega (arith, s.current))) (le-leb l.view _ (omega (arith, next, s.start)))
 
   pub ahead_here : find nat_cmp l.view (views_ahead x) ≡ Some r
   ahead_here = find-filtered reach l.view x.rounds ∙ rw (reached, s.here) refl
 
   unreached : (v : ℕ) → v < l.view → reach v ≡ false
-  unreached v less = below_span x.current (next_term_start x.terms.term_length x.current) v (omega (arith, less, s.current))
+  unreached v less = below_span x.current (next_term_start x.terms.term_length x.current) v
+      (omega (arith, less, s.current))
 
   pub ahead_below : (v : ℕ) → v < l.view → find nat_cmp v (views_ahead x) ≡ None
   ahead_below v less = find-filtered reach v x.rounds ∙ rw (unreached v less) refl
 
-module _ {K L D : Type 0} (same : D → D → Bool) (elect : Elect L) (reflexive : (d : D) → same d d ≡ true) (l : StandingMember D) (q : D) (r : RoundFacts K D) (pending : is_pending r.decision ≡ true)
+module _ {K L D : Type 0} (same : D → D → Bool) (elect : Elect L) (reflexive : (d : D) → same d d ≡ true)
+    (l : StandingMember D) (q : D) (r : RoundFacts K D) (pending : is_pending r.decision ≡ true)
     (lead : Leader K) (leads : r.leader ≡ Some lead) (other : signs_as r.me lead.idx ≡ false)
     (x : StateFacts K L D) (s : StandsAtView l (with_work r (heard (built_on l q))) l.view x) where
   abbrev p : Proposal D
@@ -68,53 +72,74 @@ module _ {K L D : Type 0} (same : D → D → Bool) (elect : Elect L) (reflexive
 
   stands_ready : standing same elect x (l.view, here) ≡ Ready l.payload
   unfolding standing
-  stands_ready = rw (admitted l here l.view x s (omega arith), waiting, spans_it l here l.view x s, no_gap l here l.view x s, payload_is same elect reflexive l here l.view x s) refl
+  stands_ready = rw (
+    admitted l here l.view x s (omega arith),
+    waiting,
+    spans_it l here l.view x s,
+    no_gap l here l.view x s,
+    payload_is same elect reflexive l here l.view x s,
+  ) refl
 
   answers_it : answer_in same elect x (l.view, here) ≡ Some (verify.Ready (verify_context (lead, p) l.payload) p)
   answers_it = rw (waiting, stands_ready) refl
 
   pub verify_told : verify_answer same elect x ≡ verify.Ready (verify_context (lead, p) l.payload) p
-  verify_told = ap (λ o. option_map_or (λ found. found) o verify.Wait) (first_given (answer_in same elect x) (views_ahead x) l.view here (ahead_rises l here x s) (ahead_here l here x s) (ap is_some answers_it) nothing ∙ answers_it)
+  verify_told = ap (λ o. option_map_or (λ found. found) o verify.Wait)
+      (first_given (answer_in same elect x) (views_ahead x) l.view here (ahead_rises l here x s) (ahead_here l here x s)
+      (ap is_some answers_it) nothing ∙ answers_it)
     where
-      nothing : (v : ℕ) (u : RoundFacts K D) → v < l.view → find nat_cmp v (views_ahead x) ≡ Some u → answer_in same elect x (v, u) ≡ None
+      nothing : (v : ℕ) (u : RoundFacts K D) → v < l.view → find nat_cmp v (views_ahead x) ≡ Some u
+          → answer_in same elect x (v, u) ≡ None
       nothing v u less at = absurd (false≢true (ap is_some (sym (ahead_below l here x s v less) ∙ at)))
 
   abbrev answered_below : ℕ → ℕ × RoundFacts K D → Bool
   answered_below v d = ltb d.0 v && is_answered (standing same elect x d)
 
-  scanned_is : (v : ℕ) → was_scanned same elect x v ≡ (is_some (find nat_cmp v (views_ahead x)) && not (list_any (answered_below v) (views_ahead x)))
+  scanned_is : (v : ℕ) → was_scanned same elect x
+      v ≡ (is_some (find nat_cmp v (views_ahead x)) && not (list_any (answered_below v) (views_ahead x)))
   scanned_is v = any-through (λ e. is_answered (standing same elect x e)) v (views_ahead x) (ahead_rises l here x s)
 
   scanned_here : was_scanned same elect x l.view ≡ true
   scanned_here =
-      let none : list_any (answered_below l.view) (views_ahead x) ≡ false = any_nowhere (answered_below l.view) (views_ahead x) (views_ahead x) (found_each (views_ahead x) (ahead_rises l here x s)) each in
+      let none : list_any (answered_below l.view) (views_ahead x) ≡ false =
+      any_nowhere (answered_below l.view) (views_ahead x) (views_ahead x)
+      (found_each (views_ahead x) (ahead_rises l here x s)) each in
       scanned_is l.view ∙ (λ i. is_some (ahead_here l here x s i) && not (none i))
     where
-      each : (v : ℕ) (u : RoundFacts K D) → find nat_cmp v (views_ahead x) ≡ Some u → answered_below l.view (v, u) ≡ false
+      each : (v : ℕ) (u : RoundFacts K D) → find nat_cmp v (views_ahead x) ≡ Some u
+          → answered_below l.view (v, u) ≡ false
       each v u at = by_test (ltb v l.view) refl
         where
           by_test : (b : Bool) → ltb v l.view ≡ b → (b && is_answered (standing same elect x (v, u))) ≡ false
           by_test false is = refl
-          by_test true is = absurd (false≢true (ap is_some (sym (ahead_below l here x s v (ltb-true v l.view is)) ∙ at)))
+          by_test true is =
+              absurd (false≢true (ap is_some (sym (ahead_below l here x s v (ltb-true v l.view is)) ∙ at)))
 
   scanned_below : (v : ℕ) → v < l.view → was_scanned same elect x v ≡ false
-  scanned_below v less = scanned_is v ∙ ap (λ o. is_some o && not (list_any (answered_below v) (views_ahead x))) (ahead_below l here x s v less)
+  scanned_below v less = scanned_is v ∙ ap (λ o. is_some o && not (list_any (answered_below v) (views_ahead x)))
+      (ahead_below l here x s v less)
 
-  pub tries_verify : (o : OutstandingWork K D) → Makes same elect l (with_work r (being_verified p l.payload)) l.view x o TryVerify
+  pub tries_verify : (o : OutstandingWork K D)
+      → Makes same elect l (with_work r (being_verified p l.payload)) l.view x o TryVerify
   tries_verify o = record {
     allowed = refl;
     no_fault = no_fault_due x.failed false false s.alive refl refl;
-    leaves = subst (λ n. StandsAtView l (with_work r (being_verified p l.payload)) n (after_try_verify same elect x)) s.current
-        (remade l here (with_work r (being_verified p l.payload)) l.view x.current x (map_list (λ e. (e.0, scan_left same elect x e.0 e.1)) x.rounds) x.named x.moment s at_view sorted at_parent);
+    leaves = subst (λ n. StandsAtView l (with_work r (being_verified p l.payload)) n (after_try_verify same elect x))
+        s.current
+        (remade l here (with_work r (being_verified p l.payload)) l.view x.current x
+        (map_list (λ e. (e.0, scan_left same elect x e.0 e.1)) x.rounds) x.named x.moment s at_view sorted
+        at_parent);
   }
     where
-      at_view : find nat_cmp l.view (map_list (λ e. (e.0, scan_left same elect x e.0 e.1)) x.rounds) ≡ Some (with_work r (being_verified p l.payload))
+      at_view : find nat_cmp l.view (map_list (λ e. (e.0, scan_left same elect x e.0 e.1)) x.rounds) ≡ Some
+          (with_work r (being_verified p l.payload))
       at_view = find-changed (scan_left same elect x) l.view x.rounds ∙ rw (s.here, scanned_here, stands_ready) refl
 
       sorted : T (is_sorted nat_cmp (map_list (λ e. (e.0, scan_left same elect x e.0 e.1)) x.rounds))
       sorted = subst T (sym (sorted-changed (scan_left same elect x) x.rounds)) s.ordered
 
-      at_parent : find nat_cmp l.parent (map_list (λ e. (e.0, scan_left same elect x e.0 e.1)) x.rounds) ≡ round_at x l.parent
+      at_parent : find nat_cmp l.parent (map_list (λ e. (e.0, scan_left same elect x e.0 e.1)) x.rounds) ≡ round_at x
+          l.parent
       at_parent = find-changed (scan_left same elect x) l.parent x.rounds ∙ by_found (round_at x l.parent)
         where
           by_found : (f : Option (RoundFacts K D)) → option_map (scan_left same elect x l.parent) f ≡ f

@@ -31,23 +31,37 @@ module _ {K L D : Type 0} (same : D → D → Bool) (elect : Elect L) where
     pub does : trace_of_steps steps replies ≡ trace
 
   -- a living member answers a call that is allowed and not refused
-  pub answered : (m : MemberFacts K L D) (x : StateFacts K L D) (call : CallFacts D) → m.life ≡ Some x → is_allowed x m.outstanding_work call ≡ true → fault_of x call ≡ None → IsCall same elect m call (answer same elect x m.outstanding_work call) (with_call same elect x m call)
+  pub answered : (m : MemberFacts K L D) (x : StateFacts K L D) (call : CallFacts D) → m.life ≡ Some x
+      → is_allowed x m.outstanding_work call ≡ true → fault_of x call ≡ None
+      → IsCall same elect m call (answer same elect x m.outstanding_work call) (with_call same elect x m call)
   unfolding IsCall
-  answered m x call alive allowed none = subst (λ life. AnswersAlive same elect life m call (answer same elect x m.outstanding_work call) (with_call same elect x m call)) (sym alive) (inl (rw (allowed, none) refl, rw (allowed, none) refl))
+  answered m x call alive allowed none = subst
+      (λ life. AnswersAlive same elect life m call (answer same elect x m.outstanding_work call)
+      (with_call same elect x m call)) (sym alive) (inl (rw (allowed, none) refl, rw (allowed, none) refl))
 
   -- calls run one after another, each with its trace
   unfoldable pub Sequence : MemberFacts K L D → List (CallFacts D × List (TraceEvent D)) → Type 0
   Sequence m [] = Unit {0}
-  Sequence m (e ∷ rest) = (told : ReplyFacts K D) × (next : MemberFacts K L D) × IsCall same elect m e.0 told next × (trace_of_call e.0 told ≡ e.1) × Sequence next rest
+  Sequence m (e ∷ rest) = (told : ReplyFacts K D) × (next : MemberFacts K L D) × IsCall same elect m e.0 told next
+      × (trace_of_call e.0 told ≡ e.1) × Sequence next rest
 
   pub ends_there : (m : MemberFacts K L D) → Sequence m []
   unfolding Sequence
   ends_there m = tt
 
-  pub call_then : (m : MemberFacts K L D) (x : StateFacts K L D) (call : CallFacts D) (told : ReplyFacts K D) (rest : List (CallFacts D × List (TraceEvent D))) → m.life ≡ Some x → is_allowed x m.outstanding_work call ≡ true → fault_of x call ≡ None → answer same elect x m.outstanding_work call ≡ told
+  pub call_then : (m : MemberFacts K L D) (x : StateFacts K L D) (call : CallFacts D) (told : ReplyFacts K D)
+      (rest : List (CallFacts D × List (TraceEvent D))) → m.life ≡ Some x → is_allowed x m.outstanding_work call ≡ true
+      → fault_of x call ≡ None → answer same elect x m.outstanding_work call ≡ told
       → Sequence (with_call same elect x m call) rest → Sequence m ((call, trace_of_call call told) ∷ rest)
   unfolding Sequence
-  call_then m x call told rest alive allowed none says behind = (told, with_call same elect x m call, subst (λ t. IsCall same elect m call t (with_call same elect x m call)) says (answered m x call alive allowed none), refl, behind)
+  call_then m x call told rest alive allowed none says behind = (
+    told,
+    with_call same elect x m call,
+    subst (λ t. IsCall same elect m call t (with_call same elect x m call)) says
+        (answered m x call alive allowed none),
+    refl,
+    behind,
+  )
 
 -- what a trace calls, and does
 module _ {D : Type 0} where
@@ -62,9 +76,11 @@ module _ {D : Type 0} where
   calls_joined [] b = refl
   calls_joined (e ∷ a) b = ap (λ cs. e.0 ∷ cs) (calls_joined a b)
 
-  pub traces_together : (a b : List (CallFacts D × List (TraceEvent D))) → whole_trace (a ++ b) ≡ whole_trace a ++ whole_trace b
+  pub traces_together : (a b : List (CallFacts D × List (TraceEvent D)))
+      → whole_trace (a ++ b) ≡ whole_trace a ++ whole_trace b
   traces_together [] b = refl
-  traces_together (e ∷ a) b = ap (λ ds. e.1 ++ ds) (traces_together a b) ∙ sym (append_assoc e.1 (whole_trace a) (whole_trace b))
+  traces_together (e ∷ a) b = ap (λ ds. e.1 ++ ds) (traces_together a b)
+      ∙ sym (append_assoc e.1 (whole_trace a) (whole_trace b))
 
 module _ {K L D : Type 0} (same : D → D → Bool) (elect : Elect L) where
   -- the first of two traces runs, and leaves the second
@@ -75,14 +91,22 @@ module _ {K L D : Type 0} (same : D → D → Bool) (elect : Elect L) where
     pub does : trace_of_steps {L = L} (map Calls (calls_in a)) replies ≡ whole_trace a
     pub rest : Sequence same elect end b
 
-  pub parted : (a b : List (CallFacts D × List (TraceEvent D))) (m : MemberFacts K L D) → Sequence same elect m (a ++ b) → Parted m a b
+  pub parted : (a b : List (CallFacts D × List (TraceEvent D))) (m : MemberFacts K L D) → Sequence same elect m (a ++ b)
+      → Parted m a b
   unfolding Sequence
   parted [] b m sequence = record { replies = []; end = m; run = refl; does = refl; rest = sequence }
   parted (e ∷ a) b m (told, next, is_call, done, sequence) =
       let more = parted a b next sequence in
-      record { replies = told ∷ more.replies; end = more.end; run = (next, is_call, more.run); does = λ i. done i ++ more.does i; rest = more.rest }
+      record {
+        replies = told ∷ more.replies;
+        end = more.end;
+        run = (next, is_call, more.run);
+        does = λ i. done i ++ more.does i;
+        rest = more.rest;
+      }
 
-  pub does_of : (a : List (CallFacts D × List (TraceEvent D))) (m : MemberFacts K L D) → Sequence same elect m a → Does same elect m (map Calls (calls_in a)) (whole_trace a)
+  pub does_of : (a : List (CallFacts D × List (TraceEvent D))) (m : MemberFacts K L D) → Sequence same elect m a
+      → Does same elect m (map Calls (calls_in a)) (whole_trace a)
   does_of a m sequence =
       let whole = parted a [] m (subst (Sequence same elect m) (sym (append-nil a)) sequence) in
       record { replies = whole.replies; end = whole.end; run = whole.run; does = whole.does }
@@ -94,15 +118,20 @@ module _ {D : Type 0} (l : StandingMember D) (q : D) (notarization finalization 
 
   -- the notarization comes and is certified, and it votes to finalize
   abbrev pub certifies_now : List (CallFacts D × List (TraceEvent D))
-  certifies_now =
-      (AddNotarization (record { proposal = built_on l q; bytes = notarization }), Accepts (subject.Notarize (built_on l q)) ∷ [])
+  certifies_now = (
+    AddNotarization (record { proposal = built_on l q; bytes = notarization }),
+    Accepts (subject.Notarize (built_on l q)) ∷ [],
+  )
       ∷ (Certified l.view true 0, [])
       ∷ (ConstructFinalize l.view, Signs l.me (subject.Finalize (built_on l q)) ∷ [])
       ∷ []
 
   -- the finalization comes
   abbrev pub finalizes_now : List (CallFacts D × List (TraceEvent D))
-  finalizes_now = (AddFinalization (record { proposal = built_on l q; bytes = finalization }) 0, Accepts (subject.Finalize (built_on l q)) ∷ []) ∷ []
+  finalizes_now = (
+    AddFinalization (record { proposal = built_on l q; bytes = finalization }) 0,
+    Accepts (subject.Finalize (built_on l q)) ∷ [],
+  ) ∷ []
 
   -- a member that does not lead verifies the proposal, and the leader builds it
   abbrev pub verifies_now : List (CallFacts D × List (TraceEvent D))
@@ -130,9 +159,13 @@ trace_done l q =
     ∷ Accepts (subject.Finalize (built_on l q))
     ∷ []
 
-module _ {K L D : Type 0} (same : D → D → Bool) (elect : Elect L) (reflexive : (d : D) → same d d ≡ true) (l : StandingMember D) (q : D) (notarization finalization : List ℕ) where
-  module _ (r : RoundFacts K D) (pending : is_pending r.decision ≡ true) (none : r.finalization ≡ None) (built : Bool) where
-    last_done : (m : MemberFacts K L D) (x : StateFacts K L D) → m.life ≡ Some x → StandsAtView l (with_work r (verified built (built_on l q) l.payload)) l.view x → Sequence same elect m (last_sequence l q notarization finalization)
+module _ {K L D : Type 0} (same : D → D → Bool) (elect : Elect L) (reflexive : (d : D) → same d d ≡ true)
+    (l : StandingMember D) (q : D) (notarization finalization : List ℕ) where
+  module _ (r : RoundFacts K D) (pending : is_pending r.decision ≡ true) (none : r.finalization ≡ None)
+      (built : Bool) where
+    last_done : (m : MemberFacts K L D) (x : StateFacts K L D) → m.life ≡ Some x
+        → StandsAtView l (with_work r (verified built (built_on l q) l.payload)) l.view x
+        → Sequence same elect m (last_sequence l q notarization finalization)
     last_done m x alive s =
         let c : ProposalFacts D = record { proposal = built_on l q; bytes = notarization } in
         let o1 = m.outstanding_work in
@@ -148,16 +181,22 @@ module _ {K L D : Type 0} (same : D → D → Bool) (elect : Elect L) (reflexive
         let x5 : StateFacts K L D = after_call same elect x4 o4 (ConstructFinalize l.view) in
         let final = takes_finalization same elect reflexive l q r pending x5 o4 _ finalization last.leaves in
         let final_told = finalization_told same elect reflexive l q r pending x5 o4 finalization in
-        call_then same elect m x _ _ _ alive vote.allowed vote.no_fault (vote_told same elect reflexive l q r pending x o1 built s)
+        call_then same elect m x _ _ _ alive vote.allowed vote.no_fault
+        (vote_told same elect reflexive l q r pending x o1 built s)
         (call_then same elect _ x2 _ (Added note_told.0 note_told.1) _ refl note.allowed note.no_fault note_told.2
         (call_then same elect _ x3 _ (Judged true _) _ refl verdict.allowed verdict.no_fault refl
-        (call_then same elect _ x4 _ _ _ refl last.allowed last.no_fault (end_told same elect reflexive l q r pending x4 o4 built c none verdict.leaves)
-        (call_then same elect _ x5 _ (Added final_told.0 final_told.1) _ refl final.0 final.1 final_told.2 (ends_there same elect _)))))
+        (call_then same elect _ x4 _ _ _ refl last.allowed last.no_fault
+        (end_told same elect reflexive l q r pending x4 o4 built c none verdict.leaves)
+        (call_then same elect _ x5 _ (Added final_told.0 final_told.1) _ refl final.0 final.1 final_told.2
+        (ends_there same elect _)))))
 
-  module _ (r : RoundFacts K D) (pending : is_pending r.decision ≡ true) (none : r.finalization ≡ None) (lead : Leader K) (leads : r.leader ≡ Some lead)
-      (m : MemberFacts K L D) (x : StateFacts K L D) (alive : m.life ≡ Some x) (s : StandsAtView l (with_work r nothing_done) l.view x) where
+  module _ (r : RoundFacts K D) (pending : is_pending r.decision ≡ true) (none : r.finalization ≡ None)
+      (lead : Leader K) (leads : r.leader ≡ Some lead)
+      (m : MemberFacts K L D) (x : StateFacts K L D) (alive : m.life ≡ Some x)
+      (s : StandsAtView l (with_work r nothing_done) l.view x) where
     -- a member that does not lead verifies the proposal
-    pub follower_done : signs_as r.me lead.idx ≡ false → Sequence same elect m (follower_sequence l q notarization finalization)
+    pub follower_done : signs_as r.me lead.idx ≡ false
+        → Sequence same elect m (follower_sequence l q notarization finalization)
     follower_done other =
         let p = built_on l q in
         let o = m.outstanding_work in
@@ -166,7 +205,10 @@ module _ {K L D : Type 0} (same : D → D → Bool) (elect : Elect L) (reflexive
         let tries = tries_verify same elect reflexive l q r pending lead leads other x1 hears.leaves o in
         let x2 : StateFacts K L D = after_call same elect x1 o TryVerify in
         let o2 = outstanding_work_after same elect x1 o TryVerify in
-        let opened : is_verifying o2 l.view ≡ true = rw (verify_told same elect reflexive l q r pending lead leads other x1 hears.leaves) (among_noted l.view l.view o.verifying ∙ ap (λ b. b || is_among l.view o.verifying) (eq-eqb l.view l.view refl)) in
+        let opened : is_verifying o2 l.view ≡ true =
+        rw (verify_told same elect reflexive l q r pending lead leads other x1 hears.leaves)
+        (among_noted l.view l.view o.verifying
+        ∙ ap (λ b. b || is_among l.view o.verifying) (eq-eqb l.view l.view refl)) in
         let finds = is_verified same elect reflexive l q r pending x2 o2 opened tries.leaves in
         call_then same elect m x _ (Answered _) _ alive hears.allowed hears.no_fault refl
         (call_then same elect _ x1 _ (Standing _) _ refl tries.allowed tries.no_fault refl
@@ -174,13 +216,15 @@ module _ {K L D : Type 0} (same : D → D → Bool) (elect : Elect L) (reflexive
         (last_done r pending none false _ _ refl finds.leaves)))
 
     -- the leader builds it
-    pub leader_done : signs_as r.me lead.idx ≡ true → highest_explicit x l.view ≡ Some (l.parent, l.payload) → Sequence same elect m (leader_sequence l q notarization finalization)
+    pub leader_done : signs_as r.me lead.idx ≡ true → highest_explicit x l.view ≡ Some (l.parent, l.payload)
+        → Sequence same elect m (leader_sequence l q notarization finalization)
     leader_done own builds =
         let o = m.outstanding_work in
         let asks = tries_propose same elect reflexive l q r pending lead leads own x s builds o in
         let x1 : StateFacts K L D = after_call same elect x o TryPropose in
         let o1 = outstanding_work_after same elect x o TryPropose in
-        let makes = builds_it same elect reflexive l q r pending lead leads own x1 asks.leaves o1 (opens same elect reflexive l q r pending lead leads own x s builds o) in
+        let makes = builds_it same elect reflexive l q r pending lead leads own x1 asks.leaves o1
+        (opens same elect reflexive l q r pending lead leads own x s builds o) in
         call_then same elect m x _ (Requested _) _ alive asks.allowed asks.no_fault refl
         (call_then same elect _ x1 _ (Answered _) _ refl makes.allowed makes.no_fault refl
         (last_done (built_at r 0) pending none true _ _ refl makes.leaves))

@@ -37,7 +37,8 @@ or_so false b is = is
 small_below : (p v : ℕ) → p < v → is_too_large v ≡ false → is_too_large p ≡ false
 small_below p v low small = grind (arith, nat_tests)
 
-module _ {K L D : Type 0} (l : StandingMember D) (r : RoundFacts K D) (c : ℕ) (x : StateFacts K L D) (s : StandsAtView l r c x) where
+module _ {K L D : Type 0} (l : StandingMember D) (r : RoundFacts K D) (c : ℕ) (x : StateFacts K L D)
+    (s : StandsAtView l r c x) where
   pub round_is : round_of x l.view ≡ r
   round_is = ap (λ found. unwrap_or found (new_round x.me x.members (round_number x l.view))) s.here
 
@@ -49,32 +50,40 @@ module _ {K L D : Type 0} (l : StandingMember D) (r : RoundFacts K D) (c : ℕ) 
 
   pub no_window : in_issuance_window x l.view ≡ false
   unfolding in_issuance_window
-  no_window = ap (is_open x l.view) (no_floor (l.view == 0) (l.view == term_start x.terms.term_length l.view) (x.terms.optimistic_views == 0) _ starts)
+  no_window = ap (is_open x l.view) (no_floor (l.view == 0) (l.view == term_start x.terms.term_length l.view)
+      (x.terms.optimistic_views == 0) _ starts)
 
   pub no_gap : first_unnullified_view x l.parent l.view ≡ None
   no_gap = absent (first_unnullified_view x l.parent l.view) s.gapless
 
   pub spans_it : has_valid_parent_span x l.view l.parent ≡ true
   unfolding has_valid_parent_span
-  spans_it = and_both _ _ (and_both _ _ (lt-ltb l.parent l.view s.below) (le-leb x.finalized l.parent s.above)) (or_so (l.parent + 1 == l.view) (is_term_start x l.view) starts)
+  spans_it = and_both _ _ (and_both _ _ (lt-ltb l.parent l.view s.below) (le-leb x.finalized l.parent s.above))
+      (or_so (l.parent + 1 == l.view) (is_term_start x l.view) starts)
 
   pub admitted : l.view ≤ c → is_admitted x l.view ≡ true
   unfolding is_admitted
-  admitted low = admitted_now _ _ _ (and_both _ _ (le-leb 1 l.view (omega (arith, s.below))) (le-leb l.view x.current (omega (arith, low, s.current))))
+  admitted low = admitted_now _ _ _ (and_both _ _ (le-leb 1 l.view (omega (arith, s.below)))
+      (le-leb l.view x.current (omega (arith, low, s.current))))
 
   pub takes : l.view ≤ c → takes_round x (record { epoch = l.epoch; view = l.view }) ≡ true
   takes low =
       and_both (is_started x && (l.epoch == x.settings.epoch)) (admits_certificate x l.view)
-      (and_both (is_started x) (l.epoch == x.settings.epoch) (lt-ltb 0 x.current (omega (arith, s.below, low, s.current))) (eq-eqb l.epoch x.settings.epoch (sym s.epoch)))
-      (and_both (nat_le 1 l.view) (nat_le (min_active x) l.view) (le-leb 1 l.view (omega (arith, s.below))) (le-leb (min_active x) l.view (omega (arith, s.above, s.below))))
+      (and_both (is_started x) (l.epoch == x.settings.epoch)
+      (lt-ltb 0 x.current (omega (arith, s.below, low, s.current))) (eq-eqb l.epoch x.settings.epoch (sym s.epoch)))
+      (and_both (nat_le 1 l.view) (nat_le (min_active x) l.view) (le-leb 1 l.view (omega (arith, s.below)))
+      (le-leb (min_active x) l.view (omega (arith, s.above, s.below))))
 
   pub names_small : (q : D) → names_too_large (built_on l q) ≡ false
   names_small q = rw (s.small, small_below l.parent l.view s.below s.small) refl
 
-pub same_self : {D : Type 0} (same : D → D → Bool) (reflexive : (d : D) → same d d ≡ true) (l : StandingMember D) (q : D) → same_proposal same (built_on l q) (built_on l q) ≡ true
-same_self same reflexive l q = rw (eq-eqb l.epoch l.epoch refl, eq-eqb l.view l.view refl, eq-eqb l.parent l.parent refl, reflexive q) refl
+pub same_self : {D : Type 0} (same : D → D → Bool) (reflexive : (d : D) → same d d ≡ true) (l : StandingMember D)
+    (q : D) → same_proposal same (built_on l q) (built_on l q) ≡ true
+same_self same reflexive l q =
+    rw (eq-eqb l.epoch l.epoch refl, eq-eqb l.view l.view refl, eq-eqb l.parent l.parent refl, reflexive q) refl
 
-module _ {K L D : Type 0} (same : D → D → Bool) (elect : Elect L) (reflexive : (d : D) → same d d ≡ true) (l : StandingMember D) where
+module _ {K L D : Type 0} (same : D → D → Bool) (elect : Elect L) (reflexive : (d : D) → same d d ≡ true)
+    (l : StandingMember D) where
   module _ (r : RoundFacts K D) (c : ℕ) (x : StateFacts K L D) (s : StandsAtView l r c x) where
     pub payload_is : ancestry_payload_for_child same elect x l.view l.parent ≡ Some l.payload
     unfolding ancestry_payload_for_child
@@ -84,6 +93,8 @@ module _ {K L D : Type 0} (same : D → D → Bool) (elect : Elect L) (reflexive
     unfolding parent_payload_for
     allowed_parent = rw (spans_it l r c x s, no_gap l r c x s) payload_is
 
-    pub binding_holds : (q : D) → r.slot.held ≡ Some (built_on l q) → r.binding ≡ Some (built_on l q, l.payload) → verification_matches same elect x l.view ≡ true
+    pub binding_holds : (q : D) → r.slot.held ≡ Some (built_on l q) → r.binding ≡ Some (built_on l q, l.payload)
+        → verification_matches same elect x l.view ≡ true
     unfolding verification_matches
-    binding_holds q held bound = rw (s.here, bound, held, same_self same reflexive l q, allowed_parent, reflexive l.payload) refl
+    binding_holds q held bound =
+        rw (s.here, bound, held, same_self same reflexive l q, allowed_parent, reflexive l.payload) refl

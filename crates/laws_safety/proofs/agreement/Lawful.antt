@@ -18,13 +18,15 @@ pub record AllowsNotarize {D : Type 0} (term_length : ℕ) (trace : List (TraceE
 
 pub record AllowsNullify {D : Type 0} (term_length : ℕ) (trace : List (TraceEvent D)) (round : Round) : Type 0 where
   pub not_finalized : (p : Proposal D) → HasSigned trace (subject.Finalize p) → round.view ≢ p.round.view
-  pub ahead : (p : Proposal D) → HasSigned trace (subject.Finalize p) → covers term_length round.view p.round.view ≡ false
+  pub ahead : (p : Proposal D) → HasSigned trace (subject.Finalize p)
+      → covers term_length round.view p.round.view ≡ false
 
 pub record AllowsFinalize {D : Type 0} (term_length : ℕ) (trace : List (TraceEvent D)) (p : Proposal D) : Type 0 where
   pub only : (q : Proposal D) → HasSigned trace (subject.Finalize q) → q.round.view ≢ p.round.view
   pub not_nullified : (round : Round) → HasSigned trace (subject.Nullify round) → round.view ≢ p.round.view
   pub notarized : Contains trace (Accepts (subject.Notarize p))
-  pub past_nullify : (round : Round) → HasSigned trace (subject.Nullify round) → round.view < p.round.view → covers term_length round.view p.round.view ≡ true → HasFinalizedBetween trace round.view p.round.view
+  pub past_nullify : (round : Round) → HasSigned trace (subject.Nullify round) → round.view < p.round.view
+      → covers term_length round.view p.round.view ≡ true → HasFinalizedBetween trace round.view p.round.view
 
 -- one more vote, if any
 abbrev pub Allows : {D : Type 0} → ℕ → List (TraceEvent D) → Option (Subject D) → Type 0
@@ -52,18 +54,22 @@ lawful_start {D} term_length =
     }
 
 -- a trace that keeps the rules and one more event that they allow keep the rules
-pub lawful_push : {D : Type 0} (term_length : ℕ) (trace : List (TraceEvent D)) (trace_event : TraceEvent D) → IsLawful term_length trace → Allows term_length trace (vote_of trace_event) → IsLawful term_length (trace ++ trace_event ∷ [])
+pub lawful_push : {D : Type 0} (term_length : ℕ) (trace : List (TraceEvent D)) (trace_event : TraceEvent D)
+    → IsLawful term_length trace → Allows term_length trace (vote_of trace_event)
+    → IsLawful term_length (trace ++ trace_event ∷ [])
 lawful_push {D} term_length trace trace_event lawful allows =
     record {
       one_notarize = λ before p q at h.
           elim (signed_split trace before trace_event (subject.Notarize p) at) [
             | inl old ↦ lawful.one_notarize before p q old h
-            | inr new ↦ (let a = subst (Allows term_length trace) new.1 allows in a.only q (subst (λ xs. HasSigned xs (subject.Notarize q)) new.0 h))
+            | inr new ↦ (let a = subst (Allows term_length trace) new.1 allows in
+                a.only q (subst (λ xs. HasSigned xs (subject.Notarize q)) new.0 h))
           ];
       one_finalize = λ before p q at h.
           elim (signed_split trace before trace_event (subject.Finalize p) at) [
             | inl old ↦ lawful.one_finalize before p q old h
-            | inr new ↦ (let a = subst (Allows term_length trace) new.1 allows in a.only q (subst (λ xs. HasSigned xs (subject.Finalize q)) new.0 h))
+            | inr new ↦ (let a = subst (Allows term_length trace) new.1 allows in
+                a.only q (subst (λ xs. HasSigned xs (subject.Finalize q)) new.0 h))
           ];
       not_both = λ round p h k.
           elim (signed_push trace trace_event (subject.Nullify round) h) [
@@ -75,25 +81,29 @@ lawful_push {D} term_length trace trace_event lawful allows =
             | inr new_h ↦
                 elim (signed_push trace trace_event (subject.Finalize p) k) [
                   | inl old_k ↦ (let a = subst (Allows term_length trace) new_h allows in a.not_finalized p old_k)
-                  | inr new_k ↦ absurd (let e : Some (subject.Nullify round) ≡ Some (subject.Finalize p) = sym new_h ∙ new_k in cc)
+                  | inr new_k ↦ absurd
+                      (let e : Some (subject.Nullify round) ≡ Some (subject.Finalize p) = sym new_h ∙ new_k in cc)
                 ]
           ];
       finalizes_notarized = λ before p at.
           elim (signed_split trace before trace_event (subject.Finalize p) at) [
             | inl old ↦ lawful.finalizes_notarized before p old
-            | inr new ↦ (let a = subst (Allows term_length trace) new.1 allows in subst (λ xs. Contains xs (Accepts (subject.Notarize p))) (sym new.0) a.notarized)
+            | inr new ↦ (let a = subst (Allows term_length trace) new.1 allows in
+                subst (λ xs. Contains xs (Accepts (subject.Notarize p))) (sym new.0) a.notarized)
           ];
       finalizes_past_nullify = λ before p round at h less covers.
           elim (signed_split trace before trace_event (subject.Finalize p) at) [
             | inl old ↦ lawful.finalizes_past_nullify before p round old h less covers
             | inr new ↦
                 (let a = subst (Allows term_length trace) new.1 allows in
-                subst (λ xs. HasFinalizedBetween xs round.view p.round.view) (sym new.0) (a.past_nullify round (subst (λ xs. HasSigned xs (subject.Nullify round)) new.0 h) less covers))
+                subst (λ xs. HasFinalizedBetween xs round.view p.round.view) (sym new.0)
+                (a.past_nullify round (subst (λ xs. HasSigned xs (subject.Nullify round)) new.0 h) less covers))
           ];
       nullifies_ahead = λ before round p at h.
           elim (signed_split trace before trace_event (subject.Nullify round) at) [
             | inl old ↦ lawful.nullifies_ahead before round p old h
-            | inr new ↦ (let a = subst (Allows term_length trace) new.1 allows in a.ahead p (subst (λ xs. HasSigned xs (subject.Finalize p)) new.0 h))
+            | inr new ↦ (let a = subst (Allows term_length trace) new.1 allows in
+                a.ahead p (subst (λ xs. HasSigned xs (subject.Finalize p)) new.0 h))
           ];
       parent_before = λ before p at.
           elim (signed_split trace before trace_event (subject.Notarize p) at) [
@@ -103,6 +113,7 @@ lawful_push {D} term_length trace trace_event lawful allows =
       gapless = λ before p skipped at low high.
           elim (signed_split trace before trace_event (subject.Notarize p) at) [
             | inl old ↦ lawful.gapless before p skipped old low high
-            | inr new ↦ (let a = subst (Allows term_length trace) new.1 allows in subst (λ xs. HasCover term_length xs skipped) (sym new.0) (a.gapless skipped low high))
+            | inr new ↦ (let a = subst (Allows term_length trace) new.1 allows in
+                subst (λ xs. HasCover term_length xs skipped) (sym new.0) (a.gapless skipped low high))
           ];
     }

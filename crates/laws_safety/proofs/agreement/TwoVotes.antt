@@ -18,7 +18,8 @@ div_mono a b zero h = omega (arith, div-zero a, div-zero b)
 div_mono a b (suc k) h = le-div (a / suc k) b (suc k) (omega arith) (omega (arith, div-mul-le_self a (suc k)))
 
 -- what covers a view covers each view from there to that one
-pub covers_between : (term_length u w v : ℕ) → covers term_length u v ≡ true → u ≤ w → w ≤ v → covers term_length u w ≡ true
+pub covers_between : (term_length u w v : ℕ) → covers term_length u v ≡ true → u ≤ w → w ≤ v
+    → covers term_length u w ≡ true
 covers_between term_length u w v covering low high =
     let parts = covers_parts term_length u v covering in
     let below = mul-le-mul_right term_length (div_mono (u - 1) (w - 1) term_length (omega arith)) in
@@ -29,7 +30,9 @@ notarize_same : {D : Type 0} (p q : Proposal D) → subject.Notarize p ≡ subje
 notarize_same p q e = cc
 
 -- two notarize votes of one member in one view have one proposal
-pub one_notarized : {D : Type 0} (term_length : ℕ) (trace : List (TraceEvent D)) (p q : Proposal D) → IsLawful term_length trace → HasSigned trace (subject.Notarize p) → HasSigned trace (subject.Notarize q) → p.round.view ≡ q.round.view → p ≡ q
+pub one_notarized : {D : Type 0} (term_length : ℕ) (trace : List (TraceEvent D)) (p q : Proposal D)
+    → IsLawful term_length trace → HasSigned trace (subject.Notarize p) → HasSigned trace (subject.Notarize q)
+    → p.round.view ≡ q.round.view → p ≡ q
 one_notarized term_length trace p q lawful has_p has_q same =
     elim (in_order trace (subject.Notarize p) (subject.Notarize q) has_p has_q) [
       | Same e ↦ notarize_same p q e
@@ -41,7 +44,9 @@ finalize_same : {D : Type 0} (p q : Proposal D) → subject.Finalize p ≡ subje
 finalize_same p q e = cc
 
 -- two votes of one member to finalize a view have one proposal
-pub one_finalized : {D : Type 0} (term_length : ℕ) (trace : List (TraceEvent D)) (p q : Proposal D) → IsLawful term_length trace → HasSigned trace (subject.Finalize p) → HasSigned trace (subject.Finalize q) → p.round.view ≡ q.round.view → p ≡ q
+pub one_finalized : {D : Type 0} (term_length : ℕ) (trace : List (TraceEvent D)) (p q : Proposal D)
+    → IsLawful term_length trace → HasSigned trace (subject.Finalize p) → HasSigned trace (subject.Finalize q)
+    → p.round.view ≡ q.round.view → p ≡ q
 one_finalized term_length trace p q lawful has_p has_q same =
     elim (in_order trace (subject.Finalize p) (subject.Finalize q) has_p has_q) [
       | Same e ↦ finalize_same p q e

@@ -12,5 +12,6 @@ module _ {K L D : Type 0} where
     pub some : 0 < term_length
 
   -- so is each that a start begins with
-  pub fresh_state : (term_length : ℕ) (setup : Setup K L) → HasTerms term_length setup → IsNewState term_length (new_state setup)
+  pub fresh_state : (term_length : ℕ) (setup : Setup K L) → HasTerms term_length setup
+      → IsNewState term_length (new_state setup)
   fresh_state term_length setup has = record { fresh = refl; terms = has.terms; some = has.some }

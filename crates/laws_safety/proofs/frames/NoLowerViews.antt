@@ -30,13 +30,24 @@ pub record UnchangedOrHigher {K L D : Type 0} (x y : StateFacts K L D) : Type 0 
 
 module _ {K L D : Type 0} where
   pub goes_still : (x : StateFacts K L D) → UnchangedOrHigher x x
-  goes_still x = record { failed = refl; settings = refl; me = refl; members = refl; elector = refl; terms = refl; elects_early = refl; current = omega arith; finalized = omega arith }
+  goes_still x = record {
+    failed = refl;
+    settings = refl;
+    me = refl;
+    members = refl;
+    elector = refl;
+    terms = refl;
+    elects_early = refl;
+    current = omega arith;
+    finalized = omega arith;
+  }
 
   pub never_fell : (x : StateFacts K L D) → NeverFalls x x
   never_fell x = record { current = omega arith; finalized = omega arith }
 
   pub falls_never : (x y z : StateFacts K L D) → NeverFalls x y → NeverFalls y z → NeverFalls x z
-  falls_never x y z p q = record { current = omega (arith, p.current, q.current); finalized = omega (arith, p.finalized, q.finalized) }
+  falls_never x y z p q =
+      record { current = omega (arith, p.current, q.current); finalized = omega (arith, p.finalized, q.finalized) }
 
   pub never_falls : (x y : StateFacts K L D) → UnchangedOrHigher x y → NeverFalls x y
   never_falls x y goes = record { current = goes.current; finalized = goes.finalized }
@@ -47,30 +58,69 @@ module _ {K L D : Type 0} where
       let retention = ap (λ s. s.view_retention) goes.settings in
       omega (arith, goes.finalized, retention)
 
-module _ {K L D : Type 0} (same : D → D → Bool) (elect : Elect L) (begun : StateFacts K L D) (e : Event K D) (low : ℕ) where
-  pub step_goes : (x y z : StateFacts K L D) → Step same elect begun e low y z → UnchangedOrHigher x y → UnchangedOrHigher x z
-  step_goes x y z (Reaches v above timed) p = record { failed = p.failed; settings = p.settings; me = p.me; members = p.members; elector = p.elector; terms = p.terms; elects_early = p.elects_early; current = omega (arith, p.current); finalized = p.finalized }
-  step_goes x y z (Raises v says above) p = record { failed = p.failed; settings = p.settings; me = p.me; members = p.members; elector = p.elector; terms = p.terms; elects_early = p.elects_early; current = p.current; finalized = omega (arith, p.finalized) }
-  step_goes x y z _ p = record { failed = p.failed; settings = p.settings; me = p.me; members = p.members; elector = p.elector; terms = p.terms; elects_early = p.elects_early; current = p.current; finalized = p.finalized }
+module _ {K L D : Type 0} (same : D → D → Bool) (elect : Elect L) (begun : StateFacts K L D) (e : Event K D)
+    (low : ℕ) where
+  pub step_goes : (x y z : StateFacts K L D) → Step same elect begun e low y z → UnchangedOrHigher x y
+      → UnchangedOrHigher x z
+  step_goes x y z (Reaches v above timed) p =
+      record {
+        failed = p.failed;
+        settings = p.settings;
+        me = p.me;
+        members = p.members;
+        elector = p.elector;
+        terms = p.terms;
+        elects_early = p.elects_early;
+        current = omega (arith, p.current);
+        finalized = p.finalized;
+      }
+  step_goes x y z (Raises v says above) p =
+      record {
+        failed = p.failed;
+        settings = p.settings;
+        me = p.me;
+        members = p.members;
+        elector = p.elector;
+        terms = p.terms;
+        elects_early = p.elects_early;
+        current = p.current;
+        finalized = omega (arith, p.finalized);
+      }
+  step_goes x y z _ p = record {
+    failed = p.failed;
+    settings = p.settings;
+    me = p.me;
+    members = p.members;
+    elector = p.elector;
+    terms = p.terms;
+    elects_early = p.elects_early;
+    current = p.current;
+    finalized = p.finalized;
+  }
 
   pub goes_along : (x y : StateFacts K L D) → Path same elect begun e low x y → UnchangedOrHigher x y
   goes_along x y path = along same elect begun e low (UnchangedOrHigher x) (step_goes x) x y path (goes_still x)
 
 module _ {K L D : Type 0} (same : D → D → Bool) (elect : Elect L) (x : StateFacts K L D) where
   pub event_goes : (e : Event K D) → UnchangedOrHigher x (after_event same elect x e)
-  event_goes e = goes_along same elect x e 0 x (after_event same elect x e) (event_path same elect 0 x e (omega arith) (asked_of_all x e))
+  event_goes e = goes_along same elect x e 0 x (after_event same elect x e)
+      (event_path same elect 0 x e (omega arith) (asked_of_all x e))
 
   -- the last finalized view is the one before or the event's
-  pub event_finalizes : (e : Event K D) → (after_event same elect x e).finalized ≤ max x.finalized (finalized_by_event e)
-  event_finalizes e = along same elect x e 0 (λ y. y.finalized ≤ max x.finalized (finalized_by_event e)) keeps x (after_event same elect x e) (event_path same elect 0 x e (omega arith) (asked_of_all x e)) (omega arith)
+  pub event_finalizes : (e : Event K D) → (after_event same elect x e).finalized ≤ max x.finalized
+      (finalized_by_event e)
+  event_finalizes e = along same elect x e 0 (λ y. y.finalized ≤ max x.finalized (finalized_by_event e)) keeps x
+      (after_event same elect x e) (event_path same elect 0 x e (omega arith) (asked_of_all x e)) (omega arith)
     where
-      keeps : (y z : StateFacts K L D) → Step same elect x e 0 y z → y.finalized ≤ max x.finalized (finalized_by_event e) → z.finalized ≤ max x.finalized (finalized_by_event e)
+      keeps : (y z : StateFacts K L D) → Step same elect x e 0 y z
+          → y.finalized ≤ max x.finalized (finalized_by_event e) → z.finalized ≤ max x.finalized (finalized_by_event e)
       keeps y z (Raises v says above) p = omega (arith, says)
       keeps y z _ p = p
 
 module _ {K L D : Type 0} (same : D → D → Bool) (elect : Elect L) (x : StateFacts K L D) where
   pub call_goes : (o : OutstandingWork K D) (call : CallFacts D) → UnchangedOrHigher x (after_call same elect x o call)
-  call_goes o call = call_by_any same elect x o (UnchangedOrHigher x) (goes_still x) (λ e. event_goes same elect x e) call
+  call_goes o call = call_by_any same elect x o (UnchangedOrHigher x) (goes_still x) (λ e. event_goes same elect x e)
+      call
 
 -- finalizations
 
@@ -83,7 +133,12 @@ raised_reaches x v = raises (nat_lt x.finalized v) refl
 
 module _ {K L D : Type 0} (same : D → D → Bool) (elect : Elect L) (x : StateFacts K L D) (now : ℕ) where
   -- a finalization is no higher than the finalized view then
-  pub finalization_passes : (c : ProposalFacts D) → c.proposal.round.view ≤ (after_add_finalization same elect x c now).finalized
+  pub finalization_passes : (c : ProposalFacts D)
+      → c.proposal.round.view ≤ (after_add_finalization same elect x c now).finalized
   finalization_passes c =
       let e : Event K D = AddFinalization c now in
-      omega (arith, (goes_along same elect x e 0 _ _ (from_raised c now refl (omega arith) Still)).finalized, raised_reaches (at_moment x now) c.proposal.round.view)
+      omega (
+        arith,
+        (goes_along same elect x e 0 _ _ (from_raised c now refl (omega arith) Still)).finalized,
+        raised_reaches (at_moment x now) c.proposal.round.view,
+      )

@@ -26,12 +26,14 @@ module _ {V : Type 0} where
         | inr later ↦ first_below k es e parts.1 later
       ]
 
-  pub found_in_order : (es : List (ℕ × V)) (e : ℕ × V) → T (is_sorted nat_cmp es) → Contains es e → find nat_cmp e.0 es ≡ Some e.1
+  pub found_in_order : (es : List (ℕ × V)) (e : ℕ × V) → T (is_sorted nat_cmp es) → Contains es e
+      → find nat_cmp e.0 es ≡ Some e.1
   found_in_order [] e sorted h = absurd (omega (arith, h.1))
   found_in_order (f ∷ es) e sorted h =
       let parts = both_true (below_all nat_cmp f.0 es) (is_sorted nat_cmp es) sorted in
       elim (Contains-cases f es e h) [
-        | inl here ↦ rw (is_eq-nat_cmp e.0 f.0, eq-eqb e.0 f.0 (ap (λ (g : ℕ × V). g.0) (sym here))) (ap (λ (g : ℕ × V). Some g.1) here)
+        | inl here ↦ rw (is_eq-nat_cmp e.0 f.0, eq-eqb e.0 f.0 (ap (λ (g : ℕ × V). g.0) (sym here)))
+            (ap (λ (g : ℕ × V). Some g.1) here)
         | inr later ↦
             (let lower = first_below f.0 es e parts.0 later in
             rw (is_eq-nat_cmp e.0 f.0, ne_eqb e.0 f.0 (omega (arith, lower))) (found_in_order es e parts.1 later))

@@ -3,7 +3,8 @@ use Rattle.std.proofs.Common.{◌≡◌, ◌⊎◌, inl, inr, zero, suc, List, [
 use Rattle.std.proofs.lemmas.List.Elements.{Contains-append_right}
 
 -- an element of a longer list is in the shorter one or is the new one
-pub push_split : {X : Type 0} (xs before after : List X) (y x : X) → xs ++ y ∷ [] ≡ before ++ x ∷ after → ((rest : List X) × (xs ≡ before ++ x ∷ rest)) ⊎ ((before ≡ xs) × (y ≡ x))
+pub push_split : {X : Type 0} (xs before after : List X) (y x : X) → xs ++ y ∷ [] ≡ before ++ x ∷ after
+    → ((rest : List X) × (xs ≡ before ++ x ∷ rest)) ⊎ ((before ≡ xs) × (y ≡ x))
 push_split [] [] after y x e = inr (refl, cc)
 push_split [] (b ∷ []) after y x e = absurd (cc)
 push_split [] (b ∷ (c ∷ before)) after y x e = absurd (cc)

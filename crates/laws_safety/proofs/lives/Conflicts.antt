@@ -22,22 +22,26 @@ pub record ConflictsLast {K L D : Type 0} (replies : List (ReplyFacts K D)) (x y
   pub conflicts : ConflictsStay replies x y
 
 module _ {K D : Type 0} where
-  more_dropped : (told : ReplyFacts K D) (replies : List (ReplyFacts K D)) (v : ℕ) → WasDropped replies v → WasDropped (told ∷ replies) v
+  more_dropped : (told : ReplyFacts K D) (replies : List (ReplyFacts K D)) (v : ℕ) → WasDropped replies v
+      → WasDropped (told ∷ replies) v
   more_dropped told replies v (views, there, among) = (views, Contains-cons_rest told replies _ there, among)
 
-  first_dropped : (told : ReplyFacts K D) (replies : List (ReplyFacts K D)) (v : ℕ) → WasDropped (told ∷ []) v → WasDropped (told ∷ replies) v
+  first_dropped : (told : ReplyFacts K D) (replies : List (ReplyFacts K D)) (v : ℕ) → WasDropped (told ∷ []) v
+      → WasDropped (told ∷ replies) v
   first_dropped told replies v (views, there, among) = (views, Contains-append_left (told ∷ []) replies _ there, among)
 
 module _ {K L D : Type 0} where
   pub keeps : (replies : List (ReplyFacts K D)) (x : StateFacts K L D) → ConflictsLast replies x x
   keeps replies x = record { floor = omega arith; conflicts = λ v is. inl is }
 
-  pub keeps_on : (told : ReplyFacts K D) (replies : List (ReplyFacts K D)) (x y z : StateFacts K L D) → ConflictsLast (told ∷ []) x y → ConflictsLast replies y z → ConflictsLast (told ∷ replies) x z
+  pub keeps_on : (told : ReplyFacts K D) (replies : List (ReplyFacts K D)) (x y z : StateFacts K L D)
+      → ConflictsLast (told ∷ []) x y → ConflictsLast replies y z → ConflictsLast (told ∷ replies) x z
   keeps_on told replies x y z p q = record { floor = omega (arith, p.floor, q.floor); conflicts = conflicts }
     where
       conflicts : ConflictsStay (told ∷ replies) x z
       conflicts v is = elim (p.conflicts v is) [
-        | inr pruned ↦ inr (record { dropped = first_dropped told replies v pruned.dropped; below = omega (arith, pruned.below, q.floor) })
+        | inr pruned ↦ inr (record
+            { dropped = first_dropped told replies v pruned.dropped; below = omega (arith, pruned.below, q.floor) })
         | inl stays ↦ elim (q.conflicts v stays) [
           | inl still ↦ inl still
           | inr pruned ↦ inr (record { dropped = more_dropped told replies v pruned.dropped; below = pruned.below })
@@ -45,7 +49,8 @@ module _ {K L D : Type 0} where
       ]
 
 module _ {K L D : Type 0} (same : D → D → Bool) (elect : Elect L) where
-  call_keeps : (call : CallFacts D) (x : StateFacts K L D) (o : OutstandingWork K D) → is_allowed x o call ≡ true → ConflictsLast (answer same elect x o call ∷ []) x (after_call same elect x o call)
+  call_keeps : (call : CallFacts D) (x : StateFacts K L D) (o : OutstandingWork K D) → is_allowed x o call ≡ true
+      → ConflictsLast (answer same elect x o call ∷ []) x (after_call same elect x o call)
   call_keeps call x o allowed = record { floor = floor; conflicts = conflicts }
     where
       floor : min_active x ≤ min_active (after_call same elect x o call)
@@ -54,21 +59,28 @@ module _ {K L D : Type 0} (same : D → D → Bool) (elect : Elect L) where
       conflicts : ConflictsStay (answer same elect x o call ∷ []) x (after_call same elect x o call)
       conflicts v is = elim (call_lasts same elect x o call allowed v) [
         | inl lasts ↦ inl (lasts.conflict is)
-        | inr drops ↦ inr (record { dropped = drops.dropped (tracked_by x v (λ r. r.slot.conflict) refl is); below = omega (arith, drops.gone.below, floor) })
+        | inr drops ↦ inr (record {
+          dropped = drops.dropped (tracked_by x v (λ r. r.slot.conflict) refl is);
+          below = omega (arith, drops.gone.below, floor);
+        })
       ]
 
-  told_keeps : (m : MemberFacts K L D) (call : CallFacts D) (told : ReplyFacts K D) (left : MemberFacts K L D) → IsCall same elect m call told left → WhileAlive (ConflictsLast (told ∷ [])) m.life left.life
+  told_keeps : (m : MemberFacts K L D) (call : CallFacts D) (told : ReplyFacts K D) (left : MemberFacts K L D)
+      → IsCall same elect m call told left → WhileAlive (ConflictsLast (told ∷ [])) m.life left.life
   told_keeps =
       each_call same elect (λ call told. ConflictsLast (told ∷ []))
       (λ call fault x. keeps (Refused fault ∷ []) x) (λ call x. keeps (NotAllowed ∷ []) x)
       (λ call x o allowed. call_keeps call x o allowed)
 
-  pub life_keeps : (m end : MemberFacts K L D) (calls : List (CallFacts D)) (replies : List (ReplyFacts K D)) → IsLifetime same elect m calls replies end → WhileAlive (ConflictsLast replies) m.life end.life
-  life_keeps m end [] [] life = subst (λ n. WhileAlive (ConflictsLast []) m.life n.life) life (alive_still (ConflictsLast []) m.life (λ x. keeps [] x))
+  pub life_keeps : (m end : MemberFacts K L D) (calls : List (CallFacts D)) (replies : List (ReplyFacts K D))
+      → IsLifetime same elect m calls replies end → WhileAlive (ConflictsLast replies) m.life end.life
+  life_keeps m end [] [] life = subst (λ n. WhileAlive (ConflictsLast []) m.life n.life) life
+      (alive_still (ConflictsLast []) m.life (λ x. keeps [] x))
   life_keeps m end [] (told ∷ replies) life = absurd life
   life_keeps m end (call ∷ calls) [] life = absurd life
   life_keeps m end (call ∷ calls) (told ∷ replies) (next, is_call, rest) =
-      alive_joined (ConflictsLast (told ∷ [])) (ConflictsLast replies) (ConflictsLast (told ∷ replies)) m.life next.life end.life
+      alive_joined (ConflictsLast (told ∷ [])) (ConflictsLast replies) (ConflictsLast (told ∷ replies)) m.life next.life
+      end.life
       (λ x y z p q. keeps_on told replies x y z p q)
       (told_keeps m call told next is_call)
       (life_keeps next end calls replies rest)

@@ -29,7 +29,8 @@ Reply = ReplyFacts ℕ ℕ
 -- begun at genesis, in terms of this many views
 abbrev begun_in : ℕ → State
 begun_in term_length =
-    after_set_floor nat_eq in_turn (new_facts (record settings { view_retention = 5 }) (Some 0) (0 ∷ 1 ∷ 2 ∷ 3 ∷ []) 1 (record { term_length = term_length; optimistic_views = 0; stall_timeout = None }) true) (Genesis 0) 0
+    after_set_floor nat_eq in_turn (new_facts (record settings { view_retention = 5 }) (Some 0) (0 ∷ 1 ∷ 2 ∷ 3 ∷ []) 1
+    (record { term_length = term_length; optimistic_views = 0; stall_timeout = None }) true) (Genesis 0) 0
 
 -- the state after allowed calls, and their replies; no reply depends on the open requests
 abbrev after_all : State → List Call → State
@@ -37,7 +38,8 @@ after_all x calls = fold (λ y call. after_call nat_eq in_turn y no_outstanding_
 
 abbrev replies_from : State → List Call → List Reply
 replies_from x [] = []
-replies_from x (call ∷ calls) = answer nat_eq in_turn x no_outstanding_work call ∷ replies_from (after_call nat_eq in_turn x no_outstanding_work call) calls
+replies_from x (call ∷ calls) = answer nat_eq in_turn x no_outstanding_work call ∷ replies_from
+    (after_call nat_eq in_turn x no_outstanding_work call) calls
 
 abbrev after : List Call → State
 after calls = after_all (begun_in 1) calls
@@ -78,11 +80,13 @@ conflict : has_conflict (after contradicted) 1 ≡ true
 conflict = refl
 
 -- a prune drops no retained view
-still_kept : has_conflict (after (AddNotarization (certificate 1 0) ∷ AddFinalization (certificate 1 9) 0 ∷ Prune ∷ [])) 1 ≡ true
+still_kept : has_conflict (after (AddNotarization (certificate 1 0) ∷ AddFinalization (certificate 1 9) 0 ∷ Prune ∷ []))
+    1 ≡ true
 still_kept = refl
 
 abbrev far : List Call
-far = AddNotarization (certificate 1 0) ∷ AddFinalization (certificate 1 9) 0 ∷ AddFinalization (certificate 20 0) 0 ∷ []
+far = AddNotarization (certificate 1 0) ∷ AddFinalization (certificate 1 9) 0 ∷ AddFinalization (certificate 20 0) 0
+    ∷ []
 
 still_there : has_conflict (after far) 1 ≡ true
 still_there = refl
@@ -91,7 +95,8 @@ told_dropped : prune_answer (after far) ≡ 1 ∷ 2 ∷ []
 told_dropped = refl
 
 abbrev pruned : State
-pruned = after (AddNotarization (certificate 1 0) ∷ AddFinalization (certificate 1 9) 0 ∷ AddFinalization (certificate 20 0) 0 ∷ Prune ∷ [])
+pruned = after (AddNotarization (certificate 1 0) ∷ AddFinalization (certificate 1 9) 0 ∷ AddFinalization
+    (certificate 20 0) 0 ∷ Prune ∷ [])
 
 conflict_gone : has_conflict pruned 1 ≡ false
 conflict_gone = refl
@@ -111,7 +116,8 @@ not_again = refl
 abbrev seen_twice : State
 seen_twice = after_all (begun_in 1) (SetProposal 1 (proposal 1 0 7) ∷ SetProposal 1 (proposal 1 0 9) ∷ [])
 
-one_seen : has_conflict (after_all (begun_in 1) (SetProposal 1 (proposal 1 0 7) ∷ SetProposal 1 (proposal 1 0 7) ∷ [])) 1 ≡ false
+one_seen : has_conflict (after_all (begun_in 1) (SetProposal 1 (proposal 1 0 7) ∷ SetProposal 1 (proposal 1 0 7) ∷ []))
+    1 ≡ false
 unfolding in_issuance_window
 one_seen = refl
 
@@ -119,7 +125,8 @@ two_seen : has_conflict seen_twice 1 ≡ true
 unfolding in_issuance_window
 two_seen = refl
 
-never_settled : has_conflict (after_all seen_twice (Verified 1 ∷ SetProposal 1 (proposal 1 0 7) ∷ ReleaseProposalRequest 1 ∷ [])) 1 ≡ true
+never_settled : has_conflict
+    (after_all seen_twice (Verified 1 ∷ SetProposal 1 (proposal 1 0 7) ∷ ReleaseProposalRequest 1 ∷ [])) 1 ≡ true
 unfolding in_issuance_window verification_matches
 never_settled = refl
 
@@ -129,7 +136,8 @@ abbrev dropping : List Call
 dropping = AddFinalization (certificate 20 0) 0 ∷ Prune ∷ []
 
 abbrev nullified_then : List Call
-nullified_then = AddFinalization (certificate 20 0) 0 ∷ Prune ∷ AddNullification (record { round = record { epoch = 1; view = 16 }; bytes = [] }) 0 ∷ []
+nullified_then = AddFinalization (certificate 20 0) 0 ∷ Prune ∷ AddNullification
+    (record { round = record { epoch = 1; view = 16 }; bytes = [] }) 0 ∷ []
 
 dropped : is_tracked (after_all (begun_in 1) dropping) 1 ≡ false
 dropped = refl

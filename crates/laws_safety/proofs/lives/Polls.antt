@@ -1,5 +1,6 @@
 -- For `current_views_time_out`.
--- The current view of each state of a run times out: it is neither certified nor decided to be finalized, since such a view is
+-- The current view of each state of a run times out: it is neither certified nor decided to be finalized, since such a
+-- view is
 -- left. So no poll of a living member is refused but for its moment.
 use Rattle.std.proofs.Common.{◌≡◌, refl, ap, sym, ◌∙◌, subst, ℕ, ◌+◌, ◌<◌, inl, inr, Bool, true, false, ◌&&◌, ◌||◌, not, if◌then◌else◌, List, [], ◌∷◌, ◌++◌, Option, Some, None, is_some, unwrap_or, option_map, arith}
 use Rattle.std.specs.Option.{option_map_or}
@@ -28,7 +29,9 @@ use Rattle.laws_safety.proofs.lives.ViewTimeouts.{TimesOut as Timed, floor_times
 use Rattle.laws_safety.proofs.records.RunsLawful.{LivesOn, MemberLives, step_lives, run_lives, start_lives}
 
 -- a view that is certified or decided to be finalized lies below the current one
-has_its_timeout : {K L D : Type 0} (term_length : ℕ) (trace : List (TraceEvent D)) (closed kept : ℕ) (entries : List (ArtifactFacts D)) (o : OutstandingWork K D) (x : StateFacts K L D) → Timed x → LivesOn term_length trace closed kept entries o (Some x) → has_timeout x ≡ true
+has_its_timeout : {K L D : Type 0} (term_length : ℕ) (trace : List (TraceEvent D)) (closed kept : ℕ)
+    (entries : List (ArtifactFacts D)) (o : OutstandingWork K D) (x : StateFacts K L D) → Timed x
+    → LivesOn term_length trace closed kept entries o (Some x) → has_timeout x ≡ true
 has_its_timeout term_length trace closed kept entries o x timed lives =
     let here = lives.keeps.stays.stands.rounds x.current in
     elim (says_timeout x timed) [
@@ -45,11 +48,16 @@ some_mapped f (Some a) is = (f a, refl)
 
 module _ {K D : Type 0} (r : RoundFacts K D) (now interval : ℕ) (allow : Bool) where
   -- a view that has a timeout has one once its retry is set
-  retried : (awaits_retry r || is_some (round_timeout r allow)) ≡ true → is_some (round_timeout (with_retry r now interval) allow) ≡ true
+  retried : (awaits_retry r || is_some (round_timeout r allow)) ≡ true
+      → is_some (round_timeout (with_retry r now interval) allow) ≡ true
   retried due = by_retry (awaits_retry r) refl due
     where
-      by_retry : (b : Bool) → awaits_retry r ≡ b → (b || is_some (round_timeout r allow)) ≡ true → is_some (round_timeout (if b then record r { decision = decision.Nullify (Some (now + interval)) } else r) allow) ≡ true
-      by_retry true awaits some = let unfinalized = not_true (is_some r.finalization) (and_parts (not (is_some r.finalization)) (has_no_retry r.decision) awaits).0 in rw unfinalized refl
+      by_retry : (b : Bool) → awaits_retry r ≡ b → (b || is_some (round_timeout r allow)) ≡ true
+          → is_some (round_timeout (if b then record r { decision = decision.Nullify (Some (now + interval)) } else r)
+          allow) ≡ true
+      by_retry true awaits some = let unfinalized =
+          not_true (is_some r.finalization)
+          (and_parts (not (is_some r.finalization)) (has_no_retry r.decision) awaits).0 in rw unfinalized refl
       by_retry false awaits some = some
 
 module _ {K L D : Type 0} (x : StateFacts K L D) (now : ℕ) where
@@ -57,28 +65,41 @@ module _ {K L D : Type 0} (x : StateFacts K L D) (now : ℕ) where
   polled due = by_round (round_at x x.current) refl due
     where
       Answers : RoundFacts K D → Type 0
-      Answers r = (moment : ℕ × TimeoutReason) × (option_map (or_stalled (stall_deadline x) now) (round_timeout (with_retry r now x.settings.timeout_retry) (has_skip_budget x)) ≡ Some moment)
+      Answers r = (moment : ℕ × TimeoutReason)
+          × (option_map (or_stalled (stall_deadline x) now)
+          (round_timeout (with_retry r now x.settings.timeout_retry) (has_skip_budget x)) ≡ Some moment)
 
-      by_round : (o : Option (RoundFacts K D)) → round_at x x.current ≡ o → option_map_or (λ r. awaits_retry r || is_some (round_timeout r (has_skip_budget x))) o false ≡ true → Answers (round_of x x.current)
+      by_round : (o : Option (RoundFacts K D)) → round_at x x.current ≡ o
+          → option_map_or (λ r. awaits_retry r || is_some (round_timeout r (has_skip_budget x))) o false ≡ true
+          → Answers (round_of x x.current)
       by_round None untracked some = absurd (false≢true some)
-      by_round (Some r) there some = subst Answers (sym (ap (λ o. unwrap_or o (new_round x.me x.members (round_number x x.current))) there))
-          (some_mapped (or_stalled (stall_deadline x) now) (round_timeout (with_retry r now x.settings.timeout_retry) (has_skip_budget x)) (retried r now x.settings.timeout_retry (has_skip_budget x) some))
+      by_round (Some r) there some = subst Answers
+          (sym (ap (λ o. unwrap_or o (new_round x.me x.members (round_number x x.current))) there))
+          (some_mapped (or_stalled (stall_deadline x) now)
+          (round_timeout (with_retry r now x.settings.timeout_retry) (has_skip_budget x))
+          (retried r now x.settings.timeout_retry (has_skip_budget x) some))
 
 module _ {K L D : Type 0} (same : D → D → Bool) (elect : Elect L) where
-  poll_answered : (m next : MemberFacts K L D) (now : ℕ) (told : ReplyFacts K D) → ((x : StateFacts K L D) → m.life ≡ Some x → has_timeout x ≡ true) → IsCall same elect m (NextTimeout now) told next → PollIsAnswered {L = L} (Calls (NextTimeout now)) told
+  poll_answered : (m next : MemberFacts K L D) (now : ℕ) (told : ReplyFacts K D)
+      → ((x : StateFacts K L D) → m.life ≡ Some x → has_timeout x ≡ true)
+      → IsCall same elect m (NextTimeout now) told next → PollIsAnswered {L = L} (Calls (NextTimeout now)) told
   unfolding IsCall
   poll_answered m next now told has is_call = by_life m.life refl is_call
     where
-      by_life : (o : Option (StateFacts K L D)) → m.life ≡ o → AnswersAlive same elect o m (NextTimeout now) told next → PollIsAnswered {L = L} (Calls (NextTimeout now)) told
+      by_life : (o : Option (StateFacts K L D)) → m.life ≡ o → AnswersAlive same elect o m (NextTimeout now) told next
+          → PollIsAnswered {L = L} (Calls (NextTimeout now)) told
       by_life None dead (tells, leaves) = inr (inl tells)
       by_life (Some x) alive (inr (_, _, inl (needs, _))) = absurd (false≢true needs)
       by_life (Some x) alive (inr (_, _, inr (_, falls, _))) = absurd (false≢true falls)
-      by_life (Some x) alive (inl (tells, leaves)) = by_fault x.failed (awaits_retry (round_of x x.current) && is_past_u64 (now + x.settings.timeout_retry)) (tells ∙ rw due refl)
+      by_life (Some x) alive (inl (tells, leaves)) =
+          by_fault x.failed (awaits_retry (round_of x x.current) && is_past_u64 (now + x.settings.timeout_retry))
+          (tells ∙ rw due refl)
         where
           due : has_timeout x ≡ true
           due = has x alive
 
-          by_fault : (failed late : Bool) → told ≡ unless_refused (first_fault failed false late) (TimesOut (next_timeout_answer x now)) → PollIsAnswered {L = L} (Calls (NextTimeout now)) told
+          by_fault : (failed late : Bool) → told ≡ unless_refused (first_fault failed false late)
+              (TimesOut (next_timeout_answer x now)) → PollIsAnswered {L = L} (Calls (NextTimeout now)) told
           by_fault true late is = inr (inl is)
           by_fault false true is = inr (inr is)
           by_fault false false is = let answer = polled x now due in inl (answer.0, is ∙ ap TimesOut answer.1)
@@ -86,44 +107,74 @@ module _ {K L D : Type 0} (same : D → D → Bool) (elect : Elect L) where
 -- of each state and each step of a run
 
 module _ {K L D : Type 0} (same : D → D → Bool) (decides : (d e : D) → same d e ≡ true → d ≡ e) (elect : Elect L) where
-  pub states_time_out : (term_length : ℕ) (start : StartFacts K L D) (steps : List (StepFacts K L D)) (replies : List (ReplyFacts K D)) (end : MemberFacts K L D) → HasTerms term_length start.setup → KeepTerms term_length steps
-      → IsRun same elect (new_member same elect start) steps replies end → MatchOption end.life (Unit {0}) CurrentTimesOut
+  pub states_time_out : (term_length : ℕ) (start : StartFacts K L D) (steps : List (StepFacts K L D))
+      (replies : List (ReplyFacts K D)) (end : MemberFacts K L D) → HasTerms term_length start.setup
+      → KeepTerms term_length steps
+      → IsRun same elect (new_member same elect start) steps replies end
+      → MatchOption end.life (Unit {0}) CurrentTimesOut
   states_time_out term_length start steps replies end begins keep run =
-      let lives = run_lives same decides elect term_length begins.some steps replies (of_floor start.floor) _ end keep (start_lives same decides elect term_length start begins) run in
-      by_life lives.0 end.life (run_induction same elect term_length Timed (floor_times_out same elect term_length) (event_times_out same elect) start steps replies end begins keep run) lives.1
+      let lives = run_lives same decides elect term_length begins.some steps replies (of_floor start.floor) _ end keep
+      (start_lives same decides elect term_length start begins) run in
+      by_life lives.0 end.life (run_induction same elect term_length Timed (floor_times_out same elect term_length)
+      (event_times_out same elect) start steps replies end begins keep run) lives.1
     where
       trace : List (TraceEvent D)
       trace = of_floor start.floor ++ trace_of_steps steps replies
 
-      by_life : (kept : ℕ) (life : Option (StateFacts K L D)) → HoldsIn Timed life → LivesOn term_length trace end.closed kept end.entries end.outstanding_work life → MatchOption life (Unit {0}) CurrentTimesOut
+      by_life : (kept : ℕ) (life : Option (StateFacts K L D)) → HoldsIn Timed life
+          → LivesOn term_length trace end.closed kept end.entries end.outstanding_work life
+          → MatchOption life (Unit {0}) CurrentTimesOut
       by_life kept None timed lives = tt
-      by_life kept (Some x) timed lives = record { ahead = timed.ahead; timeout = has_its_timeout term_length trace end.closed kept end.entries end.outstanding_work x timed lives }
+      by_life kept (Some x) timed lives = record {
+        ahead = timed.ahead;
+        timeout = has_its_timeout term_length trace end.closed kept end.entries
+            end.outstanding_work x timed lives;
+      }
 
-module _ {K L D : Type 0} (same : D → D → Bool) (decides : (d e : D) → same d e ≡ true → d ≡ e) (elect : Elect L) (term_length : ℕ) (some : 0 < term_length) where
-  step_times_out : (step : StepFacts K L D) (steps : List (StepFacts K L D)) (told : ReplyFacts K D) (m next : MemberFacts K L D) → KeepTerms term_length (step ∷ steps) → HoldsIn Timed m.life → IsStep same elect m step told next → HoldsIn Timed next.life
-  step_times_out (Calls call) steps told m next keep timed is_step = told_keeps same elect term_length Timed (floor_times_out same elect term_length) (event_times_out same elect) m call told next is_step timed
+module _ {K L D : Type 0} (same : D → D → Bool) (decides : (d e : D) → same d e ≡ true → d ≡ e) (elect : Elect L)
+    (term_length : ℕ) (some : 0 < term_length) where
+  step_times_out : (step : StepFacts K L D) (steps : List (StepFacts K L D)) (told : ReplyFacts K D)
+      (m next : MemberFacts K L D) → KeepTerms term_length (step ∷ steps) → HoldsIn Timed m.life
+      → IsStep same elect m step told next → HoldsIn Timed next.life
+  step_times_out (Calls call) steps told m next keep timed is_step =
+      told_keeps same elect term_length Timed (floor_times_out same elect term_length) (event_times_out same elect) m
+      call told next is_step timed
   step_times_out Prunes steps told m next keep timed is_step = rw is_step.1 timed
-  step_times_out (Restarts r) steps told m next keep timed is_step = restart_keeps same elect term_length Timed (floor_times_out same elect term_length) (event_times_out same elect) m r is_step.0 next keep.0 timed is_step.1
+  step_times_out (Restarts r) steps told m next keep timed is_step =
+      restart_keeps same elect term_length Timed (floor_times_out same elect term_length) (event_times_out same elect) m
+      r is_step.0 next keep.0 timed is_step.1
 
-  step_answered : (step : StepFacts K L D) (told : ReplyFacts K D) (trace : List (TraceEvent D)) (m next : MemberFacts K L D) → HoldsIn Timed m.life → MemberLives term_length trace m → IsStep same elect m step told next → PollIsAnswered step told
+  step_answered : (step : StepFacts K L D) (told : ReplyFacts K D) (trace : List (TraceEvent D))
+      (m next : MemberFacts K L D) → HoldsIn Timed m.life → MemberLives term_length trace m
+      → IsStep same elect m step told next → PollIsAnswered step told
   step_answered (Calls (NextTimeout now)) told trace m next timed lives is_step =
-      poll_answered same elect m next now told (λ x alive. has_its_timeout term_length trace m.closed lives.0 m.entries m.outstanding_work x (subst (HoldsIn Timed) alive timed) (subst (LivesOn term_length trace m.closed lives.0 m.entries m.outstanding_work) alive lives.1)) is_step
+      poll_answered same elect m next now told
+      (λ x alive. has_its_timeout term_length trace m.closed lives.0 m.entries m.outstanding_work x
+      (subst (HoldsIn Timed) alive timed)
+      (subst (LivesOn term_length trace m.closed lives.0 m.entries m.outstanding_work) alive lives.1)) is_step
   step_answered _ told trace m next timed lives is_step = tt
 
-  run_polls : (steps : List (StepFacts K L D)) (replies : List (ReplyFacts K D)) (trace : List (TraceEvent D)) (m end : MemberFacts K L D) → KeepTerms term_length steps → HoldsIn Timed m.life → MemberLives term_length trace m → IsRun same elect m steps replies end → PollsAreAnswered steps replies
+  run_polls : (steps : List (StepFacts K L D)) (replies : List (ReplyFacts K D)) (trace : List (TraceEvent D))
+      (m end : MemberFacts K L D) → KeepTerms term_length steps → HoldsIn Timed m.life → MemberLives term_length trace m
+      → IsRun same elect m steps replies end → PollsAreAnswered steps replies
   run_polls [] replies trace m end keep timed lives run = tt
   run_polls (step ∷ steps) [] trace m end keep timed lives run = tt
   run_polls (step ∷ steps) (told ∷ replies) trace m end keep timed lives (next, is_step, rest) =
       let kept = step_lives same decides elect term_length some step steps told trace m next keep lives is_step in (
         step_answered step told trace m next timed lives is_step,
-        run_polls steps replies (trace ++ trace_at step told) next end kept.0 (step_times_out step steps told m next keep timed is_step) kept.1 rest,
+        run_polls steps replies (trace ++ trace_at step told) next end kept.0
+            (step_times_out step steps told m next keep timed is_step) kept.1 rest,
       )
 
 module _ {K L D : Type 0} (same : D → D → Bool) (decides : (d e : D) → same d e ≡ true → d ≡ e) (elect : Elect L) where
-  pub polls_answered : (term_length : ℕ) (start : StartFacts K L D) (steps : List (StepFacts K L D)) (replies : List (ReplyFacts K D)) (end : MemberFacts K L D) → HasTerms term_length start.setup → KeepTerms term_length steps
+  pub polls_answered : (term_length : ℕ) (start : StartFacts K L D) (steps : List (StepFacts K L D))
+      (replies : List (ReplyFacts K D)) (end : MemberFacts K L D) → HasTerms term_length start.setup
+      → KeepTerms term_length steps
       → IsRun same elect (new_member same elect start) steps replies end → PollsAreAnswered steps replies
   polls_answered term_length start steps replies end begins keep run =
-      run_polls same decides elect term_length begins.some steps replies (of_floor start.floor) (new_member same elect start) end keep
-      (floor_times_out same elect term_length (new_state start.setup) start.floor start.now (fresh_state term_length start.setup begins))
+      run_polls same decides elect term_length begins.some steps replies (of_floor start.floor)
+      (new_member same elect start) end keep
+      (floor_times_out same elect term_length (new_state start.setup) start.floor start.now
+      (fresh_state term_length start.setup begins))
       (start_lives same decides elect term_length start begins)
       run

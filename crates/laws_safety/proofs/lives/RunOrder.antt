@@ -1,5 +1,6 @@
 -- For `runs_keep_order`.
--- What lasts of each round within a lifetime: a conflict, its certificates, and which of them were returned for broadcast.
+-- What lasts of each round within a lifetime: a conflict, its certificates, and which of them were returned for
+-- broadcast.
 use Rattle.std.proofs.Common.{◌≡◌, refl, ap, sym, ◌∙◌, subst, ℕ, ◌<◌, ◌≤◌, ◌⊎◌, inl, inr, Bool, true, false, ◌||◌, not, if◌then◌else◌, nat_lt, cond, List, [], ◌∷◌, Contains, Option, Some, None, is_some, arith}
 use Rattle.std.specs.Prelude.{option_map, ◌&&◌, map, filter}
 use Rattle.std.specs.Option.{option_map_or}
@@ -51,7 +52,8 @@ module _ {K D : Type 0} where
 abbrev pub UnchangedOrOwnView : (low v : ℕ) (before after : Option ℕ) → Type 0
 UnchangedOrOwnView low v before after = (after ≡ before) ⊎ ((low ≤ v) × (after ≡ Some v))
 
-stands_on : (low v : ℕ) (a b c : Option ℕ) → UnchangedOrOwnView low v a b → UnchangedOrOwnView low v b c → UnchangedOrOwnView low v a c
+stands_on : (low v : ℕ) (a b c : Option ℕ) → UnchangedOrOwnView low v a b → UnchangedOrOwnView low v b c
+    → UnchangedOrOwnView low v a c
 stands_on low v a b c (inl p) (inl q) = inl (q ∙ p)
 stands_on low v a b c (inr (kept, p)) (inl q) = inr (kept, q ∙ p)
 stands_on low v a b c p (inr q) = inr q
@@ -67,22 +69,34 @@ pub record RoundLasts {K D : Type 0} (low v : ℕ) (r s : RoundFacts K D) : Type
   pub finalization : UnchangedOrOwnView low v (standing_view Finalization r) (standing_view Finalization s)
 
 module _ {K D : Type 0} (low v : ℕ) where
-  pub handed : (r s : RoundFacts K D) → RoundLasts low v r s → (kind : KindOfCertificate) → is_handed kind r ≡ true → is_handed kind s ≡ true
+  pub handed : (r s : RoundFacts K D) → RoundLasts low v r s → (kind : KindOfCertificate) → is_handed kind r ≡ true
+      → is_handed kind s ≡ true
   handed r s lasts Notarization h = lasts.notarization_handed h
   handed r s lasts Nullification h = lasts.nullification_handed h
   handed r s lasts Finalization h = lasts.finalization_handed h
 
-  pub certificates : (r s : RoundFacts K D) → RoundLasts low v r s → (kind : KindOfCertificate) → UnchangedOrOwnView low v (standing_view kind r) (standing_view kind s)
+  pub certificates : (r s : RoundFacts K D) → RoundLasts low v r s → (kind : KindOfCertificate)
+      → UnchangedOrOwnView low v (standing_view kind r) (standing_view kind s)
   certificates r s lasts Notarization = lasts.notarization
   certificates r s lasts Nullification = lasts.nullification
   certificates r s lasts Finalization = lasts.finalization
 
   -- none comes below the retained views
-  pub none_comes : (r s : RoundFacts K D) → RoundLasts low v r s → (kind : KindOfCertificate) → v < low → standing_view kind r ≡ None → standing_view kind s ≡ None
-  none_comes r s lasts kind below none = elim (certificates r s lasts kind) [ inl same ↦ same ∙ none | inr (kept, comes) ↦ absurd (omega arith) ]
+  pub none_comes : (r s : RoundFacts K D) → RoundLasts low v r s → (kind : KindOfCertificate) → v < low
+      → standing_view kind r ≡ None → standing_view kind s ≡ None
+  none_comes r s lasts kind below none = elim (certificates r s lasts kind)
+      [ inl same ↦ same ∙ none | inr (kept, comes) ↦ absurd (omega arith) ]
 
   still : (r : RoundFacts K D) → RoundLasts low v r r
-  still r = record { conflict = λ h. h; notarization_handed = λ h. h; nullification_handed = λ h. h; finalization_handed = λ h. h; notarization = inl refl; nullification = inl refl; finalization = inl refl }
+  still r = record {
+    conflict = λ h. h;
+    notarization_handed = λ h. h;
+    nullification_handed = λ h. h;
+    finalization_handed = λ h. h;
+    notarization = inl refl;
+    nullification = inl refl;
+    finalization = inl refl;
+  }
 
   round_joined : (r s t : RoundFacts K D) → RoundLasts low v r s → RoundLasts low v s t → RoundLasts low v r t
   round_joined r s t p q = record {
@@ -97,29 +111,51 @@ module _ {K D : Type 0} (low v : ℕ) where
 
 -- no proposal settles a conflict
 
-module _ {D : Type 0} (same : Proposal D → Proposal D → Bool) (s : SlotFacts D) (p : Proposal D) (h : s.conflict ≡ true) where
+module _ {D : Type 0} (same : Proposal D → Proposal D → Bool) (s : SlotFacts D) (p : Proposal D)
+    (h : s.conflict ≡ true) where
   certified_conflict : (after_certificate same s p).conflict ≡ true
   certified_conflict = by_held s.held
     where
-      by_same : (b : Bool) → (if b then s else record { held = Some p; conflict = true; verified = false; build_requested = true; verify_requested = true }).conflict ≡ true
+      by_same : (b : Bool) → (if b then s else record {
+        held = Some p;
+        conflict = true;
+        verified = false;
+        build_requested = true;
+        verify_requested = true;
+      }).conflict ≡ true
       by_same true = h
       by_same false = refl
 
-      by_held : (o : Option (Proposal D)) → (option_map_or (λ q. if same q p then s else record { held = Some p; conflict = true; verified = false; build_requested = true; verify_requested = true }) o (record s { held = Some p })).conflict ≡ true
+      by_held : (o : Option (Proposal D)) → (option_map_or
+          (λ q. if same q p then s else record {
+            held = Some p;
+            conflict = true;
+            verified = false;
+            build_requested = true;
+            verify_requested = true;
+          }) o (record s { held = Some p })).conflict ≡ true
       by_held None = h
       by_held (Some q) = by_same (same q p)
 
   voted_conflict : (after_vote same s p).conflict ≡ true
   voted_conflict = by_held s.held
     where
-      by_held : (o : Option (Proposal D)) → (option_map_or (λ (q : Proposal D). record s { conflict = s.conflict || not (same q p); verified = s.verified && same q p }) o (record s { held = Some p })).conflict ≡ true
+      by_held : (o : Option (Proposal D)) → (option_map_or
+          (λ (q : Proposal D). record s { conflict = s.conflict || not (same q p); verified = s.verified && same q p })
+          o (record s { held = Some p })).conflict ≡ true
       by_held None = h
       by_held (Some q) = rw h refl
 
   own_conflict : (after_own same s p).conflict ≡ true
   own_conflict = by_test (holds_or_empty same s p)
     where
-      by_test : (b : Bool) → (if b then record { held = Some p; conflict = s.conflict; verified = not s.conflict; build_requested = true; verify_requested = true } else s).conflict ≡ true
+      by_test : (b : Bool) → (if b then record {
+        held = Some p;
+        conflict = s.conflict;
+        verified = not s.conflict;
+        build_requested = true;
+        verify_requested = true;
+      } else s).conflict ≡ true
       by_test true = h
       by_test false = h
 
@@ -129,8 +165,10 @@ pub record BringsFrom {K D : Type 0} (low : ℕ) (e : Event K D) : Type 0 where
   pub nullification : (c : NullificationFacts) → nullification_by e ≡ Some c → low ≤ c.round.view
   pub finalization : (c : ProposalFacts D) → finalization_by e ≡ Some c → low ≤ c.proposal.round.view
 
-module _ {K L D : Type 0} (same : D → D → Bool) (elect : Elect L) (x : StateFacts K L D) (e : Event K D) (low : ℕ) (brings : BringsFrom low e) where
-  change_lasts : (y : StateFacts K L D) (v : ℕ) (r s : RoundFacts K D) → RoundStep same elect x e y v r s → RoundLasts low v r s
+module _ {K L D : Type 0} (same : D → D → Bool) (elect : Elect L) (x : StateFacts K L D) (e : Event K D) (low : ℕ)
+    (brings : BringsFrom low e) where
+  change_lasts : (y : StateFacts K L D) (v : ℕ) (r s : RoundFacts K D) → RoundStep same elect x e y v r s
+      → RoundLasts low v r s
   change_lasts y v r s (step.Notarized c says at none) = (let kept = brings.notarization c says in record {
     conflict = λ h. certified_conflict (same_proposal same) r.slot c.proposal h;
     notarization_handed = λ h. h;
@@ -158,44 +196,167 @@ module _ {K L D : Type 0} (same : D → D → Bool) (elect : Elect L) (x : State
     nullification = inl refl;
     finalization = inr (omega (arith, kept, at), ap Some at);
   })
-  change_lasts y v r s step.HandedNotarization = record { conflict = λ h. h; notarization_handed = λ h. rw h refl; nullification_handed = λ h. h; finalization_handed = λ h. h; notarization = inl refl; nullification = inl refl; finalization = inl refl }
-  change_lasts y v r s step.HandedNullification = record { conflict = λ h. h; notarization_handed = λ h. h; nullification_handed = λ h. rw h refl; finalization_handed = λ h. h; notarization = inl refl; nullification = inl refl; finalization = inl refl }
-  change_lasts y v r s step.HandedFinalization = record { conflict = λ h. h; notarization_handed = λ h. h; nullification_handed = λ h. h; finalization_handed = λ h. rw h refl; notarization = inl refl; nullification = inl refl; finalization = inl refl }
-  change_lasts y v r s step.SentNotarization = record { conflict = λ h. h; notarization_handed = λ h. refl; nullification_handed = λ h. h; finalization_handed = λ h. h; notarization = inl refl; nullification = inl refl; finalization = inl refl }
-  change_lasts y v r s step.SentNullification = record { conflict = λ h. h; notarization_handed = λ h. h; nullification_handed = λ h. refl; finalization_handed = λ h. h; notarization = inl refl; nullification = inl refl; finalization = inl refl }
-  change_lasts y v r s step.SentFinalization = record { conflict = λ h. h; notarization_handed = λ h. h; nullification_handed = λ h. h; finalization_handed = λ h. refl; notarization = inl refl; nullification = inl refl; finalization = inl refl }
-  change_lasts y v r s (step.VotedAgain p binding says at is) = record { conflict = λ h. own_conflict (same_proposal same) r.slot p h; notarization_handed = λ h. h; nullification_handed = λ h. h; finalization_handed = λ h. h; notarization = inl refl; nullification = inl refl; finalization = inl refl }
-  change_lasts y v r s (step.Heard p says free) = record { conflict = λ h. voted_conflict (same_proposal same) r.slot p h; notarization_handed = λ h. h; nullification_handed = λ h. h; finalization_handed = λ h. h; notarization = inl refl; nullification = inl refl; finalization = inl refl }
-  change_lasts y v r s (step.Built context payload now says is at) = record { conflict = λ h. own_conflict (same_proposal same) r.slot _ h; notarization_handed = λ h. h; nullification_handed = λ h. h; finalization_handed = λ h. h; notarization = inl refl; nullification = inl refl; finalization = inl refl }
-  change_lasts y v r s _ = record { conflict = λ h. h; notarization_handed = λ h. h; nullification_handed = λ h. h; finalization_handed = λ h. h; notarization = inl refl; nullification = inl refl; finalization = inl refl }
+  change_lasts y v r s step.HandedNotarization =
+      record {
+        conflict = λ h. h;
+        notarization_handed = λ h. rw h refl;
+        nullification_handed = λ h. h;
+        finalization_handed = λ h. h;
+        notarization = inl refl;
+        nullification = inl refl;
+        finalization = inl refl;
+      }
+  change_lasts y v r s step.HandedNullification =
+      record {
+        conflict = λ h. h;
+        notarization_handed = λ h. h;
+        nullification_handed = λ h. rw h refl;
+        finalization_handed = λ h. h;
+        notarization = inl refl;
+        nullification = inl refl;
+        finalization = inl refl;
+      }
+  change_lasts y v r s step.HandedFinalization =
+      record {
+        conflict = λ h. h;
+        notarization_handed = λ h. h;
+        nullification_handed = λ h. h;
+        finalization_handed = λ h. rw h refl;
+        notarization = inl refl;
+        nullification = inl refl;
+        finalization = inl refl;
+      }
+  change_lasts y v r s step.SentNotarization =
+      record {
+        conflict = λ h. h;
+        notarization_handed = λ h. refl;
+        nullification_handed = λ h. h;
+        finalization_handed = λ h. h;
+        notarization = inl refl;
+        nullification = inl refl;
+        finalization = inl refl;
+      }
+  change_lasts y v r s step.SentNullification =
+      record {
+        conflict = λ h. h;
+        notarization_handed = λ h. h;
+        nullification_handed = λ h. refl;
+        finalization_handed = λ h. h;
+        notarization = inl refl;
+        nullification = inl refl;
+        finalization = inl refl;
+      }
+  change_lasts y v r s step.SentFinalization =
+      record {
+        conflict = λ h. h;
+        notarization_handed = λ h. h;
+        nullification_handed = λ h. h;
+        finalization_handed = λ h. refl;
+        notarization = inl refl;
+        nullification = inl refl;
+        finalization = inl refl;
+      }
+  change_lasts y v r s (step.VotedAgain p binding says at is) =
+      record {
+        conflict = λ h. own_conflict (same_proposal same) r.slot p h;
+        notarization_handed = λ h. h;
+        nullification_handed = λ h. h;
+        finalization_handed = λ h. h;
+        notarization = inl refl;
+        nullification = inl refl;
+        finalization = inl refl;
+      }
+  change_lasts y v r s (step.Heard p says free) =
+      record {
+        conflict = λ h. voted_conflict (same_proposal same) r.slot p h;
+        notarization_handed = λ h. h;
+        nullification_handed = λ h. h;
+        finalization_handed = λ h. h;
+        notarization = inl refl;
+        nullification = inl refl;
+        finalization = inl refl;
+      }
+  change_lasts y v r s (step.Built context payload now says is at) =
+      record {
+        conflict = λ h. own_conflict (same_proposal same) r.slot _ h;
+        notarization_handed = λ h. h;
+        nullification_handed = λ h. h;
+        finalization_handed = λ h. h;
+        notarization = inl refl;
+        nullification = inl refl;
+        finalization = inl refl;
+      }
+  change_lasts y v r s _ = record {
+    conflict = λ h. h;
+    notarization_handed = λ h. h;
+    nullification_handed = λ h. h;
+    finalization_handed = λ h. h;
+    notarization = inl refl;
+    nullification = inl refl;
+    finalization = inl refl;
+  }
 
-  pub event_lasts : (v : ℕ) → RoundLasts low v (round_of x v) (round_of (after_event same elect x e) v) ⊎ ((is_prune e ≡ true) × IsGone x (after_event same elect x e) v)
-  event_lasts = rounds_or_gone same elect x e 0 (RoundLasts low) (round_joined low) change_lasts (event_path same elect 0 x e (omega arith) (asked_of_all x e))
+  pub event_lasts : (v : ℕ) → RoundLasts low v (round_of x v) (round_of (after_event same elect x e) v)
+      ⊎ ((is_prune e ≡ true) × IsGone x (after_event same elect x e) v)
+  event_lasts = rounds_or_gone same elect x e 0 (RoundLasts low) (round_joined low) change_lasts
+      (event_path same elect 0 x e (omega arith) (asked_of_all x e))
 
 module _ {K L D : Type 0} (x : StateFacts K L D) where
   -- within a lifetime
   pub brings_kept : (e : Event K D) → IsEvent x e → is_floor e ≡ false → BringsFrom (min_active x) e
   brings_kept (event.SetFloor floor now) takes none = absurd (true≢false none)
-  brings_kept (event.AddNotarization c) takes none = record { notarization = λ d is. (let e : c ≡ d = cc in subst (λ (h : ProposalFacts D). min_active x ≤ h.proposal.round.view) e (kept_view x c.proposal.round takes).1); nullification = λ d is. absurd (cc); finalization = λ d is. absurd (cc) }
-  brings_kept (event.AddNullification c now) takes none = record { notarization = λ d is. absurd (cc); nullification = λ d is. (let e : c ≡ d = cc in subst (λ (h : NullificationFacts). min_active x ≤ h.round.view) e (kept_view x c.round takes).1); finalization = λ d is. absurd (cc) }
-  brings_kept (event.AddFinalization c now) takes none = record { notarization = λ d is. absurd (cc); nullification = λ d is. absurd (cc); finalization = λ d is. (let e : c ≡ d = cc in subst (λ (h : ProposalFacts D). min_active x ≤ h.proposal.round.view) e (kept_view x c.proposal.round takes).1) }
-  brings_kept _ takes none = record { notarization = λ d is. absurd (cc); nullification = λ d is. absurd (cc); finalization = λ d is. absurd (cc) }
+  brings_kept (event.AddNotarization c) takes none =
+      record {
+        notarization = λ d is. (let e : c ≡ d = cc in
+            subst (λ (h : ProposalFacts D). min_active x ≤ h.proposal.round.view) e
+            (kept_view x c.proposal.round takes).1);
+        nullification = λ d is. absurd (cc);
+        finalization = λ d is. absurd (cc);
+      }
+  brings_kept (event.AddNullification c now) takes none =
+      record {
+        notarization = λ d is. absurd (cc);
+        nullification = λ d is. (let e : c ≡ d = cc in
+            subst (λ (h : NullificationFacts). min_active x ≤ h.round.view) e (kept_view x c.round takes).1);
+        finalization = λ d is. absurd (cc);
+      }
+  brings_kept (event.AddFinalization c now) takes none =
+      record {
+        notarization = λ d is. absurd (cc);
+        nullification = λ d is. absurd (cc);
+        finalization = λ d is. (let e : c ≡ d = cc in
+            subst (λ (h : ProposalFacts D). min_active x ≤ h.proposal.round.view) e
+            (kept_view x c.proposal.round takes).1);
+      }
+  brings_kept _ takes none = record {
+    notarization = λ d is. absurd (cc);
+    nullification = λ d is. absurd (cc);
+    finalization = λ d is. absurd (cc);
+  }
 
 -- each certificate is of some view
 pub brings_any : {K D : Type 0} (e : Event K D) → BringsFrom 0 e
-brings_any e = record { notarization = λ c is. omega arith; nullification = λ c is. omega arith; finalization = λ c is. omega arith }
+brings_any e = record {
+  notarization = λ c is. omega arith;
+  nullification = λ c is. omega arith;
+  finalization = λ c is. omega arith;
+}
 
 -- calls
 
 -- an entry found under a key that passes a test is among the keys that do
-found_key : {V : Type 0} (test : ℕ → Bool) (v : ℕ) (es : List (ℕ × V)) → is_some (find nat_cmp v es) ≡ true → test v ≡ true → Contains (map (λ e. e.0) (filter (λ e. test e.0) es)) v
+found_key : {V : Type 0} (test : ℕ → Bool) (v : ℕ) (es : List (ℕ × V)) → is_some (find nat_cmp v es) ≡ true
+    → test v ≡ true → Contains (map (λ e. e.0) (filter (λ e. test e.0) es)) v
 found_key test v [] there passes = absurd (cc)
 found_key test v (e ∷ es) there passes = elim (cases_eq v e.0) [
   | inl here ↦ rw (sym (ap test here) ∙ passes) (0, omega arith, sym here)
   | inr apart ↦ (
-      let later : is_some (find nat_cmp v es) ≡ true = ap (λ b. is_some (cond b (Some e.1) (find nat_cmp v es))) (sym (is_eq-nat_cmp v e.0 ∙ ne_eqb v e.0 apart)) ∙ there in
+      let later : is_some (find nat_cmp v es) ≡ true =
+      ap (λ b. is_some (cond b (Some e.1) (find nat_cmp v es))) (sym (is_eq-nat_cmp v e.0 ∙ ne_eqb v e.0 apart))
+      ∙ there in
       let rest = found_key test v es later passes in
-      elim (test e.0) as (λ b. Contains (map (λ f. f.0) (if b then e ∷ filter (λ f. test f.0) es else filter (λ f. test f.0) es)) v) [
+      elim (test e.0) as
+      (λ b. Contains (map (λ f. f.0) (if b then e ∷ filter (λ f. test f.0) es else filter (λ f. test f.0) es)) v) [
         | true ↦ Contains-cons_rest e.0 (map (λ f. f.0) (filter (λ f. test f.0) es)) v rest
         | false ↦ rest
       ])
@@ -208,9 +369,11 @@ pub record Drops {K L D : Type 0} (x y : StateFacts K L D) (told : ReplyFacts K 
 
 -- of the events of a call
 abbrev pub AllLast : {K L D : Type 0} → StateFacts K L D → List (Event K D) → StateFacts K L D → Type 0
-AllLast x es y = (v : ℕ) → RoundLasts (min_active x) v (round_of x v) (round_of y v) ⊎ ((list_any is_prune es ≡ true) × IsGone x y v)
+AllLast x es y = (v : ℕ) → RoundLasts (min_active x) v (round_of x v) (round_of y v)
+    ⊎ ((list_any is_prune es ≡ true) × IsGone x y v)
 
-in_context_prunes : {K D : Type 0} (event : Context D K → Event K D) → ((c : Context D K) → is_prune (event c) ≡ false) → (context : Option (Context D K)) → list_any is_prune (in_context event context) ≡ false
+in_context_prunes : {K D : Type 0} (event : Context D K → Event K D) → ((c : Context D K) → is_prune (event c) ≡ false)
+    → (context : Option (Context D K)) → list_any is_prune (in_context event context) ≡ false
 in_context_prunes event none None = refl
 in_context_prunes event none (Some c) = rw (none c) refl
 
@@ -219,16 +382,25 @@ none_lasts x v = inl (still (min_active x) v (round_of x v))
 
 module _ {K L D : Type 0} (same : D → D → Bool) (elect : Elect L) (x : StateFacts K L D) where
   taken_lasts : (e : Event K D) → IsEvent x e → is_floor e ≡ false → AllLast x (e ∷ []) (after_event same elect x e)
-  taken_lasts e takes none v = elim (event_lasts same elect x e (min_active x) (brings_kept x e takes none) v) [ inl lasts ↦ inl lasts | inr (prunes, gone) ↦ inr (rw prunes refl, gone) ]
+  taken_lasts e takes none v = elim (event_lasts same elect x e (min_active x) (brings_kept x e takes none) v)
+      [ inl lasts ↦ inl lasts | inr (prunes, gone) ↦ inr (rw prunes refl, gone) ]
 
-  pub call_lasts : (o : OutstandingWork K D) (call : CallFacts D) → is_allowed x o call ≡ true → (v : ℕ) → RoundLasts (min_active x) v (round_of x v) (round_of (after_call same elect x o call) v) ⊎ Drops x (after_call same elect x o call) (answer same elect x o call) v
-  call_lasts o call allowed v = elim (call_by_event same elect x o (AllLast x) (none_lasts x) taken_lasts call allowed v) [
-    | inl lasts ↦ inl lasts
-    | inr (prunes, gone) ↦ inr (record { gone = gone; dropped = λ tracked. told call prunes gone.below tracked })
-  ]
+  pub call_lasts : (o : OutstandingWork K D) (call : CallFacts D) → is_allowed x o call ≡ true → (v : ℕ)
+      → RoundLasts (min_active x) v (round_of x v) (round_of (after_call same elect x o call) v)
+      ⊎ Drops x (after_call same elect x o call) (answer same elect x o call) v
+  call_lasts o call allowed v =
+      elim (call_by_event same elect x o (AllLast x) (none_lasts x) taken_lasts call allowed v) [
+        | inl lasts ↦ inl lasts
+        | inr (prunes, gone) ↦ inr (record { gone = gone; dropped = λ tracked. told call prunes gone.below tracked })
+      ]
     where
-      told : (call : CallFacts D) → list_any is_prune (events_of o call) ≡ true → v < min_active x → is_tracked x v ≡ true → WasDropped (answer same elect x o call ∷ []) v
-      told Prune prunes below tracked = (let under : nat_lt v (min_active x) ≡ true = grind (arith, nat_tests) in (prune_answer x, (0, omega arith, refl), found_key (λ u. nat_lt u (min_active x)) v x.rounds tracked under))
-      told (Proposed w payload now) prunes below tracked = absurd (true≢false (sym prunes ∙ in_context_prunes (λ c. event.Proposed c payload now) (λ c. refl) (context_at o w)))
-      told (SupersedeProposalRequest w) prunes below tracked = absurd (true≢false (sym prunes ∙ in_context_prunes event.Supersede (λ c. refl) (context_at o w)))
+      told : (call : CallFacts D) → list_any is_prune (events_of o call) ≡ true → v < min_active x
+          → is_tracked x v ≡ true → WasDropped (answer same elect x o call ∷ []) v
+      told Prune prunes below tracked = (let under : nat_lt v (min_active x) ≡ true = grind (arith, nat_tests) in
+          (prune_answer x, (0, omega arith, refl), found_key (λ u. nat_lt u (min_active x)) v x.rounds tracked under))
+      told (Proposed w payload now) prunes below tracked =
+          absurd
+          (true≢false (sym prunes ∙ in_context_prunes (λ c. event.Proposed c payload now) (λ c. refl) (context_at o w)))
+      told (SupersedeProposalRequest w) prunes below tracked =
+          absurd (true≢false (sym prunes ∙ in_context_prunes event.Supersede (λ c. refl) (context_at o w)))
       told _ prunes below tracked = absurd (true≢false (sym prunes))

@@ -21,17 +21,20 @@ use Rattle.laws_safety.proofs.votes.OutstandingWork.{now_among}
 
 -- each view that waits for certification lies above the last finalized one, and is notarized
 pub record IsWaiting {K L D : Type 0} (x : StateFacts K L D) : Type 0 where
-  pub views : (v : ℕ) → list_any (λ w. v == w) x.named ≡ true → (x.finalized < v) × (is_some (round_of x v).notarization ≡ true)
+  pub views : (v : ℕ) → list_any (λ w. v == w) x.named ≡ true
+      → (x.finalized < v) × (is_some (round_of x v).notarization ≡ true)
 
 -- a view among those above another lies above it, and is among all of them
-among_above : (v w : ℕ) (views : List ℕ) → is_among w (filter (λ u. nat_lt v u) views) ≡ true → (v < w) × (is_among w views ≡ true)
+among_above : (v w : ℕ) (views : List ℕ) → is_among w (filter (λ u. nat_lt v u) views) ≡ true
+    → (v < w) × (is_among w views ≡ true)
 among_above v w [] is = absurd (false≢true is)
 among_above v w (u ∷ views) is = by_test (nat_lt v u) refl (among_above v w views) is
   where
     above : List ℕ
     above = filter (λ u. nat_lt v u) views
 
-    by_test : (b : Bool) → nat_lt v u ≡ b → (is_among w above ≡ true → (v < w) × (is_among w views ≡ true)) → is_among w (cond b (u ∷ above) above) ≡ true → (v < w) × ((eqb w u || is_among w views) ≡ true)
+    by_test : (b : Bool) → nat_lt v u ≡ b → (is_among w above ≡ true → (v < w) × (is_among w views ≡ true))
+        → is_among w (cond b (u ∷ above) above) ≡ true → (v < w) × ((eqb w u || is_among w views) ≡ true)
     by_test true over behind is = by_here (eqb w u) refl is
       where
         by_here : (b : Bool) → eqb w u ≡ b → (b || is_among w above) ≡ true → (v < w) × ((b || is_among w views) ≡ true)
@@ -45,24 +48,30 @@ among_above v w (u ∷ views) is = by_test (nat_lt v u) refl (among_above v w vi
 
 module _ {K L D : Type 0} (same : D → D → Bool) (elect : Elect L) (begun : StateFacts K L D) (e : Event K D) where
   -- no change of a round takes its notarization away
-  change_notarized : (x : StateFacts K L D) (v : ℕ) (r s : RoundFacts K D) → RoundStep same elect begun e x v r s → is_some r.notarization ≡ true → is_some s.notarization ≡ true
+  change_notarized : (x : StateFacts K L D) (v : ℕ) (r s : RoundFacts K D) → RoundStep same elect begun e x v r s
+      → is_some r.notarization ≡ true → is_some s.notarization ≡ true
   change_notarized x v r s (step.Notarized c says at none) is = refl
   change_notarized x v r s _ is = is
 
   -- and a prune takes none above the last finalized view
-  step_notarized : (x y : StateFacts K L D) → Step same elect begun e 0 x y → (v : ℕ) → x.finalized < v → is_some (round_of x v).notarization ≡ true → is_some (round_of y v).notarization ≡ true
+  step_notarized : (x y : StateFacts K L D) → Step same elect begun e 0 x y → (v : ℕ) → x.finalized < v
+      → is_some (round_of x v).notarization ≡ true → is_some (round_of y v).notarization ≡ true
   step_notarized x y s v above is = elim (step_round same elect begun e 0 x y s v) [
     | inl change ↦ change_notarized x v (round_of x v) (round_of y v) change is
-    | inr prunes ↦ subst (λ (z : StateFacts K L D). is_some (round_of z v).notarization ≡ true) (sym prunes.1) (elim (pruned_round x v) [
-      | inl kept ↦ ap (λ (r : RoundFacts K D). is_some r.notarization) kept ∙ is
-      | inr gone ↦ absurd (let below = gone.below in omega (arith, below, above))
-    ])
+    | inr prunes ↦ subst (λ (z : StateFacts K L D). is_some (round_of z v).notarization ≡ true) (sym prunes.1)
+        (elim (pruned_round x v) [
+          | inl kept ↦ ap (λ (r : RoundFacts K D). is_some r.notarization) kept ∙ is
+          | inr gone ↦ absurd (let below = gone.below in omega (arith, below, above))
+        ])
   ]
 
   step_waits : (x y : StateFacts K L D) → Step same elect begun e 0 x y → IsWaiting x → IsWaiting y
   step_waits x y (Names v above notarized) waits = record {
     views = λ w named. elim (now_among v w x.named named) [
-      | inl at ↦ (subst (λ u. x.finalized < u) (sym at) above, subst (λ u. is_some (round_of x u).notarization ≡ true) (sym at) notarized)
+      | inl at ↦ (
+        subst (λ u. x.finalized < u) (sym at) above,
+        subst (λ u. is_some (round_of x u).notarization ≡ true) (sym at) notarized,
+      )
       | inr before ↦ waits.views w before
     ];
   }
@@ -74,16 +83,26 @@ module _ {K L D : Type 0} (same : D → D → Bool) (elect : Elect L) (begun : S
         (kept.0, step_notarized x y (Raises v says above) w before.0 before.1)
         );
   }
-  step_waits x y s waits = record { views = λ w named. (let before = waits.views w named in (before.0, step_notarized x y s w before.0 before.1)) }
+  step_waits x y s waits = record {
+    views =
+        λ w named. (let before = waits.views w named in (before.0, step_notarized x y s w before.0 before.1));
+  }
 
 module _ {K L D : Type 0} (same : D → D → Bool) (elect : Elect L) where
   pub event_waits : (x : StateFacts K L D) (e : Event K D) → IsWaiting x → IsWaiting (after_event same elect x e)
-  event_waits x e waits = along same elect x e 0 IsWaiting (step_waits same elect x e) x (after_event same elect x e) (event_path same elect 0 x e (omega arith) (asked_of_all x e)) waits
+  event_waits x e waits = along same elect x e 0 IsWaiting (step_waits same elect x e) x (after_event same elect x e)
+      (event_path same elect 0 x e (omega arith) (asked_of_all x e)) waits
 
   -- nothing waits in a new state, which sets a floor
-  new_waits : (settings : Settings) (me : Option ℕ) (members : List K) (elector : L) (terms : Terms) (early : Bool) (floor : FloorFacts D) (now : ℕ) → IsWaiting (after_set_floor same elect (new_facts settings me members elector terms early) floor now)
-  new_waits settings me members elector terms early floor now = event_waits (new_facts settings me members elector terms early) (event.SetFloor floor now) (record { views = λ v named. absurd (false≢true named) })
+  new_waits : (settings : Settings) (me : Option ℕ) (members : List K) (elector : L) (terms : Terms) (early : Bool)
+      (floor : FloorFacts D) (now : ℕ) → IsWaiting
+      (after_set_floor same elect (new_facts settings me members elector terms early) floor now)
+  new_waits settings me members elector terms early floor now =
+      event_waits (new_facts settings me members elector terms early) (event.SetFloor floor now)
+      (record { views = λ v named. absurd (false≢true named) })
 
-  pub floor_waits : (term_length : ℕ) (x : StateFacts K L D) (floor : FloorFacts D) (now : ℕ) → IsNewState term_length x → IsWaiting (after_set_floor same elect x floor now)
+  pub floor_waits : (term_length : ℕ) (x : StateFacts K L D) (floor : FloorFacts D) (now : ℕ) → IsNewState term_length x
+      → IsWaiting (after_set_floor same elect x floor now)
   floor_waits term_length x floor now fresh =
-      subst (λ y. IsWaiting (after_set_floor same elect y floor now)) (sym fresh.fresh) (new_waits x.settings x.me x.members x.elector x.terms x.elects_early floor now)
+      subst (λ y. IsWaiting (after_set_floor same elect y floor now)) (sym fresh.fresh)
+      (new_waits x.settings x.me x.members x.elector x.terms x.elects_early floor now)

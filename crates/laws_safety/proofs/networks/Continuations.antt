@@ -108,26 +108,34 @@ module _ {X : Type 0} where
   each_one test [] = true
   each_one test (x ∷ xs) = test x && each_one test xs
 
-  pub each_one-true : (test : X → Bool) (xs : List X) → each_one test xs ≡ true → (x : X) → Contains xs x → test x ≡ true
+  pub each_one-true : (test : X → Bool) (xs : List X) → each_one test xs ≡ true → (x : X) → Contains xs x
+      → test x ≡ true
   each_one-true test [] is x h = absurd (omega (arith, h.1))
   each_one-true test (y ∷ xs) is x h =
       let parts = and_parts (test y) (each_one test xs) is in
-      elim (Contains-cases y xs x h) [ inl here ↦ subst (λ z. test z ≡ true) here parts.0 | inr later ↦ each_one-true test xs parts.1 x later ]
+      elim (Contains-cases y xs x h)
+      [ inl here ↦ subst (λ z. test z ≡ true) here parts.0 | inr later ↦ each_one-true test xs parts.1 x later ]
 
   abbrev pub enough : ℕ → ℕ → (ℕ → X → Bool) → List X → Bool
   enough i zero test xs = true
   enough i (suc count) test [] = false
-  enough i (suc count) test (x ∷ xs) = if test i x then enough (suc i) count test xs else enough (suc i) (suc count) test xs
+  enough i (suc count) test (x ∷ xs) = if test i x then enough (suc i) count test xs else enough (suc i) (suc count)
+      test xs
 
-  by_first : (P : ℕ → X → Type 0) (i count : ℕ) (x : X) (xs : List X) (passes fewer more : Bool) → (passes ≡ true → P i x) → (fewer ≡ true → AtLeastFrom (suc i) count P xs) → (more ≡ true → AtLeastFrom (suc i) (suc count) P xs) → (if passes then fewer else more) ≡ true → AtLeastFrom i (suc count) P (x ∷ xs)
+  by_first : (P : ℕ → X → Type 0) (i count : ℕ) (x : X) (xs : List X) (passes fewer more : Bool)
+      → (passes ≡ true → P i x) → (fewer ≡ true → AtLeastFrom (suc i) count P xs)
+      → (more ≡ true → AtLeastFrom (suc i) (suc count) P xs) → (if passes then fewer else more) ≡ true
+      → AtLeastFrom i (suc count) P (x ∷ xs)
   by_first P i count x xs true fewer more here rest none is = inl (here refl, rest is)
   by_first P i count x xs false fewer more here rest none is = inr (none is)
 
-  pub enough-true : (P : ℕ → X → Type 0) (test : ℕ → X → Bool) → ((i : ℕ) (x : X) → test i x ≡ true → P i x) → (i count : ℕ) (xs : List X) → enough i count test xs ≡ true → AtLeastFrom i count P xs
+  pub enough-true : (P : ℕ → X → Type 0) (test : ℕ → X → Bool) → ((i : ℕ) (x : X) → test i x ≡ true → P i x)
+      → (i count : ℕ) (xs : List X) → enough i count test xs ≡ true → AtLeastFrom i count P xs
   enough-true P test shows i zero xs is = tt
   enough-true P test shows i (suc count) [] is = absurd (false≢true is)
   enough-true P test shows i (suc count) (x ∷ xs) is =
-      by_first P i count x xs (test i x) (enough (suc i) count test xs) (enough (suc i) (suc count) test xs) (shows i x) (enough-true P test shows (suc i) count xs) (enough-true P test shows (suc i) (suc count) xs) is
+      by_first P i count x xs (test i x) (enough (suc i) count test xs) (enough (suc i) (suc count) test xs) (shows i x)
+      (enough-true P test shows (suc i) count xs) (enough-true P test shows (suc i) (suc count) xs) is
 
 -- the first replica is replica j
 
@@ -136,23 +144,30 @@ each_honest test j [] = true
 each_honest test j (Faulty ∷ network) = each_honest test (suc j) network
 each_honest test j (Honest s ∷ network) = test j s && each_honest test (suc j) network
 
-each_honest-true : (test : ℕ → Execution ℕ ℕ ℕ → Bool) (j : ℕ) (network : List (Replica ℕ ℕ ℕ)) → each_honest test j network ≡ true → (i : ℕ) (s : Execution ℕ ℕ ℕ) → slice_get network i ≡ Some (Honest s) → test (j + i) s ≡ true
+each_honest-true : (test : ℕ → Execution ℕ ℕ ℕ → Bool) (j : ℕ) (network : List (Replica ℕ ℕ ℕ))
+    → each_honest test j network ≡ true → (i : ℕ) (s : Execution ℕ ℕ ℕ) → slice_get network i ≡ Some (Honest s)
+    → test (j + i) s ≡ true
 each_honest-true test j [] is i s at = absurd (cc)
 each_honest-true test j (Faulty ∷ network) is zero s at = absurd (cc)
-each_honest-true test j (Faulty ∷ network) is (suc i) s at = subst (λ k. test k s ≡ true) (omega arith) (each_honest-true test (suc j) network is i s at)
+each_honest-true test j (Faulty ∷ network) is (suc i) s at =
+    subst (λ k. test k s ≡ true) (omega arith) (each_honest-true test (suc j) network is i s at)
 each_honest-true test j (Honest t ∷ network) is zero s at =
     let same : t ≡ s = cc in
     let index : j ≡ j + 0 = omega arith in
-    subst (λ k. test k s ≡ true) index (subst (λ u. test j u ≡ true) same (and_parts (test j t) (each_honest test (suc j) network) is).0)
+    subst (λ k. test k s ≡ true) index
+    (subst (λ u. test j u ≡ true) same (and_parts (test j t) (each_honest test (suc j) network) is).0)
 each_honest-true test j (Honest t ∷ network) is (suc i) s at =
-    subst (λ k. test k s ≡ true) (omega arith) (each_honest-true test (suc j) network (and_parts (test j t) (each_honest test (suc j) network) is).1 i s at)
+    subst (λ k. test k s ≡ true) (omega arith)
+    (each_honest-true test (suc j) network (and_parts (test j t) (each_honest test (suc j) network) is).1 i s at)
 
 abbrev some_honest : (ℕ → Execution ℕ ℕ ℕ → Bool) → ℕ → List (Replica ℕ ℕ ℕ) → Bool
 some_honest test j [] = false
 some_honest test j (Faulty ∷ network) = some_honest test (suc j) network
 some_honest test j (Honest s ∷ network) = test j s || some_honest test (suc j) network
 
-some_honest-true : (test : ℕ → Execution ℕ ℕ ℕ → Bool) (j : ℕ) (network : List (Replica ℕ ℕ ℕ)) → some_honest test j network ≡ true → (i : ℕ) × (s : Execution ℕ ℕ ℕ) × (slice_get network i ≡ Some (Honest s)) × (test (j + i) s ≡ true)
+some_honest-true : (test : ℕ → Execution ℕ ℕ ℕ → Bool) (j : ℕ) (network : List (Replica ℕ ℕ ℕ))
+    → some_honest test j network ≡ true → (i : ℕ) × (s : Execution ℕ ℕ ℕ) × (slice_get network i ≡ Some (Honest s))
+    × (test (j + i) s ≡ true)
 some_honest-true test j [] is = absurd (false≢true is)
 some_honest-true test j (Faulty ∷ network) is =
     let found = some_honest-true test (suc j) network is in
@@ -178,7 +193,8 @@ abbrev is_honestly_signed : Subject ℕ → ℕ → Replica ℕ ℕ ℕ → Bool
 is_honestly_signed vote i Faulty = false
 is_honestly_signed vote i (Honest s) = has_done (Signs i vote) s
 
-honestly_so : (vote : Subject ℕ) (i : ℕ) (p : Replica ℕ ℕ ℕ) → is_honestly_signed vote i p ≡ true → IsHonestlySigned vote i p
+honestly_so : (vote : Subject ℕ) (i : ℕ) (p : Replica ℕ ℕ ℕ) → is_honestly_signed vote i p ≡ true
+    → IsHonestlySigned vote i p
 honestly_so vote i Faulty is = absurd (false≢true is)
 honestly_so vote i (Honest s) is = done (Signs i vote) s is
 
@@ -187,13 +203,15 @@ module _ (network : List (Replica ℕ ℕ ℕ)) where
   is_backed vote = enough 0 (quorum (length network)) (may_have_signed vote) network
 
   pub backed_so : (vote : Subject ℕ) → is_backed vote ≡ true → Backed network vote
-  backed_so vote is = enough-true (MayHaveSigned vote) (may_have_signed vote) (signed_so vote) 0 (quorum (length network)) network is
+  backed_so vote is = enough-true (MayHaveSigned vote) (may_have_signed vote) (signed_so vote) 0
+      (quorum (length network)) network is
 
   abbrev is_honestly_backed : Subject ℕ → Bool
   is_honestly_backed vote = enough 0 (quorum (length network)) (is_honestly_signed vote) network
 
   honestly_backed_so : (vote : Subject ℕ) → is_honestly_backed vote ≡ true → HonestlyBacked network vote
-  honestly_backed_so vote is = enough-true (IsHonestlySigned vote) (is_honestly_signed vote) (honestly_so vote) 0 (quorum (length network)) network is
+  honestly_backed_so vote is = enough-true (IsHonestlySigned vote) (is_honestly_signed vote) (honestly_so vote) 0
+      (quorum (length network)) network is
 
 -- a certificate is not among those that were accepted
 
@@ -201,8 +219,10 @@ abbrev is_other : Subject ℕ → TraceEvent ℕ → Bool
 is_other c (Accepts d) = not (same_subject c d)
 is_other c (Signs i vote) = true
 
-pub not_accepted : (c : Subject ℕ) (s : Execution ℕ ℕ ℕ) → same_subject c c ≡ true → each_one (is_other c) (trace_of s) ≡ true → Contains (trace_of s) (Accepts c) → ⊥
-not_accepted c s itself others h = false≢true (sym (ap not itself) ∙ each_one-true (is_other c) (trace_of s) others (Accepts c) h)
+pub not_accepted : (c : Subject ℕ) (s : Execution ℕ ℕ ℕ) → same_subject c c ≡ true
+    → each_one (is_other c) (trace_of s) ≡ true → Contains (trace_of s) (Accepts c) → ⊥
+not_accepted c s itself others h = false≢true
+    (sym (ap not itself) ∙ each_one-true (is_other c) (trace_of s) others (Accepts c) h)
 
 -- each certificate that honest members accept passes a test
 
@@ -213,9 +233,11 @@ passes test (Signs i vote) = true
 abbrev pub each_accepted : (Subject ℕ → Bool) → List (Replica ℕ ℕ ℕ) → Bool
 each_accepted test network = each_honest (λ i s. each_one (passes test) (trace_of s)) 0 network
 
-pub accepted_so : (test : Subject ℕ → Bool) (network : List (Replica ℕ ℕ ℕ)) → each_accepted test network ≡ true → EachHonest network (λ i s. (c : Subject ℕ) → HasAccepted c i s → test c ≡ true)
+pub accepted_so : (test : Subject ℕ → Bool) (network : List (Replica ℕ ℕ ℕ)) → each_accepted test network ≡ true
+    → EachHonest network (λ i s. (c : Subject ℕ) → HasAccepted c i s → test c ≡ true)
 accepted_so test network is i s at c h =
-    each_one-true (passes test) (trace_of s) (each_honest-true (λ j t. each_one (passes test) (trace_of t)) 0 network is i s at) (Accepts c) h
+    each_one-true (passes test) (trace_of s)
+    (each_honest-true (λ j t. each_one (passes test) (trace_of t)) 0 network is i s at) (Accepts c) h
 
 -- each proposal that they receive does
 
@@ -226,9 +248,12 @@ passes_handing test _ = true
 abbrev each_heard : (ℕ → Proposal ℕ → Bool) → List (Replica ℕ ℕ ℕ) → Bool
 each_heard test network = each_honest (λ i s. each_one (passes_handing test) s.steps) 0 network
 
-heard_so : (test : ℕ → Proposal ℕ → Bool) (network : List (Replica ℕ ℕ ℕ)) → each_heard test network ≡ true → EachHonest network (λ i s. (v : ℕ) (p : Proposal ℕ) → HasHeard v p s → test v p ≡ true)
+heard_so : (test : ℕ → Proposal ℕ → Bool) (network : List (Replica ℕ ℕ ℕ)) → each_heard test network ≡ true
+    → EachHonest network (λ i s. (v : ℕ) (p : Proposal ℕ) → HasHeard v p s → test v p ≡ true)
 heard_so test network is i s at v p h =
-    each_one-true (passes_handing test) s.steps (each_honest-true (λ j t. each_one (passes_handing test) t.steps) 0 network is i s at) (Calls (SetProposal v p)) h
+    each_one-true (passes_handing test) s.steps
+    (each_honest-true (λ j t. each_one (passes_handing test) t.steps) 0 network is i s at) (Calls (SetProposal v p))
+    h
 
 -- a vote is of a view below this one
 
@@ -248,39 +273,50 @@ module _ (elect : Elect ℕ) (term_length : ℕ) where
   AreExecutions j (Faulty ∷ network) = AreExecutions (suc j) network
   AreExecutions j (Honest s ∷ network) = IsExecution nat_eq elect term_length j s × AreExecutions (suc j) network
 
-  each_ran : (j : ℕ) (network : List (Replica ℕ ℕ ℕ)) → AreExecutions j network → (i : ℕ) (s : Execution ℕ ℕ ℕ) → slice_get network i ≡ Some (Honest s) → IsExecution nat_eq elect term_length (j + i) s
+  each_ran : (j : ℕ) (network : List (Replica ℕ ℕ ℕ)) → AreExecutions j network → (i : ℕ) (s : Execution ℕ ℕ ℕ)
+      → slice_get network i ≡ Some (Honest s) → IsExecution nat_eq elect term_length (j + i) s
   each_ran j [] all i s at = absurd (cc)
   each_ran j (Faulty ∷ network) all zero s at = absurd (cc)
-  each_ran j (Faulty ∷ network) all (suc i) s at = subst (λ k. IsExecution nat_eq elect term_length k s) (omega arith) (each_ran (suc j) network all i s at)
+  each_ran j (Faulty ∷ network) all (suc i) s at =
+      subst (λ k. IsExecution nat_eq elect term_length k s) (omega arith) (each_ran (suc j) network all i s at)
   each_ran j (Honest t ∷ network) all zero s at =
       let same : t ≡ s = cc in
       let index : j ≡ j + 0 = omega arith in
-      subst (λ k. IsExecution nat_eq elect term_length k s) index (subst (λ u. IsExecution nat_eq elect term_length j u) same all.0)
-  each_ran j (Honest t ∷ network) all (suc i) s at = subst (λ k. IsExecution nat_eq elect term_length k s) (omega arith) (each_ran (suc j) network all.1 i s at)
+      subst (λ k. IsExecution nat_eq elect term_length k s) index
+      (subst (λ u. IsExecution nat_eq elect term_length j u) same all.0)
+  each_ran j (Honest t ∷ network) all (suc i) s at =
+      subst (λ k. IsExecution nat_eq elect term_length k s) (omega arith) (each_ran (suc j) network all.1 i s at)
 
   -- a network whose members ran, and whose accepted certificates are backed
-  pub network_of : (network : List (Replica ℕ ℕ ℕ)) → FewFaulty network → AreExecutions 0 network → each_accepted (is_backed network) network ≡ true → IsNetworkOf nat_eq elect term_length network
+  pub network_of : (network : List (Replica ℕ ℕ ℕ)) → FewFaulty network → AreExecutions 0 network
+      → each_accepted (is_backed network) network ≡ true → IsNetworkOf nat_eq elect term_length network
   network_of network few all backed = record {
     few_faulty = few;
-    honest = λ i s at. subst (λ k. IsExecution nat_eq elect term_length k s) (omega arith) (each_ran 0 network all i s at);
+    honest = λ i s at. subst (λ k. IsExecution nat_eq elect term_length k s) (omega arith)
+        (each_ran 0 network all i s at);
     backed = λ i s c at h. backed_so network c (accepted_so (is_backed network) network backed i s at c h);
   }
 
   -- the same, however many are faulty
-  pub backed_network_of : (network : List (Replica ℕ ℕ ℕ)) → AreExecutions 0 network → each_accepted (is_backed network) network ≡ true → IsBackedNetwork nat_eq elect term_length network
+  pub backed_network_of : (network : List (Replica ℕ ℕ ℕ)) → AreExecutions 0 network
+      → each_accepted (is_backed network) network ≡ true → IsBackedNetwork nat_eq elect term_length network
   backed_network_of network all backed = record {
-    honest = λ i s at. subst (λ k. IsExecution nat_eq elect term_length k s) (omega arith) (each_ran 0 network all i s at);
+    honest = λ i s at. subst (λ k. IsExecution nat_eq elect term_length k s) (omega arith)
+        (each_ran 0 network all i s at);
     backed = λ i s c at h. backed_so network c (accepted_so (is_backed network) network backed i s at c h);
   }
 
   -- the beginning of a run is one
-  ran_before : (i : ℕ) (s : Execution ℕ ℕ ℕ) (more : List (StepFacts ℕ ℕ ℕ × ReplyFacts ℕ ℕ)) → length s.steps ≡ length s.replies → IsExecution nat_eq elect term_length i (and_then s more) → IsExecution nat_eq elect term_length i s
+  ran_before : (i : ℕ) (s : Execution ℕ ℕ ℕ) (more : List (StepFacts ℕ ℕ ℕ × ReplyFacts ℕ ℕ))
+      → length s.steps ≡ length s.replies → IsExecution nat_eq elect term_length i (and_then s more)
+      → IsExecution nat_eq elect term_length i s
   ran_before i s more as_many ran = record {
     lives = record {
       first = ran.lives.first;
       later = λ r h. ran.lives.later r (Contains-append_left s.steps (map (λ e. e.0) more) (Restarts r) h);
     };
-    run = run_from_before nat_eq elect s.start s.steps (map (λ e. e.0) more) s.replies (map (λ e. e.1) more) as_many ran.run;
+    run = run_from_before nat_eq elect s.start s.steps (map (λ e. e.0) more) s.replies (map (λ e. e.1) more) as_many
+        ran.run;
   }
 
   abbrev pub have_replies : List (Replica ℕ ℕ ℕ) → Bool
@@ -288,17 +324,20 @@ module _ (elect : Elect ℕ) (term_length : ℕ) where
   have_replies (Faulty ∷ network) = have_replies network
   have_replies (Honest s ∷ network) = length s.steps == length s.replies && have_replies network
 
-  pub all_ran_before : (j : ℕ) (network later : List (Replica ℕ ℕ ℕ)) → have_replies network ≡ true → ReplicasContinue network later → AreExecutions j later → AreExecutions j network
+  pub all_ran_before : (j : ℕ) (network later : List (Replica ℕ ℕ ℕ)) → have_replies network ≡ true
+      → ReplicasContinue network later → AreExecutions j later → AreExecutions j network
   all_ran_before j [] [] full goes all = tt
   all_ran_before j [] (p ∷ later) full goes all = absurd goes
   all_ran_before j (Faulty ∷ network) [] full goes all = absurd goes
   all_ran_before j (Honest s ∷ network) [] full goes all = absurd goes
-  all_ran_before j (Faulty ∷ network) (Faulty ∷ later) full goes all = all_ran_before (suc j) network later full goes all
+  all_ran_before j (Faulty ∷ network) (Faulty ∷ later) full goes all =
+      all_ran_before (suc j) network later full goes all
   all_ran_before j (Faulty ∷ network) (Honest t ∷ later) full goes all = absurd goes
   all_ran_before j (Honest s ∷ network) (Faulty ∷ later) full goes all = absurd goes
   all_ran_before j (Honest s ∷ network) (Honest t ∷ later) full (execution, goes) all =
       let parts = and_parts (length s.steps == length s.replies) (have_replies network) full in (
-        ran_before j s execution.0 (eqb-true (length s.steps) (length s.replies) parts.0) (subst (λ u. IsExecution nat_eq elect term_length j u) execution.1 all.0),
+        ran_before j s execution.0 (eqb-true (length s.steps) (length s.replies) parts.0)
+            (subst (λ u. IsExecution nat_eq elect term_length j u) execution.1 all.0),
         all_ran_before (suc j) network later parts.1 goes all.1,
       )
 
@@ -307,38 +346,52 @@ module _ (elect : Elect ℕ) (term_length : ℕ) where
     abbrev comes_from_honest : Subject ℕ → Bool
     comes_from_honest c = some_honest (λ i s. has_done (Accepts c) s) 0 network || is_honestly_backed later c
 
-    from_honest : (c : Subject ℕ) → comes_from_honest c ≡ true → SomeHonest network (HasAccepted c) ⊎ HonestlyBacked later c
-    from_honest c is = elim (or_cases (some_honest (λ i s. has_done (Accepts c) s) 0 network) (is_honestly_backed later c) is) [
-      | inl held ↦ (let found = some_honest-true (λ i s. has_done (Accepts c) s) 0 network held in inl (found.0, found.1, found.2, done (Accepts c) found.1 found.3))
-      | inr made ↦ inr (honestly_backed_so later c made)
-    ]
+    from_honest : (c : Subject ℕ) → comes_from_honest c ≡ true
+        → SomeHonest network (HasAccepted c) ⊎ HonestlyBacked later c
+    from_honest c is =
+        elim (or_cases (some_honest (λ i s. has_done (Accepts c) s) 0 network) (is_honestly_backed later c) is) [
+          | inl held ↦ (let found = some_honest-true (λ i s. has_done (Accepts c) s) 0 network held in
+              inl (found.0, found.1, found.2, done (Accepts c) found.1 found.3))
+          | inr made ↦ inr (honestly_backed_so later c made)
+        ]
 
     abbrev has_built : Proposal ℕ → ℕ → Execution ℕ ℕ ℕ → Bool
     has_built p i s = has_step (Calls (Proposed p.round.view p.payload 0)) s && has_done (Signs i (Notarize p)) s
 
     built : (p : Proposal ℕ) (i : ℕ) (s : Execution ℕ ℕ ℕ) → has_built p i s ≡ true → HasBuilt p i s
     built p i s is =
-        let parts = and_parts (has_step (Calls (Proposed p.round.view p.payload 0)) s) (has_done (Signs i (Notarize p)) s) is in
+        let parts = and_parts (has_step (Calls (Proposed p.round.view p.payload 0)) s)
+        (has_done (Signs i (Notarize p)) s) is in
         ((0, stepped (Calls (Proposed p.round.view p.payload 0)) s parts.0), done (Signs i (Notarize p)) s parts.1)
 
     abbrev is_proposed : ℕ → Proposal ℕ → Bool
-    is_proposed v p = some_honest (λ i s. has_step (Calls (SetProposal v p)) s) 0 network || some_honest (has_built p) 0 later
+    is_proposed v p = some_honest (λ i s. has_step (Calls (SetProposal v p)) s) 0 network || some_honest (has_built p) 0
+        later
 
-    proposed_so : (v : ℕ) (p : Proposal ℕ) → is_proposed v p ≡ true → SomeHonest network (λ j t. HasHeard v p t) ⊎ SomeHonest later (HasBuilt p)
-    proposed_so v p is = elim (or_cases (some_honest (λ i s. has_step (Calls (SetProposal v p)) s) 0 network) (some_honest (has_built p) 0 later) is) [
-      | inl old ↦
-          (let found = some_honest-true (λ i s. has_step (Calls (SetProposal v p)) s) 0 network old in
-          inl (found.0, found.1, found.2, stepped (Calls (SetProposal v p)) found.1 found.3))
-      | inr new ↦
-          (let found = some_honest-true (has_built p) 0 later new in
-          let index : 0 + found.0 ≡ found.0 = omega arith in
-          inr (found.0, found.1, found.2, subst (λ k. HasBuilt p k found.1) index (built p (0 + found.0) found.1 found.3)))
-    ]
+    proposed_so : (v : ℕ) (p : Proposal ℕ) → is_proposed v p ≡ true
+        → SomeHonest network (λ j t. HasHeard v p t) ⊎ SomeHonest later (HasBuilt p)
+    proposed_so v p is = elim (or_cases (some_honest (λ i s. has_step (Calls (SetProposal v p)) s) 0 network)
+        (some_honest (has_built p) 0 later) is) [
+          | inl old ↦
+              (let found = some_honest-true (λ i s. has_step (Calls (SetProposal v p)) s) 0 network old in
+              inl (found.0, found.1, found.2, stepped (Calls (SetProposal v p)) found.1 found.3))
+          | inr new ↦
+              (let found = some_honest-true (has_built p) 0 later new in
+              let index : 0 + found.0 ≡ found.0 = omega arith in
+              inr (
+                found.0,
+                found.1,
+                found.2,
+                subst (λ k. HasBuilt p k found.1) index
+                    (built p (0 + found.0) found.1 found.3),
+              ))
+        ]
 
     abbrev is_finalized : ℕ → Execution ℕ ℕ ℕ → Bool
     is_finalized i s = has_done (Signs i (Finalize final)) s && has_done (Accepts (Finalize final)) s
 
-    finalized_so : each_honest is_finalized 0 later ≡ true → EachHonest later (λ i s. HasSignedAs (Finalize final) i s × HasAccepted (Finalize final) i s)
+    finalized_so : each_honest is_finalized 0 later ≡ true
+        → EachHonest later (λ i s. HasSignedAs (Finalize final) i s × HasAccepted (Finalize final) i s)
     finalized_so is i s at =
         let index : 0 + i ≡ i = omega arith in
         let here = subst (λ k. is_finalized k s ≡ true) index (each_honest-true is_finalized 0 later is i s at) in
@@ -348,10 +401,13 @@ module _ (elect : Elect ℕ) (term_length : ℕ) where
     abbrev are_finalized_below : Bool
     are_finalized_below = each_honest (λ i s. each_one (finalizes_below final.round.view) (trace_of s)) 0 network
 
-    new_so : FewFaulty network → are_finalized_below ≡ true → (p : Proposal ℕ) → Backed network (Finalize p) → p.round.view < final.round.view
+    new_so : FewFaulty network → are_finalized_below ≡ true → (p : Proposal ℕ) → Backed network (Finalize p)
+        → p.round.view < final.round.view
     new_so few is p backed =
         let found = shared_member network (Finalize p) (Finalize p) few backed backed in
-        let below = each_one-true (finalizes_below final.round.view) (trace_of found.1) (each_honest-true (λ i s. each_one (finalizes_below final.round.view) (trace_of s)) 0 network is found.0 found.1 found.2) (Signs found.3.0 (Finalize p)) found.3.1 in
+        let below = each_one-true (finalizes_below final.round.view) (trace_of found.1)
+        (each_honest-true (λ i s. each_one (finalizes_below final.round.view) (trace_of s)) 0 network is found.0
+        found.1 found.2) (Signs found.3.0 (Finalize p)) found.3.1 in
         ltb-true p.round.view final.round.view below
 
     -- the tests that are computed of it
@@ -362,7 +418,8 @@ module _ (elect : Elect ℕ) (term_length : ℕ) where
       pub finalized : each_honest is_finalized 0 later ≡ true
       pub new : are_finalized_below ≡ true
 
-    pub goes_on_so : FewFaulty network → FewFaulty later → ReplicasContinue network later → AreExecutions 0 later → PassesTests → ContinuesToFinalize nat_eq elect term_length network later final
+    pub goes_on_so : FewFaulty network → FewFaulty later → ReplicasContinue network later → AreExecutions 0 later
+        → PassesTests → ContinuesToFinalize nat_eq elect term_length network later final
     goes_on_so few later_few goes all tests = record {
       continues = goes;
       runs = network_of later later_few all tests.backed;

@@ -26,35 +26,51 @@ abbrev FitsFrom : Execution ℕ ℕ ℕ → Type 0
 FitsFrom s = FindsRisingRecords nat_eq leader (new_member nat_eq leader s.start) s.steps
 
 refusing_told : told_from nat_eq leader refusing ≡ refusing.replies
-unfolding first_recover_error recovered_state after_kept_entry may_drop pruned_entries has_valid_parent_span ancestry_payload_for_child first_unnullified_view explicit_ancestry_payload in_issuance_window is_admitted verification_matches parent_payload_for may_notarize may_nullify may_finalize has_conflicting_nullify required_certification_parent
+unfolding first_recover_error recovered_state after_kept_entry may_drop pruned_entries has_valid_parent_span
+    ancestry_payload_for_child first_unnullified_view explicit_ancestry_payload in_issuance_window is_admitted
+    verification_matches parent_payload_for may_notarize may_nullify may_finalize has_conflicting_nullify
+    required_certification_parent
 refusing_told = refl
 
 -- the record that remains at the first two restarts, and at the others
 abbrev finalized_first : List (ArtifactFacts ℕ)
-finalized_first = Accepted (Notarized (certificate one)) ∷ Verdict (round 1) true ∷ FinalizeVote one 1 ∷ Accepted (CertifiedFinal (certificate one)) ∷ []
+finalized_first = Accepted (Notarized (certificate one)) ∷ Verdict (round 1) true ∷ FinalizeVote one 1 ∷ Accepted
+    (CertifiedFinal (certificate one)) ∷ []
 
 abbrev notarized_second : List (ArtifactFacts ℕ)
 notarized_second = finalized_first ++ Accepted (Notarized (certificate two)) ∷ []
 
 refusing_fits : FitsFrom refusing
-unfolding first_recover_error recovered_state after_kept_entry may_drop pruned_entries has_valid_parent_span ancestry_payload_for_child first_unnullified_view explicit_ancestry_payload in_issuance_window is_admitted verification_matches parent_payload_for may_notarize may_nullify may_finalize has_conflicting_nullify required_certification_parent
+unfolding first_recover_error recovered_state after_kept_entry may_drop pruned_entries has_valid_parent_span
+    ancestry_payload_for_child first_unnullified_view explicit_ancestry_payload in_issuance_window is_admitted
+    verification_matches parent_payload_for may_notarize may_nullify may_finalize has_conflicting_nullify
+    required_certification_parent
 refusing_fits = (
   rises entry_view 0 finalized_first refl,
-  (rises entry_view 0 finalized_first refl, (rises entry_view 0 notarized_second refl, (rises entry_view 0 notarized_second refl, tt))),
+  (
+    rises entry_view 0 finalized_first refl,
+    (rises entry_view 0 notarized_second refl, (rises entry_view 0 notarized_second refl, tt)),
+  ),
 )
 
 pub refusing_ran : IsExecution nat_eq leader 5 1 refusing
 unfolding first_recover_error
 refusing_ran =
-    let begins : BeginsAs 5 1 refusing.start.setup = record { terms = record { terms = refl; some = omega arith }; signs_as = inl refl } in
-    let wider : BeginsAs 5 1 wider_start.setup = record { terms = record { terms = refl; some = omega arith }; signs_as = inl refl } in
+    let begins : BeginsAs 5 1 refusing.start.setup =
+    record { terms = record { terms = refl; some = omega arith }; signs_as = inl refl } in
+    let wider : BeginsAs 5 1 wider_start.setup =
+    record { terms = record { terms = refl; some = omega arith }; signs_as = inl refl } in
     record {
-      lives = record { first = begins; later = each_begins 5 1 refusing.steps (begins, (wider, (begins, (begins, tt)))) };
+      lives =
+          record { first = begins; later = each_begins 5 1 refusing.steps (begins, (wider, (begins, (begins, tt)))) };
       run = fits_run_from nat_eq leader refusing refl refusing_fits refusing_told;
     }
 
 changing_told : told_from nat_eq leader changing ≡ changing.replies
-unfolding first_recover_error recovered_state after_kept_entry may_drop pruned_entries standing has_valid_parent_span ancestry_payload_for_child first_unnullified_view explicit_ancestry_payload in_issuance_window is_admitted verification_matches parent_payload_for may_notarize may_nullify may_finalize has_conflicting_nullify required_certification_parent optimistic_ancestry_payload is_handoff_parent is_voted_ancestor can_chain_on
+unfolding first_recover_error recovered_state after_kept_entry may_drop pruned_entries standing has_valid_parent_span
+    ancestry_payload_for_child first_unnullified_view explicit_ancestry_payload in_issuance_window is_admitted
+    verification_matches parent_payload_for may_notarize may_nullify may_finalize has_conflicting_nullify
+    required_certification_parent optimistic_ancestry_payload is_handoff_parent is_voted_ancestor can_chain_on
 changing_told = refl
 
 -- the record that remains at the first restart, and at the others
@@ -72,15 +88,24 @@ with_a_vote =
     ∷ []
 
 changing_fits : FitsFrom changing
-unfolding first_recover_error recovered_state after_kept_entry may_drop pruned_entries standing has_valid_parent_span ancestry_payload_for_child first_unnullified_view explicit_ancestry_payload in_issuance_window is_admitted verification_matches parent_payload_for may_notarize may_nullify may_finalize has_conflicting_nullify required_certification_parent optimistic_ancestry_payload is_handoff_parent is_voted_ancestor can_chain_on
-changing_fits = (rises entry_view 0 without_votes refl, (rises entry_view 0 with_a_vote refl, (rises entry_view 0 with_a_vote refl, tt)))
+unfolding first_recover_error recovered_state after_kept_entry may_drop pruned_entries standing has_valid_parent_span
+    ancestry_payload_for_child first_unnullified_view explicit_ancestry_payload in_issuance_window is_admitted
+    verification_matches parent_payload_for may_notarize may_nullify may_finalize has_conflicting_nullify
+    required_certification_parent optimistic_ancestry_payload is_handoff_parent is_voted_ancestor can_chain_on
+changing_fits = (
+  rises entry_view 0 without_votes refl,
+  (rises entry_view 0 with_a_vote refl, (rises entry_view 0 with_a_vote refl, tt)),
+)
 
 pub changing_ran : IsExecution nat_eq leader 5 1 changing
 unfolding first_recover_error
 changing_ran =
-    let keyless : BeginsAs 5 1 keyless_start.setup = record { terms = record { terms = refl; some = omega arith }; signs_as = inr refl } in
-    let other : BeginsAs 5 1 other_start.setup = record { terms = record { terms = refl; some = omega arith }; signs_as = inl refl } in
-    let begins : BeginsAs 5 1 refusing.start.setup = record { terms = record { terms = refl; some = omega arith }; signs_as = inl refl } in
+    let keyless : BeginsAs 5 1 keyless_start.setup =
+    record { terms = record { terms = refl; some = omega arith }; signs_as = inr refl } in
+    let other : BeginsAs 5 1 other_start.setup =
+    record { terms = record { terms = refl; some = omega arith }; signs_as = inl refl } in
+    let begins : BeginsAs 5 1 refusing.start.setup =
+    record { terms = record { terms = refl; some = omega arith }; signs_as = inl refl } in
     record {
       lives = record { first = keyless; later = each_begins 5 1 changing.steps (other, (keyless, (begins, tt))) };
       run = fits_run_from nat_eq leader changing refl changing_fits changing_told;
@@ -89,31 +114,43 @@ changing_ran =
 -- the networks that they are members of
 
 patient_told_0 : told_from nat_eq leader (patient 0) ≡ (patient 0).replies
-unfolding standing has_valid_parent_span ancestry_payload_for_child first_unnullified_view explicit_ancestry_payload in_issuance_window is_admitted verification_matches parent_payload_for may_notarize may_nullify may_finalize has_conflicting_nullify required_certification_parent
+unfolding standing has_valid_parent_span ancestry_payload_for_child first_unnullified_view explicit_ancestry_payload
+    in_issuance_window is_admitted verification_matches parent_payload_for may_notarize may_nullify may_finalize
+    has_conflicting_nullify required_certification_parent
 patient_told_0 = refl
 
 patient_told_2 : told_from nat_eq leader (patient 2) ≡ (patient 2).replies
-unfolding standing has_valid_parent_span ancestry_payload_for_child first_unnullified_view explicit_ancestry_payload in_issuance_window is_admitted verification_matches parent_payload_for may_notarize may_nullify may_finalize has_conflicting_nullify required_certification_parent
+unfolding standing has_valid_parent_span ancestry_payload_for_child first_unnullified_view explicit_ancestry_payload
+    in_issuance_window is_admitted verification_matches parent_payload_for may_notarize may_nullify may_finalize
+    has_conflicting_nullify required_certification_parent
 patient_told_2 = refl
 
 giving_up_told : told_from nat_eq leader abandoning ≡ abandoning.replies
-unfolding standing has_valid_parent_span ancestry_payload_for_child first_unnullified_view explicit_ancestry_payload in_issuance_window is_admitted verification_matches parent_payload_for may_notarize may_nullify may_finalize has_conflicting_nullify required_certification_parent
+unfolding standing has_valid_parent_span ancestry_payload_for_child first_unnullified_view explicit_ancestry_payload
+    in_issuance_window is_admitted verification_matches parent_payload_for may_notarize may_nullify may_finalize
+    has_conflicting_nullify required_certification_parent
 giving_up_told = refl
 
 giving_up_ran : IsExecution nat_eq leader 5 0 abandoning
 unfolding first_recover_error
 giving_up_ran =
-    let begins : BeginsAs 5 0 abandoning.start.setup = record { terms = record { terms = refl; some = omega arith }; signs_as = inl refl } in
-    record { lives = record { first = begins; later = each_begins 5 0 abandoning.steps tt }; run = fits_run_from nat_eq leader abandoning refl tt giving_up_told }
+    let begins : BeginsAs 5 0 abandoning.start.setup =
+    record { terms = record { terms = refl; some = omega arith }; signs_as = inl refl } in
+    record {
+      lives = record { first = begins; later = each_begins 5 0 abandoning.steps tt };
+      run = fits_run_from nat_eq leader abandoning refl tt giving_up_told;
+    }
 
 few_with_refusing : FewFaulty with_refusing
 few_with_refusing = inl (omega arith, omega arith)
 
 pub refusing_network : IsNetworkOf nat_eq leader 5 with_refusing
-refusing_network = network_of leader 5 with_refusing few_with_refusing (patient_ran 0 patient_told_0, (refusing_ran, (patient_ran 2 patient_told_2, tt))) refl
+refusing_network = network_of leader 5 with_refusing few_with_refusing
+    (patient_ran 0 patient_told_0, (refusing_ran, (patient_ran 2 patient_told_2, tt))) refl
 
 few_with_changing : FewFaulty with_changing
 few_with_changing = inl (omega arith, omega arith)
 
 pub changing_network : IsNetworkOf nat_eq leader 5 with_changing
-changing_network = network_of leader 5 with_changing few_with_changing (giving_up_ran, (changing_ran, (patient_ran 2 patient_told_2, tt))) refl
+changing_network = network_of leader 5 with_changing few_with_changing
+    (giving_up_ran, (changing_ran, (patient_ran 2 patient_told_2, tt))) refl

@@ -37,15 +37,24 @@ abbrev forgetting : Execution ℕ ℕ ℕ
 forgetting = and_then (warned 2) (follows_past_conflict 2 1000 LeaderTimeout)
 
 leading_told : told_in leading ≡ leading.replies
-unfolding first_recover_error recovered_state after_kept_entry may_drop pruned_entries standing propose_answer proposed_answer find_parent captured_parent_valid has_valid_parent_span ancestry_payload_for_child first_unnullified_view explicit_ancestry_payload in_issuance_window is_admitted verification_matches parent_payload_for may_notarize may_nullify may_finalize has_conflicting_nullify required_certification_parent
+unfolding first_recover_error recovered_state after_kept_entry may_drop pruned_entries standing propose_answer
+    proposed_answer find_parent captured_parent_valid has_valid_parent_span ancestry_payload_for_child
+    first_unnullified_view explicit_ancestry_payload in_issuance_window is_admitted verification_matches
+    parent_payload_for may_notarize may_nullify may_finalize has_conflicting_nullify required_certification_parent
 leading_told = refl
 
 following_told : told_in following ≡ following.replies
-unfolding first_recover_error recovered_state after_kept_entry may_drop pruned_entries standing has_valid_parent_span ancestry_payload_for_child first_unnullified_view explicit_ancestry_payload in_issuance_window is_admitted verification_matches parent_payload_for may_notarize may_nullify may_finalize has_conflicting_nullify required_certification_parent
+unfolding first_recover_error recovered_state after_kept_entry may_drop pruned_entries standing has_valid_parent_span
+    ancestry_payload_for_child first_unnullified_view explicit_ancestry_payload in_issuance_window is_admitted
+    verification_matches parent_payload_for may_notarize may_nullify may_finalize has_conflicting_nullify
+    required_certification_parent
 following_told = refl
 
 forgetting_told : told_in forgetting ≡ forgetting.replies
-unfolding first_recover_error recovered_state after_kept_entry may_drop pruned_entries standing has_valid_parent_span ancestry_payload_for_child first_unnullified_view explicit_ancestry_payload in_issuance_window is_admitted verification_matches parent_payload_for may_notarize may_nullify may_finalize has_conflicting_nullify required_certification_parent
+unfolding first_recover_error recovered_state after_kept_entry may_drop pruned_entries standing has_valid_parent_span
+    ancestry_payload_for_child first_unnullified_view explicit_ancestry_payload in_issuance_window is_admitted
+    verification_matches parent_payload_for may_notarize may_nullify may_finalize has_conflicting_nullify
+    required_certification_parent
 forgetting_told = refl
 
 -- the record that is left at a restart: a vote, or nothing
@@ -59,28 +68,40 @@ abbrev with_none : List (ArtifactFacts ℕ)
 with_none = []
 
 leading_fits : FitsIn leading
-unfolding first_recover_error recovered_state after_kept_entry may_drop pruned_entries standing propose_answer proposed_answer find_parent captured_parent_valid has_valid_parent_span ancestry_payload_for_child first_unnullified_view explicit_ancestry_payload in_issuance_window is_admitted verification_matches parent_payload_for may_notarize may_nullify may_finalize has_conflicting_nullify required_certification_parent
+unfolding first_recover_error recovered_state after_kept_entry may_drop pruned_entries standing propose_answer
+    proposed_answer find_parent captured_parent_valid has_valid_parent_span ancestry_payload_for_child
+    first_unnullified_view explicit_ancestry_payload in_issuance_window is_admitted verification_matches
+    parent_payload_for may_notarize may_nullify may_finalize has_conflicting_nullify required_certification_parent
 leading_fits = (rises entry_view 0 with_vote refl, tt)
 
 following_fits : FitsIn following
-unfolding first_recover_error recovered_state after_kept_entry may_drop pruned_entries standing has_valid_parent_span ancestry_payload_for_child first_unnullified_view explicit_ancestry_payload in_issuance_window is_admitted verification_matches parent_payload_for may_notarize may_nullify may_finalize has_conflicting_nullify required_certification_parent
+unfolding first_recover_error recovered_state after_kept_entry may_drop pruned_entries standing has_valid_parent_span
+    ancestry_payload_for_child first_unnullified_view explicit_ancestry_payload in_issuance_window is_admitted
+    verification_matches parent_payload_for may_notarize may_nullify may_finalize has_conflicting_nullify
+    required_certification_parent
 following_fits = (rises entry_view 0 with_other_vote refl, tt)
 
 forgetting_fits : FitsIn forgetting
-unfolding first_recover_error recovered_state after_kept_entry may_drop pruned_entries standing has_valid_parent_span ancestry_payload_for_child first_unnullified_view explicit_ancestry_payload in_issuance_window is_admitted verification_matches parent_payload_for may_notarize may_nullify may_finalize has_conflicting_nullify required_certification_parent
+unfolding first_recover_error recovered_state after_kept_entry may_drop pruned_entries standing has_valid_parent_span
+    ancestry_payload_for_child first_unnullified_view explicit_ancestry_payload in_issuance_window is_admitted
+    verification_matches parent_payload_for may_notarize may_nullify may_finalize has_conflicting_nullify
+    required_certification_parent
 forgetting_fits = (rises entry_view 0 with_none refl, tt)
 
 leading_ran : IsExecution nat_eq in_turn 1 0 leading
 unfolding first_recover_error
-leading_ran = ran_as_told 1 0 leading (begins 1 0 (omega arith)) (begins 1 0 (omega arith), tt) refl leading_fits leading_told
+leading_ran = ran_as_told 1 0 leading (begins 1 0 (omega arith)) (begins 1 0 (omega arith), tt) refl leading_fits
+    leading_told
 
 following_ran : IsExecution nat_eq in_turn 1 1 following
 unfolding first_recover_error
-following_ran = ran_as_told 1 1 following (begins 1 1 (omega arith)) (begins 1 1 (omega arith), tt) refl following_fits following_told
+following_ran = ran_as_told 1 1 following (begins 1 1 (omega arith)) (begins 1 1 (omega arith), tt) refl following_fits
+    following_told
 
 forgetting_ran : IsExecution nat_eq in_turn 1 2 forgetting
 unfolding first_recover_error
-forgetting_ran = ran_as_told 1 2 forgetting (begins 1 2 (omega arith)) (begins 1 2 (omega arith), tt) refl forgetting_fits forgetting_told
+forgetting_ran = ran_as_told 1 2 forgetting (begins 1 2 (omega arith)) (begins 1 2 (omega arith), tt) refl
+    forgetting_fits forgetting_told
 
 few : FewFaulty divided
 few = inl (omega arith, omega arith)
@@ -89,7 +110,13 @@ later_few : FewFaulty united
 later_few = inl (omega arith, omega arith)
 
 goes : ReplicasContinue divided united
-goes = ((leads_past_conflict 0 2000 CertificationTimeout, refl), ((follows_past_conflict 1 2000 CertificationTimeout, refl), ((follows_past_conflict 2 1000 LeaderTimeout, refl), tt)))
+goes = (
+  (leads_past_conflict 0 2000 CertificationTimeout, refl),
+  (
+    (follows_past_conflict 1 2000 CertificationTimeout, refl),
+    ((follows_past_conflict 2 1000 LeaderTimeout, refl), tt),
+  ),
+)
 
 all_ran : AreExecutions in_turn 1 0 united
 all_ran = (leading_ran, (following_ran, (forgetting_ran, tt)))
@@ -98,7 +125,8 @@ pub divided_network : IsNetworkOf nat_eq in_turn 1 divided
 divided_network = network_of in_turn 1 divided few (all_ran_before in_turn 1 0 divided united refl goes all_ran) refl
 
 pub divided_goes_on : ContinuesToFinalize nat_eq in_turn 1 divided united after_conflict
-divided_goes_on = goes_on_so in_turn 1 divided united after_conflict few later_few goes all_ran (record { backed = refl; certificates = refl; proposals = refl; finalized = refl; new = refl })
+divided_goes_on = goes_on_so in_turn 1 divided united after_conflict few later_few goes all_ran
+    (record { backed = refl; certificates = refl; proposals = refl; finalized = refl; new = refl })
 
 -- no proposal has votes enough: each of the two has that of one honest member
 
@@ -108,7 +136,8 @@ only_trace_event d e h = only_one d e h
 no_trace_event : (e : TraceEvent ℕ) → Contains [] e → ⊥
 no_trace_event e h = omega (arith, h.1)
 
-apart : (p : Proposal ℕ) → Contains (trace_of (deceived 0 one rival)) (Signs 0 (Notarize p)) → Contains (trace_of (deceived 1 rival one)) (Signs 1 (Notarize p)) → ⊥
+apart : (p : Proposal ℕ) → Contains (trace_of (deceived 0 one rival)) (Signs 0 (Notarize p))
+    → Contains (trace_of (deceived 1 rival one)) (Signs 1 (Notarize p)) → ⊥
 apart p first second =
     let a = only_trace_event (Signs 0 (Notarize one)) (Signs 0 (Notarize p)) first in
     let b = only_trace_event (Signs 1 (Notarize rival)) (Signs 1 (Notarize p)) second in

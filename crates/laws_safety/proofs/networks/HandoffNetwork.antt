@@ -31,15 +31,24 @@ abbrev left_third : Execution ℕ ℕ ℕ
 left_third = and_then (can_not_verify 2) (follows_past_handoff 2)
 
 left_first_told : told_in left_first ≡ left_first.replies
-unfolding standing propose_answer proposed_answer find_parent captured_parent_valid has_valid_parent_span ancestry_payload_for_child first_unnullified_view explicit_ancestry_payload optimistic_ancestry_payload is_handoff_parent is_voted_ancestor can_chain_on in_issuance_window is_admitted verification_matches parent_payload_for may_notarize may_nullify may_finalize has_conflicting_nullify required_certification_parent
+unfolding standing propose_answer proposed_answer find_parent captured_parent_valid has_valid_parent_span
+    ancestry_payload_for_child first_unnullified_view explicit_ancestry_payload optimistic_ancestry_payload
+    is_handoff_parent is_voted_ancestor can_chain_on in_issuance_window is_admitted verification_matches
+    parent_payload_for may_notarize may_nullify may_finalize has_conflicting_nullify required_certification_parent
 left_first_told = refl
 
 left_second_told : told_in left_second ≡ left_second.replies
-unfolding standing propose_answer proposed_answer find_parent captured_parent_valid has_valid_parent_span ancestry_payload_for_child first_unnullified_view explicit_ancestry_payload optimistic_ancestry_payload is_handoff_parent is_voted_ancestor can_chain_on in_issuance_window is_admitted verification_matches parent_payload_for may_notarize may_nullify may_finalize has_conflicting_nullify required_certification_parent
+unfolding standing propose_answer proposed_answer find_parent captured_parent_valid has_valid_parent_span
+    ancestry_payload_for_child first_unnullified_view explicit_ancestry_payload optimistic_ancestry_payload
+    is_handoff_parent is_voted_ancestor can_chain_on in_issuance_window is_admitted verification_matches
+    parent_payload_for may_notarize may_nullify may_finalize has_conflicting_nullify required_certification_parent
 left_second_told = refl
 
 left_third_told : told_in left_third ≡ left_third.replies
-unfolding standing propose_answer proposed_answer find_parent captured_parent_valid has_valid_parent_span ancestry_payload_for_child first_unnullified_view explicit_ancestry_payload optimistic_ancestry_payload is_handoff_parent is_voted_ancestor can_chain_on in_issuance_window is_admitted verification_matches parent_payload_for may_notarize may_nullify may_finalize has_conflicting_nullify required_certification_parent
+unfolding standing propose_answer proposed_answer find_parent captured_parent_valid has_valid_parent_span
+    ancestry_payload_for_child first_unnullified_view explicit_ancestry_payload optimistic_ancestry_payload
+    is_handoff_parent is_voted_ancestor can_chain_on in_issuance_window is_admitted verification_matches
+    parent_payload_for may_notarize may_nullify may_finalize has_conflicting_nullify required_certification_parent
 left_third_told = refl
 
 left_first_ran : IsExecution nat_eq in_turn 2 0 left_first
@@ -67,16 +76,20 @@ all_ran : AreExecutions in_turn 2 0 gone_on
 all_ran = (left_first_ran, (left_second_ran, (left_third_ran, tt)))
 
 pub taken_over_network : IsNetworkOf nat_eq in_turn 2 taken_over
-taken_over_network = network_of in_turn 2 taken_over few (all_ran_before in_turn 2 0 taken_over gone_on refl goes all_ran) refl
+taken_over_network = network_of in_turn 2 taken_over few
+    (all_ran_before in_turn 2 0 taken_over gone_on refl goes all_ran) refl
 
 pub taken_over_goes_on : ContinuesToFinalize nat_eq in_turn 2 taken_over gone_on after_handoff
-taken_over_goes_on = goes_on_so in_turn 2 taken_over gone_on after_handoff few later_few goes all_ran (record { backed = refl; certificates = refl; proposals = refl; finalized = refl; new = refl })
+taken_over_goes_on = goes_on_so in_turn 2 taken_over gone_on after_handoff few later_few goes all_ran
+    (record { backed = refl; certificates = refl; proposals = refl; finalized = refl; new = refl })
 
 -- no proposal above view 1 has votes enough: at most that of the leader
 
-voted_below : (me : ℕ) → each_one (notarizes_below 2) (trace_of (can_not_verify me)) ≡ true → (p : Proposal ℕ) → 2 ≤ p.round.view → Contains (trace_of (can_not_verify me)) (Signs me (Notarize p)) → ⊥
+voted_below : (me : ℕ) → each_one (notarizes_below 2) (trace_of (can_not_verify me)) ≡ true → (p : Proposal ℕ)
+    → 2 ≤ p.round.view → Contains (trace_of (can_not_verify me)) (Signs me (Notarize p)) → ⊥
 voted_below me below p high h =
-    let low = ltb-true p.round.view 2 (each_one-true (notarizes_below 2) (trace_of (can_not_verify me)) below (Signs me (Notarize p)) h) in
+    let low = ltb-true p.round.view 2
+    (each_one-true (notarizes_below 2) (trace_of (can_not_verify me)) below (Signs me (Notarize p)) h) in
     omega arith
 
 pub none_notarized : (p : Proposal ℕ) → 2 ≤ p.round.view → Backed taken_over (Notarize p) → ⊥

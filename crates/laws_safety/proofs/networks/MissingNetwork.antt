@@ -28,15 +28,24 @@ abbrev supplied_third : Execution ℕ ℕ ℕ
 supplied_third = and_then member_without_notarization has_notarization
 
 supplied_first_told : told_in supplied_first ≡ supplied_first.replies
-unfolding standing propose_answer proposed_answer find_parent captured_parent_valid has_valid_parent_span ancestry_payload_for_child first_unnullified_view explicit_ancestry_payload optimistic_ancestry_payload is_handoff_parent is_voted_ancestor can_chain_on in_issuance_window is_admitted verification_matches parent_payload_for may_notarize may_nullify may_finalize has_conflicting_nullify required_certification_parent
+unfolding standing propose_answer proposed_answer find_parent captured_parent_valid has_valid_parent_span
+    ancestry_payload_for_child first_unnullified_view explicit_ancestry_payload optimistic_ancestry_payload
+    is_handoff_parent is_voted_ancestor can_chain_on in_issuance_window is_admitted verification_matches
+    parent_payload_for may_notarize may_nullify may_finalize has_conflicting_nullify required_certification_parent
 supplied_first_told = refl
 
 supplied_second_told : told_in supplied_second ≡ supplied_second.replies
-unfolding standing propose_answer proposed_answer find_parent captured_parent_valid has_valid_parent_span ancestry_payload_for_child first_unnullified_view explicit_ancestry_payload optimistic_ancestry_payload is_handoff_parent is_voted_ancestor can_chain_on in_issuance_window is_admitted verification_matches parent_payload_for may_notarize may_nullify may_finalize has_conflicting_nullify required_certification_parent
+unfolding standing propose_answer proposed_answer find_parent captured_parent_valid has_valid_parent_span
+    ancestry_payload_for_child first_unnullified_view explicit_ancestry_payload optimistic_ancestry_payload
+    is_handoff_parent is_voted_ancestor can_chain_on in_issuance_window is_admitted verification_matches
+    parent_payload_for may_notarize may_nullify may_finalize has_conflicting_nullify required_certification_parent
 supplied_second_told = refl
 
 supplied_third_told : told_in supplied_third ≡ supplied_third.replies
-unfolding standing propose_answer proposed_answer find_parent captured_parent_valid has_valid_parent_span ancestry_payload_for_child first_unnullified_view explicit_ancestry_payload optimistic_ancestry_payload is_handoff_parent is_voted_ancestor can_chain_on in_issuance_window is_admitted verification_matches parent_payload_for may_notarize may_nullify may_finalize has_conflicting_nullify required_certification_parent
+unfolding standing propose_answer proposed_answer find_parent captured_parent_valid has_valid_parent_span
+    ancestry_payload_for_child first_unnullified_view explicit_ancestry_payload optimistic_ancestry_payload
+    is_handoff_parent is_voted_ancestor can_chain_on in_issuance_window is_admitted verification_matches
+    parent_payload_for may_notarize may_nullify may_finalize has_conflicting_nullify required_certification_parent
 supplied_third_told = refl
 
 supplied_first_ran : IsExecution nat_eq in_turn 1 0 supplied_first
@@ -64,10 +73,12 @@ all_ran : AreExecutions in_turn 1 0 supplied
 all_ran = (supplied_first_ran, (supplied_second_ran, (supplied_third_ran, tt)))
 
 pub lacking_network : IsNetworkOf nat_eq in_turn 1 missing_certificates
-lacking_network = network_of in_turn 1 missing_certificates few (all_ran_before in_turn 1 0 missing_certificates supplied refl goes all_ran) refl
+lacking_network = network_of in_turn 1 missing_certificates few
+    (all_ran_before in_turn 1 0 missing_certificates supplied refl goes all_ran) refl
 
 pub lacking_goes_on : ContinuesToFinalize nat_eq in_turn 1 missing_certificates supplied over_two
-lacking_goes_on = goes_on_so in_turn 1 missing_certificates supplied over_two few later_few goes all_ran (record { backed = refl; certificates = refl; proposals = refl; finalized = refl; new = refl })
+lacking_goes_on = goes_on_so in_turn 1 missing_certificates supplied over_two few later_few goes all_ran
+    (record { backed = refl; certificates = refl; proposals = refl; finalized = refl; new = refl })
 
 -- the certificates that two members have not accepted
 

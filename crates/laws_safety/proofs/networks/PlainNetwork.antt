@@ -31,21 +31,36 @@ in_turn elector round seed = leader_in_turn elector round.view
 
 -- four members, in terms of five views
 pub elector : PlainElector
-elector = record { count = 4; terms = record { term_length = 5; optimistic_views = 0; stall_timeout = None }; has_members = omega arith; in_range = omega arith }
+elector = record {
+  count = 4;
+  terms = record { term_length = 5; optimistic_views = 0; stall_timeout = None };
+  has_members = omega arith;
+  in_range = omega arith;
+}
 
 pub payload : PlainDigest
 payload = record { bytes = 0 ∷ 0 ∷ 0 ∷ 0 ∷ 0 ∷ 0 ∷ 0 ∷ 7 ∷ []; sized = refl }
 
 leader_told : told_from same in_turn (plain_proposer elector payload) ≡ (plain_proposer elector payload).replies
-unfolding elector payload standing propose_answer proposed_answer find_parent captured_parent_valid has_valid_parent_span ancestry_payload_for_child first_unnullified_view explicit_ancestry_payload optimistic_ancestry_payload is_handoff_parent is_voted_ancestor can_chain_on in_issuance_window is_admitted verification_matches parent_payload_for may_notarize may_nullify may_finalize has_conflicting_nullify required_certification_parent
+unfolding elector payload standing propose_answer proposed_answer find_parent captured_parent_valid
+    has_valid_parent_span ancestry_payload_for_child first_unnullified_view explicit_ancestry_payload
+    optimistic_ancestry_payload is_handoff_parent is_voted_ancestor can_chain_on in_issuance_window is_admitted
+    verification_matches parent_payload_for may_notarize may_nullify may_finalize has_conflicting_nullify
+    required_certification_parent
 leader_told = refl
 
 follower_told_1 : told_from same in_turn (plain_follower elector payload 1) ≡ (plain_follower elector payload 1).replies
-unfolding elector payload standing has_valid_parent_span ancestry_payload_for_child first_unnullified_view explicit_ancestry_payload optimistic_ancestry_payload is_handoff_parent is_voted_ancestor can_chain_on in_issuance_window is_admitted verification_matches parent_payload_for may_notarize may_nullify may_finalize has_conflicting_nullify required_certification_parent
+unfolding elector payload standing has_valid_parent_span ancestry_payload_for_child first_unnullified_view
+    explicit_ancestry_payload optimistic_ancestry_payload is_handoff_parent is_voted_ancestor can_chain_on
+    in_issuance_window is_admitted verification_matches parent_payload_for may_notarize may_nullify may_finalize
+    has_conflicting_nullify required_certification_parent
 follower_told_1 = refl
 
 follower_told_2 : told_from same in_turn (plain_follower elector payload 2) ≡ (plain_follower elector payload 2).replies
-unfolding elector payload standing has_valid_parent_span ancestry_payload_for_child first_unnullified_view explicit_ancestry_payload optimistic_ancestry_payload is_handoff_parent is_voted_ancestor can_chain_on in_issuance_window is_admitted verification_matches parent_payload_for may_notarize may_nullify may_finalize has_conflicting_nullify required_certification_parent
+unfolding elector payload standing has_valid_parent_span ancestry_payload_for_child first_unnullified_view
+    explicit_ancestry_payload optimistic_ancestry_payload is_handoff_parent is_voted_ancestor can_chain_on
+    in_issuance_window is_admitted verification_matches parent_payload_for may_notarize may_nullify may_finalize
+    has_conflicting_nullify required_certification_parent
 follower_told_2 = refl
 
 leader_ran : IsExecution same in_turn 5 0 (plain_proposer elector payload)
@@ -58,7 +73,9 @@ leader_ran = record {
   run = fits_run_from same in_turn (plain_proposer elector payload) refl tt leader_told;
 }
 
-follower_ran : (me : ℕ) → told_from same in_turn (plain_follower elector payload me) ≡ (plain_follower elector payload me).replies → IsExecution same in_turn 5 me (plain_follower elector payload me)
+follower_ran : (me : ℕ) → told_from same in_turn
+    (plain_follower elector payload me) ≡ (plain_follower elector payload me).replies
+    → IsExecution same in_turn 5 me (plain_follower elector payload me)
 unfolding elector payload first_recover_error
 follower_ran me told = record {
   lives = record {
@@ -79,32 +96,43 @@ plain_finalized = inl ((2, omega arith, refl), inl ((2, omega arith, refl), inl 
 
 -- each honest member accepts the notarization and the finalization of view 1
 
-leader_accepts : (c : Subject PlainDigest) → Contains (trace_of (plain_proposer elector payload)) (Accepts c) → PlainBack c
+leader_accepts : (c : Subject PlainDigest) → Contains (trace_of (plain_proposer elector payload)) (Accepts c)
+    → PlainBack c
 leader_accepts c (zero, less, at) = absurd (cc)
-leader_accepts c (suc zero, less, at) = (let e : subject.Notarize (plain_first payload) ≡ c = cc in subst PlainBack e notarized)
+leader_accepts c (suc zero, less, at) =
+    (let e : subject.Notarize (plain_first payload) ≡ c = cc in subst PlainBack e notarized)
 leader_accepts c (suc (suc zero), less, at) = absurd (cc)
-leader_accepts c (suc (suc (suc zero)), less, at) = (let e : subject.Finalize (plain_first payload) ≡ c = cc in subst PlainBack e plain_finalized)
+leader_accepts c (suc (suc (suc zero)), less, at) =
+    (let e : subject.Finalize (plain_first payload) ≡ c = cc in subst PlainBack e plain_finalized)
 leader_accepts c (suc (suc (suc (suc k))), less, at) = absurd (omega arith)
 
-follower_accepts : (me : ℕ) (c : Subject PlainDigest) → Contains (trace_of (plain_follower elector payload me)) (Accepts c) → PlainBack c
+follower_accepts : (me : ℕ) (c : Subject PlainDigest)
+    → Contains (trace_of (plain_follower elector payload me)) (Accepts c) → PlainBack c
 follower_accepts me c (zero, less, at) = absurd (cc)
-follower_accepts me c (suc zero, less, at) = (let e : subject.Notarize (plain_first payload) ≡ c = cc in subst PlainBack e notarized)
+follower_accepts me c (suc zero, less, at) =
+    (let e : subject.Notarize (plain_first payload) ≡ c = cc in subst PlainBack e notarized)
 follower_accepts me c (suc (suc zero), less, at) = absurd (cc)
-follower_accepts me c (suc (suc (suc zero)), less, at) = (let e : subject.Finalize (plain_first payload) ≡ c = cc in subst PlainBack e plain_finalized)
+follower_accepts me c (suc (suc (suc zero)), less, at) =
+    (let e : subject.Finalize (plain_first payload) ≡ c = cc in subst PlainBack e plain_finalized)
 follower_accepts me c (suc (suc (suc (suc k))), less, at) = absurd (omega arith)
 
-plain_replicas : (P : ℕ → PlainExecution → Type 0) → P 0 (plain_proposer elector payload) → P 1 (plain_follower elector payload 1) → P 2 (plain_follower elector payload 2) → (i : ℕ) (s : PlainExecution) → slice_get (plain_four elector payload) i ≡ Some (Honest s) → P i s
+plain_replicas : (P : ℕ → PlainExecution → Type 0) → P 0 (plain_proposer elector payload)
+    → P 1 (plain_follower elector payload 1) → P 2 (plain_follower elector payload 2) → (i : ℕ) (s : PlainExecution)
+    → slice_get (plain_four elector payload) i ≡ Some (Honest s) → P i s
 plain_replicas P a b c zero s is = (let e : plain_proposer elector payload ≡ s = cc in subst (λ t. P 0 t) e a)
 plain_replicas P a b c (suc zero) s is = (let e : plain_follower elector payload 1 ≡ s = cc in subst (λ t. P 1 t) e b)
-plain_replicas P a b c (suc (suc zero)) s is = (let e : plain_follower elector payload 2 ≡ s = cc in subst (λ t. P 2 t) e c)
+plain_replicas P a b c (suc (suc zero)) s is =
+    (let e : plain_follower elector payload 2 ≡ s = cc in subst (λ t. P 2 t) e c)
 plain_replicas P a b c (suc (suc (suc zero))) s is = absurd (cc)
 plain_replicas P a b c (suc (suc (suc (suc k)))) s is = absurd (cc)
 
 pub plain_network : IsNetworkOf same in_turn 5 (plain_four elector payload)
 plain_network = record {
   few_faulty = inl (omega arith, omega arith);
-  honest = plain_replicas (λ i s. IsExecution same in_turn 5 i s) leader_ran (follower_ran 1 follower_told_1) (follower_ran 2 follower_told_2);
-  backed = λ i s c at h. plain_replicas (λ j t. (d : Subject PlainDigest) → Contains (trace_of t) (Accepts d) → PlainBack d) leader_accepts (follower_accepts 1) (follower_accepts 2) i s at c h;
+  honest = plain_replicas (λ i s. IsExecution same in_turn 5 i s) leader_ran (follower_ran 1 follower_told_1)
+      (follower_ran 2 follower_told_2);
+  backed = λ i s c at h. plain_replicas (λ j t. (d : Subject PlainDigest) → Contains (trace_of t) (Accepts d)
+      → PlainBack d) leader_accepts (follower_accepts 1) (follower_accepts 2) i s at c h;
 }
 
 pub four_members : members_of elector ≡ 4

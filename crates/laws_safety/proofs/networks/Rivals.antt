@@ -31,58 +31,79 @@ abbrev may_have_voted : Subject ℕ → ℕ → Option (List (TraceEvent ℕ)) �
 may_have_voted vote i None = true
 may_have_voted vote i (Some trace) = list_any (same_trace_event (Signs i vote)) trace
 
-voted_so : (vote : Subject ℕ) (i : ℕ) (known : Option (List (TraceEvent ℕ))) → may_have_voted vote i known ≡ true → MayHaveVoted vote i known
+voted_so : (vote : Subject ℕ) (i : ℕ) (known : Option (List (TraceEvent ℕ))) → may_have_voted vote i known ≡ true
+    → MayHaveVoted vote i known
 voted_so vote i None is = tt
 voted_so vote i (Some trace) is = Contains-from_any same_trace_event-true (Signs i vote) trace is
 
 abbrev may_be_certified : List (Option (List (TraceEvent ℕ))) → Subject ℕ → Bool
 may_be_certified members vote = enough 0 (quorum (length members)) (may_have_voted vote) members
 
-pub certified_so : (members : List (Option (List (TraceEvent ℕ)))) (vote : Subject ℕ) → may_be_certified members vote ≡ true → MayBeCertified members vote
-certified_so members vote is = enough-true (MayHaveVoted vote) (may_have_voted vote) (voted_so vote) 0 (quorum (length members)) members is
+pub certified_so : (members : List (Option (List (TraceEvent ℕ)))) (vote : Subject ℕ)
+    → may_be_certified members vote ≡ true → MayBeCertified members vote
+certified_so members vote is = enough-true (MayHaveVoted vote) (may_have_voted vote) (voted_so vote) 0
+    (quorum (length members)) members is
 
 abbrev each_known : (Subject ℕ → Bool) → List (Option (List (TraceEvent ℕ))) → Bool
 each_known test [] = true
 each_known test (None ∷ members) = each_known test members
 each_known test (Some trace ∷ members) = each_one (passes test) trace && each_known test members
 
-known_so : (test : Subject ℕ → Bool) (members : List (Option (List (TraceEvent ℕ)))) → each_known test members ≡ true → (i : ℕ) (trace : List (TraceEvent ℕ)) (c : Subject ℕ) → slice_get members i ≡ Some (Some trace) → Contains trace (Accepts c) → test c ≡ true
+known_so : (test : Subject ℕ → Bool) (members : List (Option (List (TraceEvent ℕ)))) → each_known test members ≡ true
+    → (i : ℕ) (trace : List (TraceEvent ℕ)) (c : Subject ℕ) → slice_get members i ≡ Some (Some trace)
+    → Contains trace (Accepts c) → test c ≡ true
 known_so test [] is i trace c at h = absurd (cc)
 known_so test (None ∷ members) is zero trace c at h = absurd (cc)
 known_so test (None ∷ members) is (suc i) trace c at h = known_so test members is i trace c at h
 known_so test (Some done ∷ members) is zero trace c at h =
     let same : trace ≡ done = cc in
-    each_one-true (passes test) done (and_parts (each_one (passes test) done) (each_known test members) is).0 (Accepts c) (subst (λ ds. Contains ds (Accepts c)) same h)
-known_so test (Some done ∷ members) is (suc i) trace c at h = known_so test members (and_parts (each_one (passes test) done) (each_known test members) is).1 i trace c at h
+    each_one-true (passes test) done (and_parts (each_one (passes test) done) (each_known test members) is).0
+    (Accepts c) (subst (λ ds. Contains ds (Accepts c)) same h)
+known_so test (Some done ∷ members) is (suc i) trace c at h =
+    known_so test members (and_parts (each_one (passes test) done) (each_known test members) is).1 i trace c at h
 
-accept_so : (members : List (Option (List (TraceEvent ℕ)))) → each_known (may_be_certified members) members ≡ true → AcceptCertified members
-accept_so members is i trace c at h = certified_so members c (known_so (may_be_certified members) members is i trace c at h)
+accept_so : (members : List (Option (List (TraceEvent ℕ)))) → each_known (may_be_certified members) members ≡ true
+    → AcceptCertified members
+accept_so members is i trace c at h = certified_so members c
+    (known_so (may_be_certified members) members is i trace c at h)
 
 -- the members ran
 
 first_told : told_from nat_eq leader (voting_for one 0) ≡ (voting_for one 0).replies
-unfolding standing has_valid_parent_span ancestry_payload_for_child first_unnullified_view explicit_ancestry_payload in_issuance_window is_admitted verification_matches parent_payload_for may_notarize may_nullify may_finalize has_conflicting_nullify required_certification_parent
+unfolding standing has_valid_parent_span ancestry_payload_for_child first_unnullified_view explicit_ancestry_payload
+    in_issuance_window is_admitted verification_matches parent_payload_for may_notarize may_nullify may_finalize
+    has_conflicting_nullify required_certification_parent
 first_told = refl
 
 second_told : told_from nat_eq leader (voting_for rival 1) ≡ (voting_for rival 1).replies
-unfolding standing has_valid_parent_span ancestry_payload_for_child first_unnullified_view explicit_ancestry_payload in_issuance_window is_admitted verification_matches parent_payload_for may_notarize may_nullify may_finalize has_conflicting_nullify required_certification_parent
+unfolding standing has_valid_parent_span ancestry_payload_for_child first_unnullified_view explicit_ancestry_payload
+    in_issuance_window is_admitted verification_matches parent_payload_for may_notarize may_nullify may_finalize
+    has_conflicting_nullify required_certification_parent
 second_told = refl
 
 misled_told : told_from nat_eq leader misled ≡ misled.replies
-unfolding standing has_valid_parent_span ancestry_payload_for_child first_unnullified_view explicit_ancestry_payload in_issuance_window is_admitted verification_matches parent_payload_for may_notarize may_nullify may_finalize has_conflicting_nullify required_certification_parent
+unfolding standing has_valid_parent_span ancestry_payload_for_child first_unnullified_view explicit_ancestry_payload
+    in_issuance_window is_admitted verification_matches parent_payload_for may_notarize may_nullify may_finalize
+    has_conflicting_nullify required_certification_parent
 misled_told = refl
 
 first_ran : IsExecution nat_eq leader 5 0 (voting_for one 0)
 unfolding first_recover_error
 first_ran = record {
-  lives = record { first = begins 5 0 (voting_for one 0).start.floor (omega arith); later = each_begins 5 0 (voting_for one 0).steps tt };
+  lives = record {
+    first = begins 5 0 (voting_for one 0).start.floor (omega arith);
+    later = each_begins 5 0 (voting_for one 0).steps tt;
+  };
   run = fits_run_from nat_eq leader (voting_for one 0) refl tt first_told;
 }
 
 second_ran : IsExecution nat_eq leader 5 1 (voting_for rival 1)
 unfolding first_recover_error
 second_ran = record {
-  lives = record { first = begins 5 1 (voting_for rival 1).start.floor (omega arith); later = each_begins 5 1 (voting_for rival 1).steps tt };
+  lives = record {
+    first = begins 5 1 (voting_for rival 1).start.floor (omega arith);
+    later = each_begins 5 1 (voting_for rival 1).steps tt;
+  };
   run = fits_run_from nat_eq leader (voting_for rival 1) refl tt second_told;
 }
 
@@ -124,7 +145,8 @@ two_finalized = backed_so skipped_over (subject.Finalize two) refl
 pub known_skipped_accept : AcceptCertified known_of_skipped
 known_skipped_accept = accept_so known_of_skipped refl
 
-pub misled_by_nullification : (nearer : HasAcceptedNearer 1 (subject.Notarize past_two) (subject.Finalize two) (trace_of misled)) × (nearer.third ≡ subject.Nullify (round 2))
+pub misled_by_nullification : (nearer : HasAcceptedNearer 1 (subject.Notarize past_two) (subject.Finalize two)
+    (trace_of misled)) × (nearer.third ≡ subject.Nullify (round 2))
 misled_by_nullification = (
   record {
     third = subject.Nullify (round 2);

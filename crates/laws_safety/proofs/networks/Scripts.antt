@@ -23,16 +23,21 @@ use Rattle.laws_safety.specs.Traces.{Accepts, Signs}
 use Rattle.laws_safety.specs.Executions.{new_member, Execution, trace_of, BeginsAs, IsExecution}
 use Rattle.laws_safety.proofs.networks.ComputedRuns.{FindsRisingRecords, fits_run_from, rises, each_begins, told_from}
 
-pub begins : (term_length me : ℕ) (floor : FloorFacts ℕ) → 0 < term_length → BeginsAs term_length me (start_at term_length floor me).setup
+pub begins : (term_length me : ℕ) (floor : FloorFacts ℕ) → 0 < term_length
+    → BeginsAs term_length me (start_at term_length floor me).setup
 begins term_length me floor some = record { terms = record { terms = refl; some = some }; signs_as = inl refl }
 
 module _ where
   impatient_told : told_from nat_eq leader impatient ≡ impatient.replies
-  unfolding has_valid_parent_span ancestry_payload_for_child first_unnullified_view explicit_ancestry_payload in_issuance_window is_admitted verification_matches parent_payload_for may_notarize may_nullify may_finalize has_conflicting_nullify required_certification_parent
+  unfolding has_valid_parent_span ancestry_payload_for_child first_unnullified_view explicit_ancestry_payload
+      in_issuance_window is_admitted verification_matches parent_payload_for may_notarize may_nullify may_finalize
+      has_conflicting_nullify required_certification_parent
   impatient_told = refl
 
   patient_told_1 : told_from nat_eq leader (patient 1) ≡ (patient 1).replies
-  unfolding standing has_valid_parent_span ancestry_payload_for_child first_unnullified_view explicit_ancestry_payload in_issuance_window is_admitted verification_matches parent_payload_for may_notarize may_nullify may_finalize has_conflicting_nullify required_certification_parent
+  unfolding standing has_valid_parent_span ancestry_payload_for_child first_unnullified_view explicit_ancestry_payload
+      in_issuance_window is_admitted verification_matches parent_payload_for may_notarize may_nullify may_finalize
+      has_conflicting_nullify required_certification_parent
   patient_told_1 = refl
 
   -- the record that remains at the restart of the third member
@@ -40,30 +45,45 @@ module _ where
   kept = NotarizeVote one 2 ∷ Accepted (Notarized (certificate one)) ∷ Verdict (round 1) true ∷ FinalizeVote one 2 ∷ []
 
   forgetful_told : told_from nat_eq leader (forgetful) ≡ (forgetful).replies
-  unfolding first_recover_error recovered_state after_kept_entry may_drop pruned_entries standing has_valid_parent_span ancestry_payload_for_child first_unnullified_view explicit_ancestry_payload in_issuance_window is_admitted verification_matches parent_payload_for may_notarize may_nullify may_finalize has_conflicting_nullify required_certification_parent
+  unfolding first_recover_error recovered_state after_kept_entry may_drop pruned_entries standing has_valid_parent_span
+      ancestry_payload_for_child first_unnullified_view explicit_ancestry_payload in_issuance_window is_admitted
+      verification_matches parent_payload_for may_notarize may_nullify may_finalize has_conflicting_nullify
+      required_certification_parent
   forgetful_told = refl
 
   forgetful_fits : FindsRisingRecords nat_eq leader (new_member nat_eq leader (forgetful).start) (forgetful).steps
-  unfolding first_recover_error recovered_state after_kept_entry may_drop pruned_entries standing has_valid_parent_span ancestry_payload_for_child first_unnullified_view explicit_ancestry_payload in_issuance_window is_admitted verification_matches parent_payload_for may_notarize may_nullify may_finalize has_conflicting_nullify required_certification_parent
+  unfolding first_recover_error recovered_state after_kept_entry may_drop pruned_entries standing has_valid_parent_span
+      ancestry_payload_for_child first_unnullified_view explicit_ancestry_payload in_issuance_window is_admitted
+      verification_matches parent_payload_for may_notarize may_nullify may_finalize has_conflicting_nullify
+      required_certification_parent
   forgetful_fits = (rises entry_view 0 kept refl, tt)
 
   pub forgetful_ran : IsExecution nat_eq leader 5 2 (forgetful)
   unfolding first_recover_error
   forgetful_ran = record {
-    lives = record { first = begins 5 2 (Genesis 0) (omega arith); later = each_begins 5 2 (forgetful).steps (begins 5 2 (Genesis 0) (omega arith), tt) };
+    lives = record {
+      first = begins 5 2 (Genesis 0) (omega arith);
+      later = each_begins 5 2 (forgetful).steps (begins 5 2 (Genesis 0) (omega arith), tt);
+    };
     run = fits_run_from nat_eq leader (forgetful) refl forgetful_fits forgetful_told;
   }
 
   skipping_told_0 : told_from nat_eq leader (skipping 0) ≡ (skipping 0).replies
-  unfolding standing has_valid_parent_span ancestry_payload_for_child first_unnullified_view explicit_ancestry_payload in_issuance_window is_admitted verification_matches parent_payload_for may_notarize may_nullify may_finalize has_conflicting_nullify required_certification_parent
+  unfolding standing has_valid_parent_span ancestry_payload_for_child first_unnullified_view explicit_ancestry_payload
+      in_issuance_window is_admitted verification_matches parent_payload_for may_notarize may_nullify may_finalize
+      has_conflicting_nullify required_certification_parent
   skipping_told_0 = refl
 
   skipping_told_1 : told_from nat_eq leader (skipping 1) ≡ (skipping 1).replies
-  unfolding standing has_valid_parent_span ancestry_payload_for_child first_unnullified_view explicit_ancestry_payload in_issuance_window is_admitted verification_matches parent_payload_for may_notarize may_nullify may_finalize has_conflicting_nullify required_certification_parent
+  unfolding standing has_valid_parent_span ancestry_payload_for_child first_unnullified_view explicit_ancestry_payload
+      in_issuance_window is_admitted verification_matches parent_payload_for may_notarize may_nullify may_finalize
+      has_conflicting_nullify required_certification_parent
   skipping_told_1 = refl
 
   skipping_told_2 : told_from nat_eq leader (skipping 2) ≡ (skipping 2).replies
-  unfolding standing has_valid_parent_span ancestry_payload_for_child first_unnullified_view explicit_ancestry_payload in_issuance_window is_admitted verification_matches parent_payload_for may_notarize may_nullify may_finalize has_conflicting_nullify required_certification_parent
+  unfolding standing has_valid_parent_span ancestry_payload_for_child first_unnullified_view explicit_ancestry_payload
+      in_issuance_window is_admitted verification_matches parent_payload_for may_notarize may_nullify may_finalize
+      has_conflicting_nullify required_certification_parent
   skipping_told_2 = refl
 
   -- the record that remains at the first restart, and at each later one
@@ -71,14 +91,21 @@ module _ where
   once = Accepted (Notarized (certificate one)) ∷ Verdict (round 1) true ∷ FinalizeVote one 1 ∷ []
 
   abbrev twice : List (ArtifactFacts ℕ)
-  twice = Accepted (Notarized (certificate two)) ∷ Verdict (round 2) true ∷ FinalizeVote two 1 ∷ Accepted (CertifiedFinal (certificate (proposal 3 2))) ∷ []
+  twice = Accepted (Notarized (certificate two)) ∷ Verdict (round 2) true ∷ FinalizeVote two 1 ∷ Accepted
+      (CertifiedFinal (certificate (proposal 3 2))) ∷ []
 
   restarting_told : told_from nat_eq leader restarting ≡ restarting.replies
-  unfolding first_recover_error recovered_state after_kept_entry may_drop pruned_entries standing has_valid_parent_span ancestry_payload_for_child first_unnullified_view explicit_ancestry_payload in_issuance_window is_admitted verification_matches parent_payload_for may_notarize may_nullify may_finalize has_conflicting_nullify required_certification_parent
+  unfolding first_recover_error recovered_state after_kept_entry may_drop pruned_entries standing has_valid_parent_span
+      ancestry_payload_for_child first_unnullified_view explicit_ancestry_payload in_issuance_window is_admitted
+      verification_matches parent_payload_for may_notarize may_nullify may_finalize has_conflicting_nullify
+      required_certification_parent
   restarting_told = refl
 
   restarting_fits : FindsRisingRecords nat_eq leader (new_member nat_eq leader restarting.start) restarting.steps
-  unfolding first_recover_error recovered_state after_kept_entry may_drop pruned_entries standing has_valid_parent_span ancestry_payload_for_child first_unnullified_view explicit_ancestry_payload in_issuance_window is_admitted verification_matches parent_payload_for may_notarize may_nullify may_finalize has_conflicting_nullify required_certification_parent
+  unfolding first_recover_error recovered_state after_kept_entry may_drop pruned_entries standing has_valid_parent_span
+      ancestry_payload_for_child first_unnullified_view explicit_ancestry_payload in_issuance_window is_admitted
+      verification_matches parent_payload_for may_notarize may_nullify may_finalize has_conflicting_nullify
+      required_certification_parent
   restarting_fits = (rises entry_view 0 once refl, (rises entry_view 0 twice refl, (rises entry_view 0 twice refl, tt)))
 
   pub impatient_ran : IsExecution nat_eq leader 5 0 impatient
@@ -88,14 +115,16 @@ module _ where
     run = fits_run_from nat_eq leader impatient refl tt impatient_told;
   }
 
-  pub patient_ran : (me : ℕ) → told_from nat_eq leader (patient me) ≡ (patient me).replies → IsExecution nat_eq leader 5 me (patient me)
+  pub patient_ran : (me : ℕ) → told_from nat_eq leader (patient me) ≡ (patient me).replies
+      → IsExecution nat_eq leader 5 me (patient me)
   unfolding first_recover_error
   patient_ran me told = record {
     lives = record { first = begins 5 me (Genesis 0) (omega arith); later = each_begins 5 me (patient me).steps tt };
     run = fits_run_from nat_eq leader (patient me) refl tt told;
   }
 
-  skipping_ran : (me : ℕ) → told_from nat_eq leader (skipping me) ≡ (skipping me).replies → IsExecution nat_eq leader 1 me (skipping me)
+  skipping_ran : (me : ℕ) → told_from nat_eq leader (skipping me) ≡ (skipping me).replies
+      → IsExecution nat_eq leader 1 me (skipping me)
   unfolding first_recover_error
   skipping_ran me told = record {
     lives = record { first = begins 1 me (Genesis 0) (omega arith); later = each_begins 1 me (skipping me).steps tt };
@@ -108,7 +137,16 @@ module _ where
   pub restarting_ran : IsExecution nat_eq leader 5 1 restarting
   unfolding first_recover_error
   restarting_ran = record {
-    lives = record { first = begins 5 1 (Genesis 0) (omega arith); later = each_begins 5 1 restarting.steps (begins 5 1 (Genesis 0) (omega arith), (begins 5 1 (Genesis 0) (omega arith), (begins 5 1 (Finalized (certificate (proposal 4 3))) (omega arith), tt))) };
+    lives = record {
+      first = begins 5 1 (Genesis 0) (omega arith);
+      later = each_begins 5 1 restarting.steps (
+        begins 5 1 (Genesis 0) (omega arith),
+        (
+          begins 5 1 (Genesis 0) (omega arith),
+          (begins 5 1 (Finalized (certificate (proposal 4 3))) (omega arith), tt),
+        ),
+      );
+    };
     run = fits_run_from nat_eq leader restarting refl restarting_fits restarting_told;
   }
 
@@ -131,20 +169,24 @@ module _ where
 
   -- a claim about each certificate that one accepts
 
-  impatient_accepts : (P : Subject ℕ → Type 0) → P (subject.Notarize one) → P (subject.Notarize two) → P (subject.Finalize one) → (c : Subject ℕ) → Contains (trace_of impatient) (Accepts c) → P c
+  impatient_accepts : (P : Subject ℕ → Type 0) → P (subject.Notarize one) → P (subject.Notarize two)
+      → P (subject.Finalize one) → (c : Subject ℕ) → Contains (trace_of impatient) (Accepts c) → P c
   impatient_accepts P n m f c (zero, less, same) = absurd (cc)
   impatient_accepts P n m f c (suc zero, less, same) = (let e : subject.Notarize one ≡ c = cc in subst P e n)
   impatient_accepts P n m f c (suc (suc zero), less, same) = (let e : subject.Notarize two ≡ c = cc in subst P e m)
-  impatient_accepts P n m f c (suc (suc (suc zero)), less, same) = (let e : subject.Finalize one ≡ c = cc in subst P e f)
+  impatient_accepts P n m f c (suc (suc (suc zero)), less, same) =
+      (let e : subject.Finalize one ≡ c = cc in subst P e f)
   impatient_accepts P n m f c (suc (suc (suc (suc zero))), less, same) = absurd (cc)
   impatient_accepts P n m f c (suc (suc (suc (suc (suc k)))), less, same) = absurd (omega arith)
 
-  patient_accepts : (me : ℕ) (P : Subject ℕ → Type 0) → P (subject.Notarize one) → P (subject.Notarize two) → (c : Subject ℕ) → Contains (trace_of (patient me)) (Accepts c) → P c
+  patient_accepts : (me : ℕ) (P : Subject ℕ → Type 0) → P (subject.Notarize one) → P (subject.Notarize two)
+      → (c : Subject ℕ) → Contains (trace_of (patient me)) (Accepts c) → P c
   patient_accepts me P n m c (zero, less, same) = absurd (cc)
   patient_accepts me P n m c (suc zero, less, same) = (let e : subject.Notarize one ≡ c = cc in subst P e n)
   patient_accepts me P n m c (suc (suc zero), less, same) = absurd (cc)
   patient_accepts me P n m c (suc (suc (suc zero)), less, same) = absurd (cc)
-  patient_accepts me P n m c (suc (suc (suc (suc zero))), less, same) = (let e : subject.Notarize two ≡ c = cc in subst P e m)
+  patient_accepts me P n m c (suc (suc (suc (suc zero))), less, same) =
+      (let e : subject.Notarize two ≡ c = cc in subst P e m)
   patient_accepts me P n m c (suc (suc (suc (suc (suc zero)))), less, same) = absurd (cc)
   patient_accepts me P n m c (suc (suc (suc (suc (suc (suc k))))), less, same) = absurd (omega arith)
 
@@ -152,15 +194,19 @@ module _ where
   forgetful_accepts c (zero, less, same) = absurd (cc)
   forgetful_accepts c (suc zero, less, same) = (let e : subject.Notarize one ≡ c = cc in subst FourBack e notarized_one)
   forgetful_accepts c (suc (suc zero), less, same) = absurd (cc)
-  forgetful_accepts c (suc (suc (suc zero)), less, same) = (let e : subject.Finalize one ≡ c = cc in subst FourBack e finalized_one)
-  forgetful_accepts c (suc (suc (suc (suc zero))), less, same) = (let e : subject.Finalize one ≡ c = cc in subst FourBack e finalized_one)
+  forgetful_accepts c (suc (suc (suc zero)), less, same) =
+      (let e : subject.Finalize one ≡ c = cc in subst FourBack e finalized_one)
+  forgetful_accepts c (suc (suc (suc (suc zero))), less, same) =
+      (let e : subject.Finalize one ≡ c = cc in subst FourBack e finalized_one)
   forgetful_accepts c (suc (suc (suc (suc (suc zero)))), less, same) = absurd (cc)
-  forgetful_accepts c (suc (suc (suc (suc (suc (suc zero))))), less, same) = (let e : subject.Notarize two ≡ c = cc in subst FourBack e notarized_two)
+  forgetful_accepts c (suc (suc (suc (suc (suc (suc zero))))), less, same) =
+      (let e : subject.Notarize two ≡ c = cc in subst FourBack e notarized_two)
   forgetful_accepts c (suc (suc (suc (suc (suc (suc (suc zero)))))), less, same) = absurd (cc)
   forgetful_accepts c (suc (suc (suc (suc (suc (suc (suc (suc k))))))), less, same) = absurd (omega arith)
 
   -- a claim about each honest member is one about its execution
-  four_replicas : (P : ℕ → Execution ℕ ℕ ℕ → Type 0) → P 0 impatient → P 1 (patient 1) → P 2 (forgetful) → (i : ℕ) (s : Execution ℕ ℕ ℕ) → slice_get four i ≡ Some (Honest s) → P i s
+  four_replicas : (P : ℕ → Execution ℕ ℕ ℕ → Type 0) → P 0 impatient → P 1 (patient 1) → P 2 (forgetful)
+      → (i : ℕ) (s : Execution ℕ ℕ ℕ) → slice_get four i ≡ Some (Honest s) → P i s
   four_replicas P a b c zero s is = (let e : impatient ≡ s = cc in subst (λ t. P 0 t) e a)
   four_replicas P a b c (suc zero) s is = (let e : patient 1 ≡ s = cc in subst (λ t. P 1 t) e b)
   four_replicas P a b c (suc (suc zero)) s is = (let e : forgetful ≡ s = cc in subst (λ t. P 2 t) e c)
@@ -170,8 +216,11 @@ module _ where
   pub four_network : IsNetworkOf nat_eq leader 5 four
   four_network = record {
     few_faulty = inl (omega arith, omega arith);
-    honest = four_replicas (λ i s. IsExecution nat_eq leader 5 i s) impatient_ran (patient_ran 1 patient_told_1) forgetful_ran;
-    backed = λ i s c at h. four_replicas (λ j t. (d : Subject ℕ) → Contains (trace_of t) (Accepts d) → FourBack d) (impatient_accepts FourBack notarized_one notarized_two finalized_one) (patient_accepts 1 FourBack notarized_one notarized_two) forgetful_accepts i s at c h;
+    honest = four_replicas (λ i s. IsExecution nat_eq leader 5 i s) impatient_ran (patient_ran 1 patient_told_1)
+        forgetful_ran;
+    backed = λ i s c at h. four_replicas (λ j t. (d : Subject ℕ) → Contains (trace_of t) (Accepts d) → FourBack d)
+        (impatient_accepts FourBack notarized_one notarized_two finalized_one)
+        (patient_accepts 1 FourBack notarized_one notarized_two) forgetful_accepts i s at c h;
   }
 
   -- with two faulty members
@@ -194,7 +243,8 @@ module _ where
   overrun_final : OverrunBack (subject.Finalize one)
   overrun_final = inr (inl ((2, omega arith, refl), inl (tt, inl (tt, tt))))
 
-  overrun_replicas : (P : ℕ → Execution ℕ ℕ ℕ → Type 0) → P 0 impatient → P 1 (patient 1) → (i : ℕ) (s : Execution ℕ ℕ ℕ) → slice_get overrun i ≡ Some (Honest s) → P i s
+  overrun_replicas : (P : ℕ → Execution ℕ ℕ ℕ → Type 0) → P 0 impatient → P 1 (patient 1)
+      → (i : ℕ) (s : Execution ℕ ℕ ℕ) → slice_get overrun i ≡ Some (Honest s) → P i s
   overrun_replicas P a b zero s is = (let e : impatient ≡ s = cc in subst (λ t. P 0 t) e a)
   overrun_replicas P a b (suc zero) s is = (let e : patient 1 ≡ s = cc in subst (λ t. P 1 t) e b)
   overrun_replicas P a b (suc (suc zero)) s is = absurd (cc)
@@ -204,7 +254,9 @@ module _ where
   pub overrun_network : IsBackedNetwork nat_eq leader 5 overrun
   overrun_network = record {
     honest = overrun_replicas (λ i s. IsExecution nat_eq leader 5 i s) impatient_ran (patient_ran 1 patient_told_1);
-    backed = λ i s c at h. overrun_replicas (λ j t. (d : Subject ℕ) → Contains (trace_of t) (Accepts d) → OverrunBack d) (impatient_accepts OverrunBack overrun_one overrun_two overrun_final) (patient_accepts 1 OverrunBack overrun_one overrun_two) i s at c h;
+    backed = λ i s c at h. overrun_replicas (λ j t. (d : Subject ℕ) → Contains (trace_of t) (Accepts d) → OverrunBack d)
+        (impatient_accepts OverrunBack overrun_one overrun_two overrun_final)
+        (patient_accepts 1 OverrunBack overrun_one overrun_two) i s at c h;
   }
 
   -- what is known of them
@@ -236,18 +288,23 @@ module _ where
   two_faced_accepts me c (suc (suc (suc (suc (suc k)))), less, same) = omega arith
 
   pub known_accept : AcceptCertified known_of_overrun
-  known_accept zero trace c at h = (let e : trace ≡ trace_of impatient = cc in impatient_accepts KnownBack known_one known_two known_final c (subst (λ ds. Contains ds (Accepts c)) e h))
-  known_accept (suc zero) trace c at h = (let e : trace ≡ trace_of (patient 1) = cc in patient_accepts 1 KnownBack known_one known_two c (subst (λ ds. Contains ds (Accepts c)) e h))
-  known_accept (suc (suc zero)) trace c at h = (let e : trace ≡ two_faced 2 = cc in absurd (two_faced_accepts 2 c (subst (λ ds. Contains ds (Accepts c)) e h)))
+  known_accept zero trace c at h = (let e : trace ≡ trace_of impatient = cc in
+      impatient_accepts KnownBack known_one known_two known_final c (subst (λ ds. Contains ds (Accepts c)) e h))
+  known_accept (suc zero) trace c at h = (let e : trace ≡ trace_of (patient 1) = cc in
+      patient_accepts 1 KnownBack known_one known_two c (subst (λ ds. Contains ds (Accepts c)) e h))
+  known_accept (suc (suc zero)) trace c at h =
+      (let e : trace ≡ two_faced 2 = cc in absurd (two_faced_accepts 2 c (subst (λ ds. Contains ds (Accepts c)) e h)))
   known_accept (suc (suc (suc zero))) trace c at h = absurd (cc)
   known_accept (suc (suc (suc (suc k)))) trace c at h = absurd (cc)
 
   -- the first member finalized view 2 past its vote to nullify view 1, by the finalization of view 1
-  pub misled_by_final : (nearer : HasAcceptedNearer 5 (subject.Nullify (round 1)) (subject.Finalize two) (trace_of impatient)) × (nearer.third ≡ subject.Finalize one)
+  pub misled_by_final : (nearer : HasAcceptedNearer 5 (subject.Nullify (round 1)) (subject.Finalize two)
+      (trace_of impatient)) × (nearer.third ≡ subject.Finalize one)
   misled_by_final = (
     record {
       third = subject.Finalize one;
-      before = Signs 0 (subject.Nullify (round 1)) ∷ Accepts (subject.Notarize one) ∷ Accepts (subject.Notarize two) ∷ Accepts (subject.Finalize one) ∷ [];
+      before = Signs 0 (subject.Nullify (round 1)) ∷ Accepts (subject.Notarize one) ∷ Accepts (subject.Notarize two)
+          ∷ Accepts (subject.Finalize one) ∷ [];
       signs = inr (0, [], refl);
       accepted = (3, omega arith, refl);
       nearer = inl (refl, omega arith);
@@ -259,28 +316,36 @@ module _ where
   FiveBack c = Backed five c
 
   pub five_notarize_one : FiveBack (subject.Notarize one)
-  five_notarize_one = inl ((0, omega arith, refl), inl ((0, omega arith, refl), inl ((0, omega arith, refl), inl (tt, tt))))
+  five_notarize_one =
+      inl ((0, omega arith, refl), inl ((0, omega arith, refl), inl ((0, omega arith, refl), inl (tt, tt))))
 
   pub five_nullify_two : FiveBack (subject.Nullify (round 2))
-  five_nullify_two = inl ((2, omega arith, refl), inl ((2, omega arith, refl), inl ((2, omega arith, refl), inl (tt, tt))))
+  five_nullify_two =
+      inl ((2, omega arith, refl), inl ((2, omega arith, refl), inl ((2, omega arith, refl), inl (tt, tt))))
 
   five_notarize_three : FiveBack (subject.Notarize (proposal 3 1))
-  five_notarize_three = inl ((4, omega arith, refl), inl ((4, omega arith, refl), inl ((4, omega arith, refl), inl (tt, tt))))
+  five_notarize_three =
+      inl ((4, omega arith, refl), inl ((4, omega arith, refl), inl ((4, omega arith, refl), inl (tt, tt))))
 
   pub five_finalize_three : FiveBack (subject.Finalize (proposal 3 1))
-  five_finalize_three = inl ((6, omega arith, refl), inl ((6, omega arith, refl), inl ((6, omega arith, refl), inl (tt, tt))))
+  five_finalize_three =
+      inl ((6, omega arith, refl), inl ((6, omega arith, refl), inl ((6, omega arith, refl), inl (tt, tt))))
 
   skipping_accepts : (me : ℕ) (c : Subject ℕ) → Contains (trace_of (skipping me)) (Accepts c) → FiveBack c
   skipping_accepts me c (zero, less, same) = absurd (cc)
-  skipping_accepts me c (suc zero, less, same) = (let e : subject.Notarize one ≡ c = cc in subst FiveBack e five_notarize_one)
+  skipping_accepts me c (suc zero, less, same) =
+      (let e : subject.Notarize one ≡ c = cc in subst FiveBack e five_notarize_one)
   skipping_accepts me c (suc (suc zero), less, same) = absurd (cc)
-  skipping_accepts me c (suc (suc (suc zero)), less, same) = (let e : subject.Nullify (round 2) ≡ c = cc in subst FiveBack e five_nullify_two)
+  skipping_accepts me c (suc (suc (suc zero)), less, same) =
+      (let e : subject.Nullify (round 2) ≡ c = cc in subst FiveBack e five_nullify_two)
   skipping_accepts me c (suc (suc (suc (suc zero))), less, same) = absurd (cc)
-  skipping_accepts me c (suc (suc (suc (suc (suc zero)))), less, same) = (let e : subject.Notarize (proposal 3 1) ≡ c = cc in subst FiveBack e five_notarize_three)
+  skipping_accepts me c (suc (suc (suc (suc (suc zero)))), less, same) =
+      (let e : subject.Notarize (proposal 3 1) ≡ c = cc in subst FiveBack e five_notarize_three)
   skipping_accepts me c (suc (suc (suc (suc (suc (suc zero))))), less, same) = absurd (cc)
   skipping_accepts me c (suc (suc (suc (suc (suc (suc (suc k)))))), less, same) = absurd (omega arith)
 
-  five_replicas : (P : ℕ → Execution ℕ ℕ ℕ → Type 0) → P 0 (skipping 0) → P 1 (skipping 1) → P 2 (skipping 2) → (i : ℕ) (s : Execution ℕ ℕ ℕ) → slice_get five i ≡ Some (Honest s) → P i s
+  five_replicas : (P : ℕ → Execution ℕ ℕ ℕ → Type 0) → P 0 (skipping 0) → P 1 (skipping 1) → P 2 (skipping 2)
+      → (i : ℕ) (s : Execution ℕ ℕ ℕ) → slice_get five i ≡ Some (Honest s) → P i s
   five_replicas P a b c zero s is = (let e : skipping 0 ≡ s = cc in subst (λ t. P 0 t) e a)
   five_replicas P a b c (suc zero) s is = (let e : skipping 1 ≡ s = cc in subst (λ t. P 1 t) e b)
   five_replicas P a b c (suc (suc zero)) s is = (let e : skipping 2 ≡ s = cc in subst (λ t. P 2 t) e c)
@@ -291,6 +356,8 @@ module _ where
   pub five_network : IsNetworkOf nat_eq leader 1 five
   five_network = record {
     few_faulty = inr (omega arith);
-    honest = five_replicas (λ i s. IsExecution nat_eq leader 1 i s) (skipping_ran 0 skipping_told_0) skipping_ran_1 (skipping_ran 2 skipping_told_2);
-    backed = λ i s c at h. five_replicas (λ j t. (d : Subject ℕ) → Contains (trace_of t) (Accepts d) → FiveBack d) (skipping_accepts 0) (skipping_accepts 1) (skipping_accepts 2) i s at c h;
+    honest = five_replicas (λ i s. IsExecution nat_eq leader 1 i s) (skipping_ran 0 skipping_told_0) skipping_ran_1
+        (skipping_ran 2 skipping_told_2);
+    backed = λ i s c at h. five_replicas (λ j t. (d : Subject ℕ) → Contains (trace_of t) (Accepts d) → FiveBack d)
+        (skipping_accepts 0) (skipping_accepts 1) (skipping_accepts 2) i s at c h;
   }

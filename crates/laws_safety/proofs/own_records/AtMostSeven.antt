@@ -20,7 +20,8 @@ module _ {X : Type 0} (number : X → ℕ) where
   abbrev without : ℕ → List X → List X
   without n xs = filter (λ x. not (number x == n)) xs
 
-  none_out : (n : ℕ) (x : X) (xs : List X) → number x ≡ n → AllByRecursion (λ y. (number x == number y) ≡ false) xs → length (without n xs) ≡ length xs
+  none_out : (n : ℕ) (x : X) (xs : List X) → number x ≡ n → AllByRecursion (λ y. (number x == number y) ≡ false) xs
+      → length (without n xs) ≡ length xs
   none_out n x [] is apart = refl
   none_out n x (y ∷ xs) is apart =
       let other : (number y == n) ≡ false = (let differs = apart.0 in grind (arith, nat_tests, is, differs)) in
@@ -44,7 +45,8 @@ module _ {X : Type 0} (number : X → ℕ) where
       let fewer = as_many n ys (λ x h. (
       let under = below x (Contains-filtered (λ y. not (number y == n)) xs x h) in
       let other = not_true (number x == n) (filtered_passes (λ y. not (number y == n)) xs x h) in
-      grind (arith, nat_tests, under, other))) (distinct_filtered (λ x y. number x == number y) (λ x. not (number x == n)) xs apart) in
+      grind (arith, nat_tests, under, other)))
+      (distinct_filtered (λ x y. number x == number y) (λ x. not (number x == n)) xs apart) in
       let one = one_out n xs apart in
       omega (arith, fewer, one)
 
@@ -84,20 +86,27 @@ module _ {D : Type 0} where
   one_number (Accepted (Finalized _)) _ is = absurd (false≢true is)
   one_number _ _ is = absurd (false≢true is)
 
-  apart : (e f : ArtifactFacts D) → entry_view e ≡ entry_view f → are_alike e f ≡ false → (kind_number e == kind_number f) ≡ false
+  apart : (e f : ArtifactFacts D) → entry_view e ≡ entry_view f → are_alike e f ≡ false
+      → (kind_number e == kind_number f) ≡ false
   apart e f at unlike = elim (cases_Bool (kind_number e == kind_number f)) [
     | inr is ↦ is
-    | inl is ↦ absurd (let alike : are_alike e f ≡ true = rw (eq-eqb (entry_view e) (entry_view f) at, one_number e f is) refl in false≢true (sym unlike ∙ alike))
+    | inl is ↦ absurd (let alike : are_alike e f ≡ true =
+        rw (eq-eqb (entry_view e) (entry_view f) at, one_number e f is) refl in false≢true (sym unlike ∙ alike))
   ]
 
-  all_apart : (v : ℕ) (e : ArtifactFacts D) (entries : List (ArtifactFacts D)) → entry_view e ≡ v → ((f : ArtifactFacts D) → Contains entries f → entry_view f ≡ v) → AllByRecursion (λ f. are_alike e f ≡ false) entries → AllByRecursion (λ f. (kind_number e == kind_number f) ≡ false) entries
+  all_apart : (v : ℕ) (e : ArtifactFacts D) (entries : List (ArtifactFacts D)) → entry_view e ≡ v
+      → ((f : ArtifactFacts D) → Contains entries f → entry_view f ≡ v)
+      → AllByRecursion (λ f. are_alike e f ≡ false) entries
+      → AllByRecursion (λ f. (kind_number e == kind_number f) ≡ false) entries
   all_apart v e [] at of_view unlike = tt
   all_apart v e (f ∷ rest) at of_view unlike = (
     apart e f (at ∙ sym (of_view f (0, omega arith, refl))) unlike.0,
     all_apart v e rest at (λ g h. of_view g (Contains-cons_rest f rest g h)) unlike.1,
   )
 
-  of_one_view : (v : ℕ) (entries : List (ArtifactFacts D)) → ((e : ArtifactFacts D) → Contains entries e → entry_view e ≡ v) → RecordsOnce entries → AreApart kind_number entries
+  of_one_view : (v : ℕ) (entries : List (ArtifactFacts D))
+      → ((e : ArtifactFacts D) → Contains entries e → entry_view e ≡ v) → RecordsOnce entries
+      → AreApart kind_number entries
   unfolding IsDistinct
   of_one_view v [] of_view once = tt
   of_one_view v (e ∷ rest) of_view once = (
@@ -105,9 +114,11 @@ module _ {D : Type 0} where
     of_one_view v rest (λ f h. of_view f (Contains-cons_rest e rest f h)) once.1,
   )
 
-  pub at_most_seven : (entries : List (ArtifactFacts D)) (v : ℕ) → RecordsOnce entries → length (filter (λ e. entry_view e == v) entries) ≤ 7
+  pub at_most_seven : (entries : List (ArtifactFacts D)) (v : ℕ) → RecordsOnce entries
+      → length (filter (λ e. entry_view e == v) entries) ≤ 7
   at_most_seven entries v once =
       let test : ArtifactFacts D → Bool = λ e. entry_view e == v in
       let here = filter test entries in
       as_many kind_number 7 here (λ e h. seven_kinds e)
-      (of_one_view v here (λ e h. eqb-true (entry_view e) v (filtered_passes test entries e h)) (distinct_filtered are_alike test entries once))
+      (of_one_view v here (λ e h. eqb-true (entry_view e) v (filtered_passes test entries e h))
+      (distinct_filtered are_alike test entries once))

@@ -34,29 +34,53 @@ module _ {D : Type 0} (same : D → D → Bool) (epoch : ℕ) (me : Option ℕ) 
   abbrev IfParent : RecoverError → Type 0
   IfParent found = found ≡ error.ParentNotBelow → Claim
 
-  of_vote : (signer : ℕ) (p : Proposal D) → (p.round.view ≤ p.parent → Claim) → OfBroken IfParent (vote_rules epoch me signer p)
-  of_vote signer p above =
-      (λ _ is. absurd (cc), (λ _ is. absurd (cc), (λ _ is. absurd (cc), (λ _ is. absurd (cc), (λ broken is. above (leb-true p.round.view p.parent broken), tt)))))
+  of_vote : (signer : ℕ) (p : Proposal D) → (p.round.view ≤ p.parent → Claim)
+      → OfBroken IfParent (vote_rules epoch me signer p)
+  of_vote signer p above = (
+    λ _ is. absurd (cc),
+    (
+      λ _ is. absurd (cc),
+      (
+        λ _ is. absurd (cc),
+        (λ _ is. absurd (cc), (λ broken is. above (leb-true p.round.view p.parent broken), tt)),
+      ),
+    ),
+  )
 
-  of_own : (e : ArtifactFacts D) → ((p : Proposal D) → HasVote (e ∷ []) p → p.round.view ≤ p.parent → Claim) → OfBroken IfParent (own_rules epoch me e)
+  of_own : (e : ArtifactFacts D) → ((p : Proposal D) → HasVote (e ∷ []) p → p.round.view ≤ p.parent → Claim)
+      → OfBroken IfParent (own_rules epoch me e)
   of_own (NotarizeVote p m) votes = of_vote m p (votes p (m, inl (0, omega arith, refl)))
-  of_own (NullifyVote round m) votes = (λ _ is. absurd (cc), (λ _ is. absurd (cc), (λ _ is. absurd (cc), (λ _ is. absurd (cc), tt))))
+  of_own (NullifyVote round m) votes =
+      (λ _ is. absurd (cc), (λ _ is. absurd (cc), (λ _ is. absurd (cc), (λ _ is. absurd (cc), tt))))
   of_own (FinalizeVote p m) votes = of_vote m p (votes p (m, inr (0, omega arith, refl)))
   of_own (Verdict round success) votes = (λ _ is. absurd (cc), (λ _ is. absurd (cc), (λ _ is. absurd (cc), tt)))
   of_own (Accepted c) votes = (λ _ is. absurd (cc), (λ _ is. absurd (cc), (λ _ is. absurd (cc), tt)))
 
   of_beside : (before : List (ArtifactFacts D)) (e : ArtifactFacts D) → OfBroken IfParent (beside_rules same before e)
-  of_beside before e = (λ _ is. absurd (cc), (λ _ is. absurd (cc), (λ _ is. absurd (cc), (λ _ is. absurd (cc), (λ _ is. absurd (cc), tt)))))
+  of_beside before e = (
+    λ _ is. absurd (cc),
+    (λ _ is. absurd (cc), (λ _ is. absurd (cc), (λ _ is. absurd (cc), (λ _ is. absurd (cc), tt)))),
+  )
 
-  of_entry : (before : List (ArtifactFacts D)) (e : ArtifactFacts D) → ((p : Proposal D) → HasVote (e ∷ []) p → p.round.view ≤ p.parent → Claim) → OfBroken IfParent (entry_rules same epoch me before e)
-  of_entry before e votes = (λ _ is. absurd (cc), broken_joined IfParent (own_rules epoch me e) (beside_rules same before e) (of_own e votes) (of_beside before e))
+  of_entry : (before : List (ArtifactFacts D)) (e : ArtifactFacts D)
+      → ((p : Proposal D) → HasVote (e ∷ []) p → p.round.view ≤ p.parent → Claim)
+      → OfBroken IfParent (entry_rules same epoch me before e)
+  of_entry before e votes = (
+    λ _ is. absurd (cc),
+    broken_joined IfParent (own_rules epoch me e) (beside_rules same before e) (of_own e votes) (of_beside before e),
+  )
 
-  of_entries : (before entries : List (ArtifactFacts D)) (found : RecoverError) → ((p : Proposal D) → HasVote entries p → p.round.view ≤ p.parent → Claim) → first_broken_after same epoch me before entries ≡ Some found → IfParent found
+  of_entries : (before entries : List (ArtifactFacts D)) (found : RecoverError)
+      → ((p : Proposal D) → HasVote entries p → p.round.view ≤ p.parent → Claim)
+      → first_broken_after same epoch me before entries ≡ Some found → IfParent found
   of_entries before [] found votes is = absurd (cc)
-  of_entries before (e ∷ rest) found votes is = elim (from_either (first_error (entry_rules same epoch me before e)) (first_broken_after same epoch me (e ∷ before) rest) found is) [
-    | inl here ↦ first_broken IfParent (entry_rules same epoch me before e) found (of_entry before e (λ p has. votes p (of_first p has))) here
-    | inr later ↦ of_entries (e ∷ before) rest found (λ p has. votes p (of_rest p has)) later
-  ]
+  of_entries before (e ∷ rest) found votes is =
+      elim (from_either (first_error (entry_rules same epoch me before e))
+      (first_broken_after same epoch me (e ∷ before) rest) found is) [
+        | inl here ↦ first_broken IfParent (entry_rules same epoch me before e) found
+            (of_entry before e (λ p has. votes p (of_first p has))) here
+        | inr later ↦ of_entries (e ∷ before) rest found (λ p has. votes p (of_rest p has)) later
+      ]
     where
       of_first : (p : Proposal D) → HasVote (e ∷ []) p → HasVote (e ∷ rest) p
       of_first p (m, inl h) = (m, inl (first_too e rest (NotarizeVote p m) h))
@@ -70,7 +94,8 @@ module _ {D : Type 0} (same : D → D → Bool) (epoch : ℕ) (me : Option ℕ) 
   of_floor (Genesis payload) = tt
   of_floor (Finalized c) = (λ _ is. absurd (cc), (λ _ is. absurd (cc), (λ _ is. absurd (cc), tt)))
 
-module _ {K L D : Type 0} (same : D → D → Bool) (term_length : ℕ) (trace : List (TraceEvent D)) (lawful : IsLawful term_length trace) where
+module _ {K L D : Type 0} (same : D → D → Bool) (term_length : ℕ) (trace : List (TraceEvent D))
+    (lawful : IsLawful term_length trace) where
   -- a vote to notarize names an earlier view, and before one to finalize there is a notarization
   pub parent_accepted : (x : StateFacts K L D) (floor : FloorFacts D) (now : ℕ) (entries : List (ArtifactFacts D))
       → ((p : Proposal D) (m : ℕ) → Contains entries (NotarizeVote p m) → HasSigned trace (subject.Notarize p))
@@ -78,13 +103,19 @@ module _ {K L D : Type 0} (same : D → D → Bool) (term_length : ℕ) (trace :
       → recover_error same x floor now entries ≡ Some error.ParentNotBelow
       → AcceptedParentAbove trace
   unfolding first_recover_error
-  parent_accepted x floor now entries notarize_cast finalize_cast is = elim (from_either (first_recover_error same x.settings.epoch x.me floor entries) (if has_late_deadline x now then Some error.TimeOverflow else None) error.ParentNotBelow is) [
-    | inr late ↦ absurd (late_elsewhere (has_late_deadline x now) late)
-    | inl broken ↦ elim (from_either (first_error (recovery_floor_rules x.settings.epoch floor)) (first_broken_after same x.settings.epoch x.me [] entries) error.ParentNotBelow broken) [
-      | inl in_floor ↦ first_broken (IfParent same x.settings.epoch x.me (AcceptedParentAbove trace)) (recovery_floor_rules x.settings.epoch floor) error.ParentNotBelow (of_floor same x.settings.epoch x.me (AcceptedParentAbove trace) floor) in_floor refl
-      | inr in_entries ↦ of_entries same x.settings.epoch x.me (AcceptedParentAbove trace) [] entries error.ParentNotBelow votes in_entries refl
-    ]
-  ]
+  parent_accepted x floor now entries notarize_cast finalize_cast is =
+      elim (from_either (first_recover_error same x.settings.epoch x.me floor entries)
+      (if has_late_deadline x now then Some error.TimeOverflow else None) error.ParentNotBelow is) [
+        | inr late ↦ absurd (late_elsewhere (has_late_deadline x now) late)
+        | inl broken ↦ elim (from_either (first_error (recovery_floor_rules x.settings.epoch floor))
+            (first_broken_after same x.settings.epoch x.me [] entries) error.ParentNotBelow broken) [
+              | inl in_floor ↦ first_broken (IfParent same x.settings.epoch x.me (AcceptedParentAbove trace))
+                  (recovery_floor_rules x.settings.epoch floor) error.ParentNotBelow
+                  (of_floor same x.settings.epoch x.me (AcceptedParentAbove trace) floor) in_floor refl
+              | inr in_entries ↦ of_entries same x.settings.epoch x.me (AcceptedParentAbove trace) [] entries
+                  error.ParentNotBelow votes in_entries refl
+            ]
+      ]
     where
       votes : (p : Proposal D) → HasVote entries p → p.round.view ≤ p.parent → AcceptedParentAbove trace
       votes p (m, inl h) above =
@@ -92,5 +123,9 @@ module _ {K L D : Type 0} (same : D → D → Bool) (term_length : ℕ) (trace :
           let below = lawful.parent_before signs.0 p signs.1 in
           absurd (omega arith)
       votes p (m, inr h) above =
-          let signs = voted trace (subject.Finalize p) (finalize_cast p m h) in
-          (p, earlier trace signs.0 (subject.Finalize p) (Accepts (subject.Notarize p)) signs.1 (lawful.finalizes_notarized signs.0 p signs.1), above)
+          let signs = voted trace (subject.Finalize p) (finalize_cast p m h) in (
+            p,
+            earlier trace signs.0 (subject.Finalize p) (Accepts (subject.Notarize p)) signs.1
+                (lawful.finalizes_notarized signs.0 p signs.1),
+            above,
+          )

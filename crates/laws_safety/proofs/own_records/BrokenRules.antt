@@ -5,7 +5,8 @@ use Rattle.simplex_record.specs.declared.record.error.RecoverError.{RecoverError
 use Rattle.simplex_record.specs.Check.{first_error}
 
 -- one of two errors
-pub from_either : (o p : Option RecoverError) (found : RecoverError) → option_or o p ≡ Some found → (o ≡ Some found) ⊎ (p ≡ Some found)
+pub from_either : (o p : Option RecoverError) (found : RecoverError) → option_or o p ≡ Some found
+    → (o ≡ Some found) ⊎ (p ≡ Some found)
 from_either None p found is = inr is
 from_either (Some e) p found is = inl is
 
@@ -15,7 +16,8 @@ module _ (P : RecoverError → Type 0) where
   OfBroken [] = Unit {0}
   OfBroken (rule ∷ rules) = (rule.0 ≡ true → P rule.1) × OfBroken rules
 
-  pub first_broken : (rules : List (Bool × RecoverError)) (found : RecoverError) → OfBroken rules → first_error rules ≡ Some found → P found
+  pub first_broken : (rules : List (Bool × RecoverError)) (found : RecoverError) → OfBroken rules
+      → first_error rules ≡ Some found → P found
   first_broken [] found broken is = absurd (cc)
   first_broken ((true, e) ∷ rules) found broken is =
       let same : e ≡ found = cc in

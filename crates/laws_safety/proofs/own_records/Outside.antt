@@ -43,7 +43,8 @@ module _ {D : Type 0} (same : D → D → Bool) (epoch : ℕ) (me : Option ℕ) 
   own_outside (Verdict round success) = (λ _. tt, (λ _. tt, (λ _. tt, tt)))
   own_outside (Accepted c) = (λ _. tt, (λ _. tt, (λ _. tt, tt)))
 
-  entry_outside : (before : List (ArtifactFacts D)) (e : ArtifactFacts D) → EntryFits same before e → AreOutside (entry_rules same epoch me before e)
+  entry_outside : (before : List (ArtifactFacts D)) (e : ArtifactFacts D) → EntryFits same before e
+      → AreOutside (entry_rules same epoch me before e)
   entry_outside before e fits = (
     unbroken (nat_lt (entry_view e) (last_view before)) error.OutOfOrder fits.in_order,
     broken_joined IsFromOutside (own_rules epoch me e) (beside_rules same before e) (own_outside e) (
@@ -61,29 +62,40 @@ module _ {D : Type 0} (same : D → D → Bool) (epoch : ℕ) (me : Option ℕ) 
     ),
   )
 
-  entries_outside : (before entries : List (ArtifactFacts D)) (found : RecoverError) → Fit same before entries → first_broken_after same epoch me before entries ≡ Some found → IsFromOutside found
+  entries_outside : (before entries : List (ArtifactFacts D)) (found : RecoverError) → Fit same before entries
+      → first_broken_after same epoch me before entries ≡ Some found → IsFromOutside found
   entries_outside before [] found fit is = absurd (cc)
-  entries_outside before (e ∷ rest) found fit is = elim (from_either (first_error (entry_rules same epoch me before e)) (first_broken_after same epoch me (e ∷ before) rest) found is) [
-    | inl here ↦ first_broken IsFromOutside (entry_rules same epoch me before e) found (entry_outside before e fit.0) here
-    | inr later ↦ entries_outside (e ∷ before) rest found fit.1 later
-  ]
+  entries_outside before (e ∷ rest) found fit is =
+      elim (from_either (first_error (entry_rules same epoch me before e))
+      (first_broken_after same epoch me (e ∷ before) rest) found is) [
+        | inl here ↦ first_broken IsFromOutside (entry_rules same epoch me before e) found
+            (entry_outside before e fit.0)
+            here
+        | inr later ↦ entries_outside (e ∷ before) rest found fit.1 later
+      ]
 
 floor_outside : {D : Type 0} (epoch : ℕ) (floor : FloorFacts D) → AreOutside (recovery_floor_rules epoch floor)
 floor_outside epoch (Genesis payload) = tt
 floor_outside epoch (Finalized c) = (λ _. tt, (λ _. tt, (λ _. tt, tt)))
 
-late_outside : (b : Bool) (found : RecoverError) → (if b then Some error.TimeOverflow else None) ≡ Some found → IsFromOutside found
+late_outside : (b : Bool) (found : RecoverError) → (if b then Some error.TimeOverflow else None) ≡ Some found
+    → IsFromOutside found
 late_outside true found is = let same : error.TimeOverflow ≡ found = cc in subst IsFromOutside same tt
 late_outside false found is = absurd (cc)
 
 module _ {K L D : Type 0} (same : D → D → Bool) (x : StateFacts K L D) (floor : FloorFacts D) (now : ℕ) where
   -- only what comes from outside prevents a state
-  pub error_outside : (entries : List (ArtifactFacts D)) (found : RecoverError) → Fit same [] entries → recover_error same x floor now entries ≡ Some found → IsFromOutside found
+  pub error_outside : (entries : List (ArtifactFacts D)) (found : RecoverError) → Fit same [] entries
+      → recover_error same x floor now entries ≡ Some found → IsFromOutside found
   unfolding first_recover_error
-  error_outside entries found fit is = elim (from_either (first_recover_error same x.settings.epoch x.me floor entries) (if has_late_deadline x now then Some error.TimeOverflow else None) found is) [
-    | inr late ↦ late_outside (has_late_deadline x now) found late
-    | inl broken ↦ elim (from_either (first_error (recovery_floor_rules x.settings.epoch floor)) (first_broken_after same x.settings.epoch x.me [] entries) found broken) [
-      | inl of_floor ↦ first_broken IsFromOutside (recovery_floor_rules x.settings.epoch floor) found (floor_outside x.settings.epoch floor) of_floor
-      | inr of_entry ↦ entries_outside same x.settings.epoch x.me [] entries found fit of_entry
-    ]
-  ]
+  error_outside entries found fit is = elim
+      (from_either (first_recover_error same x.settings.epoch x.me floor entries)
+      (if has_late_deadline x now then Some error.TimeOverflow else None) found is) [
+        | inr late ↦ late_outside (has_late_deadline x now) found late
+        | inl broken ↦ elim (from_either (first_error (recovery_floor_rules x.settings.epoch floor))
+            (first_broken_after same x.settings.epoch x.me [] entries) found broken) [
+              | inl of_floor ↦ first_broken IsFromOutside (recovery_floor_rules x.settings.epoch floor) found
+                  (floor_outside x.settings.epoch floor) of_floor
+              | inr of_entry ↦ entries_outside same x.settings.epoch x.me [] entries found fit of_entry
+            ]
+      ]

@@ -1,4 +1,5 @@
--- The entries of its view that a round shows: each certificate that is there, the verdict, and the votes that are decided. Each event keeps
+-- The entries of its view that a round shows: each certificate that is there, the verdict, and the votes that are
+-- decided. Each event keeps
 -- what is shown, unless a prune drops the view, and a call's new entries are shown after it.
 use Rattle.std.proofs.Common.{◌≡◌, refl, ap, sym, ◌∙◌, ℕ, ◌⊎◌, Bool, true, false, not, ◌||◌, Some, None, is_some, arith}
 use Rattle.std.proofs.lemmas.Bool.{false≢true}
@@ -41,7 +42,8 @@ pub record Retains {K D : Type 0} (r s : RoundFacts K D) : Type 0 where
   pub finalization : is_some r.finalization ≡ true → is_some s.finalization ≡ true
 
 module _ {K D : Type 0} where
-  pub entry_retained : (r s : RoundFacts K D) (a : ArtifactFacts D) → Retains r s → has_entry r a ≡ true → has_entry s a ≡ true
+  pub entry_retained : (r s : RoundFacts K D) (a : ArtifactFacts D) → Retains r s → has_entry r a ≡ true
+      → has_entry s a ≡ true
   entry_retained r s (NotarizeVote _ _) retains = retains.voted
   entry_retained r s (NullifyVote _ _) retains = retains.decided
   entry_retained r s (FinalizeVote _ _) retains = retains.decided
@@ -78,44 +80,155 @@ ended_verdict (certification.Outstanding _) is = absurd (false≢true is)
 ended_verdict (certification.Judged _) is = is
 ended_verdict certification.Aborted is = absurd (false≢true is)
 
-armed_decided : (d : Decision) (leader certified : ℕ) → not (is_pending d) ≡ true → not (is_pending (with_decision_deadlines d leader certified)) ≡ true
+armed_decided : (d : Decision) (leader certified : ℕ) → not (is_pending d) ≡ true
+    → not (is_pending (with_decision_deadlines d leader certified)) ≡ true
 armed_decided (decision.Pending _ _ _) leader certified is = is
 armed_decided (decision.Nullify _) leader certified is = is
 armed_decided decision.Finalize leader certified is = is
 
-latched_decided : (d : Decision) (timeout : ℕ × TimeoutReason) → not (is_pending d) ≡ true → not (is_pending (with_first_timeout d timeout)) ≡ true
+latched_decided : (d : Decision) (timeout : ℕ × TimeoutReason) → not (is_pending d) ≡ true
+    → not (is_pending (with_first_timeout d timeout)) ≡ true
 latched_decided (decision.Pending _ _ None) timeout is = is
 latched_decided (decision.Pending _ _ (Some _)) timeout is = is
 latched_decided (decision.Nullify _) timeout is = is
 latched_decided decision.Finalize timeout is = is
 
-module _ {K L D : Type 0} (same : D → D → Bool) (elect : Elect L) (x : StateFacts K L D) (e : Event K D) (handles : (v token : ℕ) → e ≡ event.SetCertifyHandle v token → IsEvent x e) where
-  change_retains : (y : StateFacts K L D) (v : ℕ) (r s : RoundFacts K D) → RoundStep same elect x e y v r s → Retains r s
-  change_retains y v r s (step.Entered now) = record { voted = λ h. h; decided = armed_decided r.decision _ _; judged = λ h. h; notarization = λ h. h; nullification = λ h. h; finalization = λ h. h }
-  change_retains y v r s (step.Latched now reason) = record { voted = λ h. h; decided = latched_decided r.decision (now, reason); judged = λ h. h; notarization = λ h. h; nullification = λ h. h; finalization = λ h. h }
-  change_retains y v r s (step.Notarized c says at none) = record { voted = λ h. h; decided = λ h. h; judged = λ h. h; notarization = λ h. refl; nullification = λ h. h; finalization = λ h. h }
-  change_retains y v r s (step.Nullified c says at none) = record { voted = λ h. h; decided = λ h. h; judged = λ h. h; notarization = λ h. h; nullification = λ h. refl; finalization = λ h. h }
-  change_retains y v r s (step.Finalized c says at none) = record { voted = λ h. h; decided = λ h. h; judged = λ h. h; notarization = λ h. h; nullification = λ h. h; finalization = λ h. refl }
-  change_retains y v r s (step.Judged success says fits) = record { voted = λ h. h; decided = λ h. h; judged = λ h. judged_verdict success; notarization = λ h. h; nullification = λ h. h; finalization = λ h. h }
+module _ {K L D : Type 0} (same : D → D → Bool) (elect : Elect L) (x : StateFacts K L D) (e : Event K D)
+    (handles : (v token : ℕ) → e ≡ event.SetCertifyHandle v token → IsEvent x e) where
+  change_retains : (y : StateFacts K L D) (v : ℕ) (r s : RoundFacts K D) → RoundStep same elect x e y v r s
+      → Retains r s
+  change_retains y v r s (step.Entered now) =
+      record {
+        voted = λ h. h;
+        decided = armed_decided r.decision _ _;
+        judged = λ h. h;
+        notarization = λ h. h;
+        nullification = λ h. h;
+        finalization = λ h. h;
+      }
+  change_retains y v r s (step.Latched now reason) =
+      record {
+        voted = λ h. h;
+        decided = latched_decided r.decision (now, reason);
+        judged = λ h. h;
+        notarization = λ h. h;
+        nullification = λ h. h;
+        finalization = λ h. h;
+      }
+  change_retains y v r s (step.Notarized c says at none) =
+      record {
+        voted = λ h. h;
+        decided = λ h. h;
+        judged = λ h. h;
+        notarization = λ h. refl;
+        nullification = λ h. h;
+        finalization = λ h. h;
+      }
+  change_retains y v r s (step.Nullified c says at none) =
+      record {
+        voted = λ h. h;
+        decided = λ h. h;
+        judged = λ h. h;
+        notarization = λ h. h;
+        nullification = λ h. refl;
+        finalization = λ h. h;
+      }
+  change_retains y v r s (step.Finalized c says at none) =
+      record {
+        voted = λ h. h;
+        decided = λ h. h;
+        judged = λ h. h;
+        notarization = λ h. h;
+        nullification = λ h. h;
+        finalization = λ h. refl;
+      }
+  change_retains y v r s (step.Judged success says fits) =
+      record {
+        voted = λ h. h;
+        decided = λ h. h;
+        judged = λ h. judged_verdict success;
+        notarization = λ h. h;
+        nullification = λ h. h;
+        finalization = λ h. h;
+      }
   change_retains y v r s (step.Certifying token says fits) = record {
     voted = λ h. h;
     decided = λ h. h;
-    judged = λ h. absurd (let none = fits (handles v token says) in false≢true (sym (ap (λ b. b || is_judged false r.certification) (none true) ∙ none false) ∙ h));
+    judged = λ h. absurd (let none = fits (handles v token says) in
+        false≢true (sym (ap (λ b. b || is_judged false r.certification) (none true) ∙ none false) ∙ h));
     notarization = λ h. h;
     nullification = λ h. h;
     finalization = λ h. h;
   }
-  change_retains y v r s (step.Ended under_way) = record { voted = λ h. h; decided = λ h. h; judged = ended_verdict r.certification; notarization = λ h. h; nullification = λ h. h; finalization = λ h. h }
-  change_retains y v r s (step.NullifyDecided says unless_finalized) = record { voted = λ h. h; decided = λ h. refl; judged = λ h. h; notarization = λ h. h; nullification = λ h. h; finalization = λ h. h }
-  change_retains y v r s (step.FinalizeDecided says unless_nullified) = record { voted = λ h. h; decided = λ h. refl; judged = λ h. h; notarization = λ h. h; nullification = λ h. h; finalization = λ h. h }
-  change_retains y v r s (step.NotarizeDecided says may) = record { voted = λ h. refl; decided = λ h. h; judged = λ h. h; notarization = λ h. h; nullification = λ h. h; finalization = λ h. h }
-  change_retains y v r s (step.VotedAgain p binding says at is) = record { voted = λ h. refl; decided = λ h. h; judged = λ h. h; notarization = λ h. h; nullification = λ h. h; finalization = λ h. h }
-  change_retains y v r s (step.Retried now interval says awaits) = record { voted = λ h. h; decided = λ h. refl; judged = λ h. h; notarization = λ h. h; nullification = λ h. h; finalization = λ h. h }
-  change_retains y v r s _ = record { voted = λ h. h; decided = λ h. h; judged = λ h. h; notarization = λ h. h; nullification = λ h. h; finalization = λ h. h }
+  change_retains y v r s (step.Ended under_way) =
+      record {
+        voted = λ h. h;
+        decided = λ h. h;
+        judged = ended_verdict r.certification;
+        notarization = λ h. h;
+        nullification = λ h. h;
+        finalization = λ h. h;
+      }
+  change_retains y v r s (step.NullifyDecided says unless_finalized) =
+      record {
+        voted = λ h. h;
+        decided = λ h. refl;
+        judged = λ h. h;
+        notarization = λ h. h;
+        nullification = λ h. h;
+        finalization = λ h. h;
+      }
+  change_retains y v r s (step.FinalizeDecided says unless_nullified) =
+      record {
+        voted = λ h. h;
+        decided = λ h. refl;
+        judged = λ h. h;
+        notarization = λ h. h;
+        nullification = λ h. h;
+        finalization = λ h. h;
+      }
+  change_retains y v r s (step.NotarizeDecided says may) =
+      record {
+        voted = λ h. refl;
+        decided = λ h. h;
+        judged = λ h. h;
+        notarization = λ h. h;
+        nullification = λ h. h;
+        finalization = λ h. h;
+      }
+  change_retains y v r s (step.VotedAgain p binding says at is) =
+      record {
+        voted = λ h. refl;
+        decided = λ h. h;
+        judged = λ h. h;
+        notarization = λ h. h;
+        nullification = λ h. h;
+        finalization = λ h. h;
+      }
+  change_retains y v r s (step.Retried now interval says awaits) =
+      record {
+        voted = λ h. h;
+        decided = λ h. refl;
+        judged = λ h. h;
+        notarization = λ h. h;
+        nullification = λ h. h;
+        finalization = λ h. h;
+      }
+  change_retains y v r s _ = record {
+    voted = λ h. h;
+    decided = λ h. h;
+    judged = λ h. h;
+    notarization = λ h. h;
+    nullification = λ h. h;
+    finalization = λ h. h;
+  }
 
   -- each event keeps what a round shows, or a prune drops the view
-  pub event_retains : (v : ℕ) → Retains (round_of x v) (round_of (after_event same elect x e) v) ⊎ ((is_prune e ≡ true) × IsGone x (after_event same elect x e) v)
-  event_retains = rounds_or_gone same elect x e 0 (λ v r s. Retains r s) retained_on change_retains (event_path same elect 0 x e (omega arith) (asked_of_all x e))
+  pub event_retains : (v : ℕ) → Retains (round_of x v) (round_of (after_event same elect x e) v)
+      ⊎ ((is_prune e ≡ true) × IsGone x (after_event same elect x e) v)
+  event_retains = rounds_or_gone same elect x e 0 (λ v r s. Retains r s) retained_on change_retains
+      (event_path same elect 0 x e (omega arith) (asked_of_all x e))
 
-  pub path_retains : is_prune e ≡ false → (y z : StateFacts K L D) → Path same elect x e 0 y z → (v : ℕ) → Retains (round_of y v) (round_of z v)
+  pub path_retains : is_prune e ≡ false → (y z : StateFacts K L D) → Path same elect x e 0 y z → (v : ℕ)
+      → Retains (round_of y v) (round_of z v)
   path_retains = rounds_along same elect x e 0 (λ v r s. Retains r s) retained_on change_retains

@@ -36,14 +36,16 @@ use Rattle.laws_safety.proofs.records.NewLives.{Living, high_more, within_more, 
 use Rattle.laws_safety.proofs.lists.Splits.{only_one}
 
 -- a vote to notarize is recorded
-grows_notarize : {D : Type 0} (trace : List (TraceEvent D)) (entries : List (ArtifactFacts D)) (p : Proposal D) (m : ℕ) → RecordGrows trace (Signs m (subject.Notarize p) ∷ []) entries (NotarizeVote p m ∷ [])
+grows_notarize : {D : Type 0} (trace : List (TraceEvent D)) (entries : List (ArtifactFacts D)) (p : Proposal D) (m : ℕ)
+    → RecordGrows trace (Signs m (subject.Notarize p) ∷ []) entries (NotarizeVote p m ∷ [])
 grows_notarize trace entries p m = record {
   accepted = λ c h. absurd (let e = only_one (NotarizeVote p m) (Accepted c) h in cc);
   nullify_cast = λ r n h. absurd (let e = only_one (NotarizeVote p m) (NullifyVote r n) h in cc);
   finalize_cast = λ q n h. absurd (let e = only_one (NotarizeVote p m) (FinalizeVote q n) h in cc);
   nullify_kept = λ r h. absurd (let e = only_signed (Signs m (subject.Notarize p)) (subject.Nullify r) h in cc);
   finalize_kept = λ q h. absurd (let e = only_signed (Signs m (subject.Notarize p)) (subject.Finalize q) h in cc);
-  judged = λ before after q n split. absurd (let e = single_split before after (NotarizeVote p m) (FinalizeVote q n) split in cc);
+  judged = λ before after q n split. absurd
+      (let e = single_split before after (NotarizeVote p m) (FinalizeVote q n) split in cc);
 }
 
 module _ {K L D : Type 0} (same : D → D → Bool) (elect : Elect L) (x : StateFacts K L D) (o : OutstandingWork K D) where
@@ -78,44 +80,68 @@ module _ {K L D : Type 0} (same : D → D → Bool) (elect : Elect L) (x : State
   silent_record Prune silent = absurd (false≢true silent)
   silent_record _ silent = refl
 
-module _ {K L D : Type 0} (same : D → D → Bool) (decides : (d e : D) → same d e ≡ true → d ≡ e) (elect : Elect L) (term_length : ℕ) (some : 0 < term_length) (trace : List (TraceEvent D)) (closed kept : ℕ) (entries : List (ArtifactFacts D)) (o : OutstandingWork K D) (x : StateFacts K L D) (living : Living term_length trace closed kept entries o x) where
+module _ {K L D : Type 0} (same : D → D → Bool) (decides : (d e : D) → same d e ≡ true → d ≡ e) (elect : Elect L)
+    (term_length : ℕ) (some : 0 < term_length) (trace : List (TraceEvent D)) (closed kept : ℕ)
+    (entries : List (ArtifactFacts D)) (o : OutstandingWork K D) (x : StateFacts K L D)
+    (living : Living term_length trace closed kept entries o x) where
   -- with no event and nothing recorded
-  nothing_done : (next : OutstandingWork K D) (y : StateFacts K L D) → Living term_length trace closed kept entries next y → Living term_length (trace ++ []) closed kept (entries ++ []) next y
-  nothing_done next y lives = subst (λ a. Living term_length a closed kept (entries ++ []) next y) (sym (append-nil trace)) (subst (λ es. Living term_length trace closed kept es next y) (sym (append-nil entries)) lives)
+  nothing_done : (next : OutstandingWork K D) (y : StateFacts K L D)
+      → Living term_length trace closed kept entries next y
+      → Living term_length (trace ++ []) closed kept (entries ++ []) next y
+  nothing_done next y lives = subst (λ a. Living term_length a closed kept (entries ++ []) next y)
+      (sym (append-nil trace))
+      (subst (λ es. Living term_length trace closed kept es next y) (sym (append-nil entries)) lives)
 
   -- the votes and what the record shows, after a call on the work of a view
 
-  stays_worked : (call : CallFacts D) → is_work call ≡ true → is_allowed x o call ≡ true → ShowsVotesInLife term_length trace (after_call same elect x o call)
+  stays_worked : (call : CallFacts D) → is_work call ≡ true → is_allowed x o call ≡ true
+      → ShowsVotesInLife term_length trace (after_call same elect x o call)
   stays_worked call work allowed =
-      call_by_event same elect x o (λ es y. AreSilent es → ShowsVotesInLife term_length trace y) (λ silent. living.keeps.stays)
-      (λ e takes floor silent. stays_on same decides elect term_length trace x e (silent_suits trace _ x e silent.0) living.keeps.stays) call allowed (work_silent o call work)
+      call_by_event same elect x o (λ es y. AreSilent es → ShowsVotesInLife term_length trace y)
+      (λ silent. living.keeps.stays)
+      (λ e takes floor silent. stays_on same decides elect term_length trace x e (silent_suits trace _ x e silent.0)
+      living.keeps.stays) call allowed (work_silent o call work)
 
-  marked_worked : (call : CallFacts D) → is_work call ≡ true → is_allowed x o call ≡ true → Marked entries (after_call same elect x o call)
+  marked_worked : (call : CallFacts D) → is_work call ≡ true → is_allowed x o call ≡ true
+      → Marked entries (after_call same elect x o call)
   marked_worked call work allowed =
       call_by_event same elect x o (λ es y. AreSilent es → Marked entries y) (λ silent. living.follows.marked)
-      (λ e takes floor silent. quiet_marked same elect x e entries silent.0.verdict silent.0.nullify living.follows.marked) call allowed (work_silent o call work)
+      (λ e takes floor silent. quiet_marked same elect x e entries silent.0.verdict silent.0.nullify
+      living.follows.marked) call allowed (work_silent o call work)
 
-  silent_lives : (call : CallFacts D) → is_allowed x o call ≡ true → is_silent call ≡ true → Living term_length trace closed kept entries (outstanding_work_after same elect x o call) (after_call same elect x o call)
+  silent_lives : (call : CallFacts D) → is_allowed x o call ≡ true → is_silent call ≡ true
+      → Living term_length trace closed kept entries (outstanding_work_after same elect x o call)
+      (after_call same elect x o call)
   silent_lives call allowed silent =
       let noted = living.noted in
       record {
         keeps = record { lawful = living.keeps.lawful; stays = stays_worked call (silent_work call silent) allowed };
-        follows = record { remembers = living.follows.remembers; marked = marked_worked call (silent_work call silent) allowed };
+        follows = record {
+          remembers = living.follows.remembers;
+          marked = marked_worked call (silent_work call silent) allowed;
+        };
         in_order = order_call same elect x o living.in_order call;
         notes = living.notes;
-        noted = (noted.0, noted.1, work_notes same decides elect noted.0 noted.1 trace o x noted.2 call living.in_order allowed silent);
+        noted = (
+          noted.0,
+          noted.1,
+          work_notes same decides elect noted.0 noted.1 trace o x noted.2 call living.in_order
+              allowed silent,
+        );
         high = living.high;
         within = living.within;
       }
 
   -- a vote to notarize
 
-  decided_lives : (v : ℕ) → (base low : ℕ) → NotesStand base low trace o (after_construct_notarize same elect x v) → Living term_length trace closed kept entries o (after_construct_notarize same elect x v)
+  decided_lives : (v : ℕ) → (base low : ℕ) → NotesStand base low trace o (after_construct_notarize same elect x v)
+      → Living term_length trace closed kept entries o (after_construct_notarize same elect x v)
   decided_lives v base low noted =
       let y = after_construct_notarize same elect x v in
       record {
         keeps = record { lawful = living.keeps.lawful; stays = stays_worked (ConstructNotarize v) refl refl };
-        follows = record { remembers = living.follows.remembers; marked = marked_worked (ConstructNotarize v) refl refl };
+        follows =
+            record { remembers = living.follows.remembers; marked = marked_worked (ConstructNotarize v) refl refl };
         in_order = order_call same elect x o living.in_order (ConstructNotarize v);
         notes = living.notes;
         noted = (base, low, noted);
@@ -123,7 +149,9 @@ module _ {K L D : Type 0} (same : D → D → Bool) (decides : (d e : D) → sam
         within = living.within;
       }
 
-  cast_lives : (v m : ℕ) (h : Proposal D) → may_notarize same elect x v ≡ true → (round_of x v).slot.held ≡ Some h → Living term_length (trace ++ Signs m (subject.Notarize h) ∷ []) closed kept (entries ++ NotarizeVote h m ∷ []) o (after_construct_notarize same elect x v)
+  cast_lives : (v m : ℕ) (h : Proposal D) → may_notarize same elect x v ≡ true → (round_of x v).slot.held ≡ Some h
+      → Living term_length (trace ++ Signs m (subject.Notarize h) ∷ []) closed kept (entries ++ NotarizeVote h m ∷ []) o
+      (after_construct_notarize same elect x v)
   cast_lives v m h may holds =
       let y = after_construct_notarize same elect x v in
       let vote : ArtifactFacts D = NotarizeVote h m in
@@ -132,65 +160,90 @@ module _ {K L D : Type 0} (same : D → D → Bool) (decides : (d e : D) → sam
       let terms = living.keeps.stays.stands.terms in
       record {
         keeps = record {
-          lawful = lawful_push term_length trace (Signs m (subject.Notarize h)) living.keeps.lawful (notarize_allowed same decides elect term_length noted.0 noted.1 trace o x positive terms noted.2 v may h holds);
+          lawful = lawful_push term_length trace (Signs m (subject.Notarize h)) living.keeps.lawful
+              (notarize_allowed same decides elect term_length noted.0 noted.1 trace o x positive terms noted.2 v may h
+              holds);
           stays = notarize_cast_stays term_length trace y (stays_worked (ConstructNotarize v) refl refl) h m;
         };
         follows = record {
-          remembers = remembers_more trace entries kept (Signs m (subject.Notarize h) ∷ []) (vote ∷ []) (grows_notarize trace entries h m) living.follows.remembers;
+          remembers = remembers_more trace entries kept (Signs m (subject.Notarize h) ∷ []) (vote ∷ [])
+              (grows_notarize trace entries h m) living.follows.remembers;
           marked = marked_more entries (vote ∷ []) y (marked_worked (ConstructNotarize v) refl refl);
         };
         in_order = order_call same elect x o living.in_order (ConstructNotarize v);
         notes = notes_cast trace kept entries h m living.notes;
-        noted = (noted.0, noted.1, rw may (notarize_noted same decides elect term_length noted.0 noted.1 trace o x positive terms noted.2 v may h m holds));
+        noted = (
+          noted.0,
+          noted.1,
+          rw may (notarize_noted same decides elect term_length noted.0 noted.1 trace o x
+              positive terms noted.2 v may h m holds),
+        );
         high = high_more closed kept entries (vote ∷ []) living.high;
         within = within_more closed entries (vote ∷ []) living.within;
       }
 
   abbrev pub ToldLives : ℕ → Option (ArtifactFacts D) → Type 0
-  ToldLives v vote = Living term_length (trace ++ signed_in {K = K} (Notarize vote)) closed kept (entries ++ vote_entry vote) o (after_construct_notarize same elect x v)
+  ToldLives v vote = Living term_length (trace ++ signed_in {K = K} (Notarize vote)) closed kept
+      (entries ++ vote_entry vote) o (after_construct_notarize same elect x v)
 
   notarize_lives : (v : ℕ) → ToldLives v (notarize_vote same elect x v)
   notarize_lives v = by_rule (may_notarize same elect x v) refl
     where
-      untold : (base low : ℕ) → NotesStand base low trace o (after_construct_notarize same elect x v) → notarize_vote same elect x v ≡ None → ToldLives v (notarize_vote same elect x v)
-      untold base low noted silent = subst (ToldLives v) (sym silent) (nothing_done o (after_construct_notarize same elect x v) (decided_lives v base low noted))
+      untold : (base low : ℕ) → NotesStand base low trace o (after_construct_notarize same elect x v)
+          → notarize_vote same elect x v ≡ None → ToldLives v (notarize_vote same elect x v)
+      untold base low noted silent = subst (ToldLives v) (sym silent)
+          (nothing_done o (after_construct_notarize same elect x v) (decided_lives v base low noted))
 
-      by_held : (m : ℕ) (q : Option (Proposal D)) → (round_of x v).slot.held ≡ q → x.me ≡ Some m → may_notarize same elect x v ≡ true → ToldLives v (notarize_vote same elect x v)
+      by_held : (m : ℕ) (q : Option (Proposal D)) → (round_of x v).slot.held ≡ q → x.me ≡ Some m
+          → may_notarize same elect x v ≡ true → ToldLives v (notarize_vote same elect x v)
       by_held m None holds me may =
           let verified = (notarize_parts same elect x v may).verified in
           let slot = (and_parts (is_unequivocated (round_of x v).slot) (round_of x v).slot.verified verified).0 in
-          absurd (false≢true (sym (ap is_some holds) ∙ (and_parts (is_some (round_of x v).slot.held) (not (round_of x v).slot.conflict) slot).0))
-      by_held m (Some h) holds me may = subst (ToldLives v) (sym (notarize_told same elect x v m h me may holds)) (cast_lives v m h may holds)
+          absurd (false≢true (sym (ap is_some holds)
+          ∙ (and_parts (is_some (round_of x v).slot.held) (not (round_of x v).slot.conflict) slot).0))
+      by_held m (Some h) holds me may = subst (ToldLives v) (sym (notarize_told same elect x v m h me may holds))
+          (cast_lives v m h may holds)
 
-      by_key : (k : Option ℕ) → x.me ≡ k → may_notarize same elect x v ≡ true → ToldLives v (notarize_vote same elect x v)
+      by_key : (k : Option ℕ) → x.me ≡ k → may_notarize same elect x v ≡ true
+          → ToldLives v (notarize_vote same elect x v)
       by_key None me may =
           let noted = living.noted in
           let positive : 0 < x.terms.term_length = omega (arith, some, living.keeps.stays.stands.terms) in
-          let tracked = voted_tracked same decides elect term_length noted.0 noted.1 trace o x positive living.keeps.stays.stands.terms noted.2 v may in
-          untold noted.0 noted.1 (rw may (decided_notes same decides elect noted.0 noted.1 trace o x noted.2 v may tracked)) (notarize_silent same elect x v (no_key (may_notarize same elect x v) x.me me))
+          let tracked = voted_tracked same decides elect term_length noted.0 noted.1 trace o x positive
+          living.keeps.stays.stands.terms noted.2 v may in
+          untold noted.0 noted.1 (rw may (decided_notes same decides elect noted.0 noted.1 trace o x noted.2 v may
+          tracked)) (notarize_silent same elect x v (no_key (may_notarize same elect x v) x.me me))
       by_key (Some m) me may = by_held m (round_of x v).slot.held refl me may
 
       by_rule : (b : Bool) → may_notarize same elect x v ≡ b → ToldLives v (notarize_vote same elect x v)
       by_rule true may = by_key x.me refl may
-      by_rule false may = (let noted = living.noted in untold noted.0 noted.1 (rw may noted.2) (notarize_silent same elect x v (no_rule (may_notarize same elect x v) x.me may)))
+      by_rule false may = (let noted = living.noted in
+          untold noted.0 noted.1 (rw may noted.2)
+          (notarize_silent same elect x v (no_rule (may_notarize same elect x v) x.me may)))
 
   -- a call that is allowed and not refused
   abbrev pub CallLives : CallFacts D → Type 0
-  CallLives call = Living term_length (trace ++ trace_of_call call (answer same elect x o call)) closed kept (entries ++ recorded_by same elect x call) (outstanding_work_after same elect x o call) (after_call same elect x o call)
+  CallLives call = Living term_length (trace ++ trace_of_call call (answer same elect x o call)) closed kept
+      (entries ++ recorded_by same elect x call) (outstanding_work_after same elect x o call)
+      (after_call same elect x o call)
 
   silent_call : (call : CallFacts D) → is_allowed x o call ≡ true → is_silent call ≡ true → CallLives call
   silent_call call allowed silent =
       let next = outstanding_work_after same elect x o call in
       let y = after_call same elect x o call in
-      subst (λ a. Living term_length (trace ++ a) closed kept (entries ++ recorded_by same elect x call) next y) (sym (silent_trace same elect x o call silent))
-      (subst (λ es. Living term_length (trace ++ []) closed kept (entries ++ es) next y) (sym (silent_record same elect x o call silent))
+      subst (λ a. Living term_length (trace ++ a) closed kept (entries ++ recorded_by same elect x call) next y)
+      (sym (silent_trace same elect x o call silent))
+      (subst (λ es. Living term_length (trace ++ []) closed kept (entries ++ es) next y)
+      (sym (silent_record same elect x o call silent))
       (nothing_done next y (silent_lives call allowed silent)))
 
   pub call_lives : (call : CallFacts D) → is_allowed x o call ≡ true → CallLives call
   call_lives call allowed = by_kind call (is_silent call) (is_work call) refl refl allowed
     where
-      by_kind : (w : CallFacts D) (silent work : Bool) → is_silent w ≡ silent → is_work w ≡ work → is_allowed x o w ≡ true → CallLives w
+      by_kind : (w : CallFacts D) (silent work : Bool) → is_silent w ≡ silent → is_work w ≡ work
+          → is_allowed x o w ≡ true → CallLives w
       by_kind w true work silent is may = silent_call w may silent
-      by_kind w false false loud plain may = plain_lives same decides elect term_length trace closed kept entries x o w some plain may living
+      by_kind w false false loud plain may = plain_lives same decides elect term_length trace closed kept entries x o w
+          some plain may living
       by_kind (ConstructNotarize v) false true loud work may = notarize_lives v
       by_kind _ false true loud work may = absurd (cc)

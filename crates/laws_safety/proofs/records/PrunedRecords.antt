@@ -25,10 +25,12 @@ high_stay tracked bound v above = by_test (tracked v)
 
 module _ {K L D : Type 0} (x : StateFacts K L D) (v : ℕ) where
   -- of an untracked view nothing is shown that a new round doesn't show
-  pub shown_tracked : (shows : RoundFacts K D → Bool) → shows (new_round x.me x.members (round_number x v)) ≡ false → shows (round_of x v) ≡ true → is_tracked x v ≡ true
+  pub shown_tracked : (shows : RoundFacts K D → Bool) → shows (new_round x.me x.members (round_number x v)) ≡ false
+      → shows (round_of x v) ≡ true → is_tracked x v ≡ true
   shown_tracked shows fresh is = by_round (round_at x v) is
     where
-      by_round : (o : Option (RoundFacts K D)) → shows (unwrap_or o (new_round x.me x.members (round_number x v))) ≡ true → is_some o ≡ true
+      by_round : (o : Option (RoundFacts K D))
+          → shows (unwrap_or o (new_round x.me x.members (round_number x v))) ≡ true → is_some o ≡ true
       by_round None shown = absurd (false≢true (sym fresh ∙ shown))
       by_round (Some r) shown = refl
 
@@ -37,7 +39,8 @@ module _ {K L D : Type 0} (entries : List (ArtifactFacts D)) (x : StateFacts K L
   test e = is_tracked x (entry_view e) || nat_le bound (entry_view e)
 
   -- an entry of a tracked view stays
-  pub tracked_stays : (e : ArtifactFacts D) → Contains entries e → is_tracked x (entry_view e) ≡ true → Contains (filter test entries) e
+  pub tracked_stays : (e : ArtifactFacts D) → Contains entries e → is_tracked x (entry_view e) ≡ true
+      → Contains (filter test entries) e
   tracked_stays e h tracked = Contains-filter test entries e h (rw tracked refl)
 
   marked_still : Marked entries x → Marked (filter test entries) x
@@ -47,8 +50,11 @@ module _ {K L D : Type 0} (entries : List (ArtifactFacts D)) (x : StateFacts K L
         let tracked = shown_tracked x v (λ r. is_certified r.certification) refl is in
         (e.0, tracked_stays (Verdict e.0 true) e.1 (subst (λ u. is_tracked x u ≡ true) (sym e.2) tracked), e.2));
     nullified = λ v is key.
-        (let e = marked.nullified v is key in
-        (e.0, tracked_stays (NullifyVote (round_number x v) e.0) e.1 (shown_tracked x v (λ r. is_nullify r.decision) refl is)));
+        (let e = marked.nullified v is key in (
+          e.0,
+          tracked_stays (NullifyVote (round_number x v) e.0) e.1
+              (shown_tracked x v (λ r. is_nullify r.decision) refl is),
+        ));
   }
 
 module _ {K L D : Type 0} (term_length : ℕ) (trace : List (TraceEvent D)) (m : MemberFacts K L D) (kept : ℕ) where
@@ -56,15 +62,25 @@ module _ {K L D : Type 0} (term_length : ℕ) (trace : List (TraceEvent D)) (m :
   bound = finalized_in m.entries - m.retention
 
   -- between lifetimes, and in a lifetime
-  pub pruned_ended : Between term_length trace m.closed kept m.entries → Between term_length trace (pruned_member m).closed (max kept bound) (pruned_member m).entries
-  pruned_ended between = bounded_between term_length trace m.closed kept m.entries between (stays_within m) bound (λ v above. high_stay (tracks m.life) bound v above) (omega arith)
+  pub pruned_ended : Between term_length trace m.closed kept m.entries
+      → Between term_length trace (pruned_member m).closed (max kept bound) (pruned_member m).entries
+  pruned_ended between = bounded_between term_length trace m.closed kept m.entries between (stays_within m) bound
+      (λ v above. high_stay (tracks m.life) bound v above) (omega arith)
 
-  pub pruned_living : (x : StateFacts K L D) → m.life ≡ Some x → Living term_length trace m.closed kept m.entries m.outstanding_work x → Living term_length trace (pruned_member m).closed (max kept bound) (pruned_member m).entries m.outstanding_work x
+  pub pruned_living : (x : StateFacts K L D) → m.life ≡ Some x
+      → Living term_length trace m.closed kept m.entries m.outstanding_work x
+      → Living term_length trace (pruned_member m).closed (max kept bound) (pruned_member m).entries m.outstanding_work
+      x
   pruned_living x alive living =
-      let between = bounded_between term_length trace m.closed kept m.entries (living_between term_length trace m.closed kept m.entries m.outstanding_work x living) (stays_within m) bound (λ v above. high_stay (tracks m.life) bound v above) (omega arith) in
+      let between = bounded_between term_length trace m.closed kept m.entries
+      (living_between term_length trace m.closed kept m.entries m.outstanding_work x living) (stays_within m) bound
+      (λ v above. high_stay (tracks m.life) bound v above) (omega arith) in
       record {
         keeps = living.keeps;
-        follows = record { remembers = between.remembers; marked = rw alive (marked_still m.entries x bound living.follows.marked) };
+        follows = record {
+          remembers = between.remembers;
+          marked = rw alive (marked_still m.entries x bound living.follows.marked);
+        };
         in_order = living.in_order;
         notes = between.notes;
         noted = living.noted;

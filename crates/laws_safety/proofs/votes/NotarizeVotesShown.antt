@@ -17,7 +17,8 @@ use Rattle.laws_safety.proofs.votes.UnchangedProposals.{Above, UnchangedProposal
 use Rattle.laws_safety.proofs.votes.Proposals.{Tidy, contrary, tidy_calm}
 
 -- views below `base` were pruned; work on views below `low` ended with the earlier lifetimes
-pub record NotesStand {K L D : Type 0} (base low : ℕ) (trace : List (TraceEvent D)) (o : OutstandingWork K D) (x : StateFacts K L D) : Type 0 where
+pub record NotesStand {K L D : Type 0} (base low : ℕ) (trace : List (TraceEvent D)) (o : OutstandingWork K D)
+    (x : StateFacts K L D) : Type 0 where
   pub above : Above base x
   pub active : base ≤ min_active x
   pub reached : low ≤ x.current
@@ -30,14 +31,18 @@ pub record NotesStand {K L D : Type 0} (base low : ℕ) (trace : List (TraceEven
   pub context_low : (v : ℕ) → is_some (context_at o v) ≡ true → low ≤ v
   pub contexts_placed : ArePlaced o
   -- each vote that was cast is decided
-  pub voted : (p : Proposal D) → HasSigned trace (subject.Notarize p) → low ≤ p.round.view → base ≤ p.round.view → (round_of x p.round.view).notarize_decided ≡ true
+  pub voted : (p : Proposal D) → HasSigned trace (subject.Notarize p) → low ≤ p.round.view → base ≤ p.round.view
+      → (round_of x p.round.view).notarize_decided ≡ true
   -- each nullified view's nullification was accepted
-  pub covered : (u : ℕ) → Contains x.nullified u → (round : Round) × Contains trace (Accepts (subject.Nullify round)) × (round.view ≡ u)
+  pub covered : (u : ℕ) → Contains x.nullified u
+      → (round : Round) × Contains trace (Accepts (subject.Nullify round)) × (round.view ≡ u)
 
 -- what a record has of the votes to notarize; it may lack those of views below `kept`
-pub record RemembersNotes {D : Type 0} (trace : List (TraceEvent D)) (kept : ℕ) (entries : List (ArtifactFacts D)) : Type 0 where
+pub record RemembersNotes {D : Type 0} (trace : List (TraceEvent D)) (kept : ℕ)
+    (entries : List (ArtifactFacts D)) : Type 0 where
   pub cast : (p : Proposal D) (m : ℕ) → Contains entries (NotarizeVote p m) → HasSigned trace (subject.Notarize p)
-  pub noted : (p : Proposal D) → HasSigned trace (subject.Notarize p) → ((m : ℕ) × Contains entries (NotarizeVote p m)) ⊎ (p.round.view < kept)
+  pub noted : (p : Proposal D) → HasSigned trace (subject.Notarize p)
+      → ((m : ℕ) × Contains entries (NotarizeVote p m)) ⊎ (p.round.view < kept)
 
 -- no event of them is a vote to notarize
 abbrev pub CastsNone : {D : Type 0} → List (TraceEvent D) → Type 0
@@ -45,7 +50,8 @@ CastsNone {D} trace = (p : Proposal D) → HasSigned trace (subject.Notarize p) 
 
 module _ {K L D : Type 0} (base low : ℕ) (trace : List (TraceEvent D)) where
   -- events that are no votes to notarize
-  pub notes_acted : (more : List (TraceEvent D)) (o : OutstandingWork K D) (x : StateFacts K L D) → CastsNone more → NotesStand base low trace o x → NotesStand base low (trace ++ more) o x
+  pub notes_acted : (more : List (TraceEvent D)) (o : OutstandingWork K D) (x : StateFacts K L D) → CastsNone more
+      → NotesStand base low trace o x → NotesStand base low (trace ++ more) o x
   notes_acted more o x none notes = record {
     above = notes.above;
     active = notes.active;
@@ -56,19 +62,30 @@ module _ {K L D : Type 0} (base low : ℕ) (trace : List (TraceEvent D)) where
     verifying_low = notes.verifying_low;
     context_low = notes.context_low;
     contexts_placed = notes.contexts_placed;
-    voted = λ p h. elim (signed_cases trace more (subject.Notarize p) h) [ inl old ↦ notes.voted p old | inr new ↦ absurd (none p new) ];
-    covered = λ u h. (let c = notes.covered u h in (c.0, Contains-append_left trace more (Accepts (subject.Nullify c.0)) c.1, c.2));
+    voted = λ p h. elim (signed_cases trace more (subject.Notarize p) h)
+        [ inl old ↦ notes.voted p old | inr new ↦ absurd (none p new) ];
+    covered = λ u h.
+        (let c = notes.covered u h in (c.0, Contains-append_left trace more (Accepts (subject.Nullify c.0)) c.1, c.2));
   }
 
   -- a change that keeps the work on each view, with no more open requests
-  pub notes_calm : (e : Event K D) (o o' : OutstandingWork K D) (x y : StateFacts K L D) → UnchangedProposalsFrom base e x y → ((u : ℕ) → covers_from u e ≡ true → (round : Round) × Contains trace (Accepts (subject.Nullify round)) × (round.view ≡ u)) → ((v : ℕ) → is_verifying o' v ≡ true → is_verifying o v ≡ true) → NoMoreContexts o o' → NotesStand base low trace o x → NotesStand base low trace o' y
+  pub notes_calm : (e : Event K D) (o o' : OutstandingWork K D) (x y : StateFacts K L D)
+      → UnchangedProposalsFrom base e x y → ((u : ℕ) → covers_from u e ≡ true
+      → (round : Round) × Contains trace (Accepts (subject.Nullify round)) × (round.view ≡ u))
+      → ((v : ℕ) → is_verifying o' v ≡ true → is_verifying o v ≡ true) → NoMoreContexts o o'
+      → NotesStand base low trace o x → NotesStand base low trace o' y
   notes_calm e o o' x y left accepted verifying opened notes = record {
     above = left.above notes.above;
-    active = omega (arith, notes.active, left.goes.finalized, ap (λ (s : Settings). s.view_retention) left.goes.settings);
+    active =
+        omega (arith, notes.active, left.goes.finalized, ap (λ (s : Settings). s.view_retention) left.goes.settings);
     reached = omega (arith, notes.reached, left.goes.current);
-    tidy = λ v over. tidy_calm v (is_verifying o v) (is_some (context_at o v)) (is_verifying o' v) (is_some (context_at o' v)) (round_of x v) (round_of y v) (left.rounds v) (verifying v) (some_still (context_at o' v) (context_at o v) (opened v)) (notes.tidy v over);
-    placed = λ v p is. elim ((left.rounds v).grown.placed p is) [ inl before ↦ notes.placed v p before | inr here ↦ here ];
-    worked = λ v is un. notes.worked v ((left.rounds v).verified is) (contrary (round_of y v).notarize_decided (round_of x v).notarize_decided (left.rounds v).grown.decided un);
+    tidy = λ v over. tidy_calm v (is_verifying o v) (is_some (context_at o v)) (is_verifying o' v)
+        (is_some (context_at o' v)) (round_of x v) (round_of y v) (left.rounds v) (verifying v)
+        (some_still (context_at o' v) (context_at o v) (opened v)) (notes.tidy v over);
+    placed = λ v p is. elim ((left.rounds v).grown.placed p is)
+        [ inl before ↦ notes.placed v p before | inr here ↦ here ];
+    worked = λ v is un. notes.worked v ((left.rounds v).verified is)
+        (contrary (round_of y v).notarize_decided (round_of x v).notarize_decided (left.rounds v).grown.decided un);
     verifying_low = λ v is. notes.verifying_low v (verifying v is);
     context_low = λ v is. notes.context_low v (some_still (context_at o' v) (context_at o v) (opened v) is);
     contexts_placed = λ v c is. notes.contexts_placed v c (opened v c is);

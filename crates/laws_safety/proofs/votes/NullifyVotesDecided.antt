@@ -57,7 +57,8 @@ record LeavesVote {K D : Type 0} (e : Event K D) (v : ℕ) (r s : RoundFacts K D
   me : s.me ≡ r.me
   decided : (is_nullify s.decision ≡ is_nullify r.decision) ⊎ (is_some (nullify_by e) ≡ true)
 
-module _ {K L D : Type 0} (same : D → D → Bool) (elect : Elect L) (x : StateFacts K L D) (e : Event K D) (allowed : IsEvent x e) where
+module _ {K L D : Type 0} (same : D → D → Bool) (elect : Elect L) (x : StateFacts K L D) (e : Event K D)
+    (allowed : IsEvent x e) where
   abbrev after : StateFacts K L D
   after = after_event same elect x e
 
@@ -73,12 +74,15 @@ module _ {K L D : Type 0} (same : D → D → Bool) (elect : Elect L) (x : State
     ];
   }
 
-  change_leaves : (y : StateFacts K L D) (v : ℕ) (r s : RoundFacts K D) → RoundStep same elect x e y v r s → LeavesVote e v r s
+  change_leaves : (y : StateFacts K L D) (v : ℕ) (r s : RoundFacts K D) → RoundStep same elect x e y v r s
+      → LeavesVote e v r s
   change_leaves y v r s (step.NullifyDecided says fits) = record { me = refl; decided = inr (ap is_some says) }
   change_leaves y v r s (step.FinalizeDecided says fits) = record { me = refl; decided = inl (sym (fits allowed)) }
-  change_leaves y v r s (step.Retried now interval says awaits) = record { me = refl; decided = inl (sym (awaited_nullify r awaits).0) }
+  change_leaves y v r s (step.Retried now interval says awaits) =
+      record { me = refl; decided = inl (sym (awaited_nullify r awaits).0) }
   change_leaves y v r s (step.Entered now) = record { me = refl; decided = inl (armed_nullify r.decision _ _) }
-  change_leaves y v r s (step.Latched now reason) = record { me = refl; decided = inl (latched_nullify r.decision (now, reason)) }
+  change_leaves y v r s (step.Latched now reason) =
+      record { me = refl; decided = inl (latched_nullify r.decision (now, reason)) }
   change_leaves y v r s _ = record { me = refl; decided = inl refl }
 
   rounds_leave : is_prune e ≡ false → (v : ℕ) → LeavesVote e v (round_of x v) (round_of after v)
@@ -102,19 +106,23 @@ module _ {K L D : Type 0} (same : D → D → Bool) (elect : Elect L) (x : State
     told = λ v. among v (votes_stay no_prune) (rounds_leave no_prune v).decided;
   }
     where
-      among : (v : ℕ) → NotesOnly after → (is_nullify (round_of after v).decision ≡ is_nullify (round_of x v).decision) ⊎ (is_some (nullify_by e) ≡ true) → is_among v after.nullify_votes ≡ (is_some after.me && is_nullify (round_of after v).decision)
+      among : (v : ℕ) → NotesOnly after → (is_nullify (round_of after v).decision ≡ is_nullify (round_of x v).decision)
+          ⊎ (is_some (nullify_by e) ≡ true) → is_among v
+          after.nullify_votes ≡ (is_some after.me && is_nullify (round_of after v).decision)
       among v (inl votes) (inl decision) =
           ap (is_among v) votes ∙ is_told.told v ∙ sym (λ k. is_some ((event_goes same elect x e).me k) && decision k)
       among v (inr says) _ = absurd (false≢true (sym silent ∙ says))
       among v _ (inr says) = absurd (false≢true (sym silent ∙ says))
 
-module _ {K L D : Type 0} (x : StateFacts K L D) (u : ℕ) (r : RoundFacts K D) (mine : r.me ≡ x.me) (decided : is_nullify r.decision ≡ true) (is_told : IsTold x) where
+module _ {K L D : Type 0} (x : StateFacts K L D) (u : ℕ) (r : RoundFacts K D) (mine : r.me ≡ x.me)
+    (decided : is_nullify r.decision ≡ true) (is_told : IsTold x) where
   abbrev noted : StateFacts K L D
   noted = record (with_round x u r) { nullify_votes = insert_key nat_cmp x.nullify_votes u }
 
   put_me : (v : ℕ) → (round_of (with_round x u r) v).me ≡ x.me
   put_me v = elim (cases_eq v u) [
-    | inl at ↦ subst (λ w. (round_of (with_round x u r) w).me ≡ x.me) (sym at) (ap (λ (s : RoundFacts K D). s.me) (round_put x u r) ∙ mine)
+    | inl at ↦ subst (λ w. (round_of (with_round x u r) w).me ≡ x.me) (sym at)
+        (ap (λ (s : RoundFacts K D). s.me) (round_put x u r) ∙ mine)
     | inr apart ↦ ap (λ (s : RoundFacts K D). s.me) (round_of-with_round x v u apart r) ∙ is_told.me v
   ]
 
@@ -122,8 +130,12 @@ module _ {K L D : Type 0} (x : StateFacts K L D) (u : ℕ) (r : RoundFacts K D) 
   noted_told : is_some x.me ≡ true → IsTold noted
   noted_told keyed = record { me = put_me; told = λ v. among_noted u v x.nullify_votes ∙ at_view v (cases_eq v u) }
     where
-      at_view : (v : ℕ) → (v ≡ u) ⊎ ((v ≡ u) → ⊥) → (eqb v u || is_among v x.nullify_votes) ≡ (is_some x.me && is_nullify (round_of (with_round x u r) v).decision)
-      at_view v (inl at) = rw (eq-eqb v u at, keyed) (sym (subst (λ w. is_nullify (round_of (with_round x u r) w).decision ≡ true) (sym at) (ap (λ (s : RoundFacts K D). is_nullify s.decision) (round_put x u r) ∙ decided)))
+      at_view : (v : ℕ) → (v ≡ u) ⊎ ((v ≡ u) → ⊥)
+          → (eqb v u || is_among v x.nullify_votes)
+          ≡ (is_some x.me && is_nullify (round_of (with_round x u r) v).decision)
+      at_view v (inl at) = rw (eq-eqb v u at, keyed)
+          (sym (subst (λ w. is_nullify (round_of (with_round x u r) w).decision ≡ true) (sym at)
+          (ap (λ (s : RoundFacts K D). is_nullify s.decision) (round_put x u r) ∙ decided)))
       at_view v (inr apart) = rw (ne_eqb v u apart, round_of-with_round x v u apart r) (is_told.told v)
 
   -- without a key the vote is decided and not cast
@@ -140,9 +152,12 @@ module _ {K L D : Type 0} (same : D → D → Bool) (elect : Elect L) (x : State
       mine : may_nullify x v ≡ true → (after_nullify (round_of x v)).me ≡ x.me
       mine may = rw (nullify_parts x v may).no_finalize (is_told.me v)
 
-      by_key : may_nullify x v ≡ true → (b : Bool) → is_some x.me ≡ b → IsTold (if b then record (with_round x v (after_nullify (round_of x v))) { nullify_votes = insert_key nat_cmp x.nullify_votes v } else with_round x v (after_nullify (round_of x v)))
+      by_key : may_nullify x v ≡ true → (b : Bool) → is_some x.me ≡ b
+          → IsTold (if b then record (with_round x v (after_nullify (round_of x v)))
+          { nullify_votes = insert_key nat_cmp x.nullify_votes v } else with_round x v (after_nullify (round_of x v)))
       by_key may true keyed = noted_told x v (after_nullify (round_of x v)) (mine may) (decided may) is_told keyed
-      by_key may false keyless = unnoted_told x v (after_nullify (round_of x v)) (mine may) (decided may) is_told keyless
+      by_key may false keyless = unnoted_told x v (after_nullify (round_of x v)) (mine may) (decided may) is_told
+          keyless
 
       by_rule : (b : Bool) → may_nullify x v ≡ b → IsTold (after_construct_nullify x v)
       by_rule true may = rw may (by_key may (is_some x.me) refl)
@@ -157,26 +172,37 @@ module _ {K L D : Type 0} (same : D → D → Bool) (elect : Elect L) (x : State
         | inr gone ↦ ap (λ o. (unwrap_or o (new_round x.me x.members (round_number x v))).me) gone.untracked
       ]
 
-      kept : (v : ℕ) (b : Bool) → nat_le (min_active x) v ≡ b → is_among v (after_prune x).nullify_votes ≡ (is_some x.me && is_nullify (round_of (after_prune x) v).decision)
+      kept : (v : ℕ) (b : Bool) → nat_le (min_active x) v ≡ b
+          → is_among v (after_prune x).nullify_votes
+          ≡ (is_some x.me && is_nullify (round_of (after_prune x) v).decision)
       kept v b is =
-          any-filter_same (λ u. eqb v u) (λ u. nat_le (min_active x) u) b (λ u at. ap (nat_le (min_active x)) (sym (eqb-true v u at)) ∙ is) x.nullify_votes
+          any-filter_same (λ u. eqb v u) (λ u. nat_le (min_active x) u) b
+          (λ u at. ap (nat_le (min_active x)) (sym (eqb-true v u at)) ∙ is) x.nullify_votes
           ∙ by_view b (pruned_view x v ∙ ap (λ c. cond c (round_at x v) None) is)
         where
-          by_view : (b : Bool) → round_at (after_prune x) v ≡ cond b (round_at x v) None → (b && is_among v x.nullify_votes) ≡ (is_some x.me && is_nullify (round_of (after_prune x) v).decision)
-          by_view true stays = is_told.told v ∙ sym (ap (λ o. is_some x.me && is_nullify (unwrap_or o (new_round x.me x.members (round_number x v))).decision) stays)
-          by_view false gone = and_false (is_some x.me) ∙ sym (ap (λ o. is_some x.me && is_nullify (unwrap_or o (new_round x.me x.members (round_number x v))).decision) gone)
+          by_view : (b : Bool) → round_at (after_prune x) v ≡ cond b (round_at x v) None
+              → (b && is_among v x.nullify_votes) ≡ (is_some x.me && is_nullify (round_of (after_prune x) v).decision)
+          by_view true stays = is_told.told v ∙ sym
+              (ap (λ o. is_some x.me && is_nullify (unwrap_or o (new_round x.me x.members (round_number x v))).decision)
+              stays)
+          by_view false gone = and_false (is_some x.me)
+              ∙ sym (ap (λ o. is_some x.me && is_nullify
+              (unwrap_or o (new_round x.me x.members (round_number x v))).decision) gone)
 
   abbrev replay_of : ArtifactFacts D → Event K D
   replay_of a = event.Replay a
 
-  replayed_told : (round : Round) (m : ℕ) → IsEvent x (replay_of (NullifyVote round m)) → IsTold x → IsTold (after_event same elect x (event.Replay (NullifyVote round m)))
+  replayed_told : (round : Round) (m : ℕ) → IsEvent x (replay_of (NullifyVote round m)) → IsTold x
+      → IsTold (after_event same elect x (event.Replay (NullifyVote round m)))
   replayed_told round m allowed is_told =
       let mine = is_told.me round.view in
-      noted_told x round.view (record (round_of x round.view) { decision = Nullify None }) mine refl is_told (ap is_some (sym mine ∙ allowed.taken.0))
+      noted_told x round.view (record (round_of x round.view) { decision = Nullify None }) mine refl is_told
+      (ap is_some (sym mine ∙ allowed.taken.0))
 
 -- which events decide a vote to nullify
 nullify_kind : {K D : Type 0} (e : Event K D) → is_some (nullify_by e) ≡ true
-    → ((v : ℕ) × (e ≡ event.ConstructNullify v)) ⊎ ((round : Round) × (m : ℕ) × (e ≡ event.Replay (NullifyVote round m)))
+    → ((v : ℕ) × (e ≡ event.ConstructNullify v))
+    ⊎ ((round : Round) × (m : ℕ) × (e ≡ event.Replay (NullifyVote round m)))
 nullify_kind (event.ConstructNullify v) is = inl (v, refl)
 nullify_kind (event.Replay (NullifyVote round m)) is = inr (round, m, refl)
 nullify_kind _ is = absurd (false≢true is)
@@ -185,9 +211,12 @@ module _ {K L D : Type 0} (same : D → D → Bool) (elect : Elect L) where
   event_told : (x : StateFacts K L D) (e : Event K D) → IsEvent x e → IsTold x → IsTold (after_event same elect x e)
   event_told x e allowed is_told = by_prune (is_prune e) refl
     where
-      by_kind : ((v : ℕ) × (e ≡ event.ConstructNullify v)) ⊎ ((round : Round) × (m : ℕ) × (e ≡ event.Replay (NullifyVote round m))) → IsTold (after_event same elect x e)
-      by_kind (inl (v, at)) = subst (λ (f : Event K D). IsTold (after_event same elect x f)) (sym at) (constructed_told same elect x v is_told)
-      by_kind (inr (round, m, at)) = subst (λ (f : Event K D). IsTold (after_event same elect x f)) (sym at) (replayed_told same elect x round m (subst (IsEvent x) at allowed) is_told)
+      by_kind : ((v : ℕ) × (e ≡ event.ConstructNullify v))
+          ⊎ ((round : Round) × (m : ℕ) × (e ≡ event.Replay (NullifyVote round m))) → IsTold (after_event same elect x e)
+      by_kind (inl (v, at)) = subst (λ (f : Event K D). IsTold (after_event same elect x f)) (sym at)
+          (constructed_told same elect x v is_told)
+      by_kind (inr (round, m, at)) = subst (λ (f : Event K D). IsTold (after_event same elect x f)) (sym at)
+          (replayed_told same elect x round m (subst (IsEvent x) at allowed) is_told)
 
       by_vote : is_prune e ≡ false → (b : Bool) → is_some (nullify_by e) ≡ b → IsTold (after_event same elect x e)
       by_vote no_prune true says = by_kind (nullify_kind e says)
@@ -197,9 +226,11 @@ module _ {K L D : Type 0} (same : D → D → Bool) (elect : Elect L) where
       by_prune true prunes = subst IsTold (sym (prune_alone same elect x e prunes)) (pruned_told same elect x is_told)
       by_prune false no_prune = by_vote no_prune (is_some (nullify_by e)) refl
 
-  all_told : (x : StateFacts K L D) (events : List (Event K D)) → AllowsEach same elect x events → IsTold x → IsTold (after_events same elect x events)
+  all_told : (x : StateFacts K L D) (events : List (Event K D)) → AllowsEach same elect x events → IsTold x
+      → IsTold (after_events same elect x events)
   all_told x [] allowed is_told = is_told
-  all_told x (e ∷ rest) allowed is_told = all_told (after_event same elect x e) rest allowed.1 (event_told x e allowed.0 is_told)
+  all_told x (e ∷ rest) allowed is_told = all_told (after_event same elect x e) rest allowed.1
+      (event_told x e allowed.0 is_told)
 
   same_member : (x : StateFacts K L D) (events : List (Event K D)) → (after_events same elect x events).me ≡ x.me
   same_member x [] = refl
@@ -208,9 +239,11 @@ module _ {K L D : Type 0} (same : D → D → Bool) (elect : Elect L) where
   new_told : (setup : Setup K L) → IsTold {D = D} (new_state setup)
   new_told setup = record { me = λ v. refl; told = λ v. and_false (is_some setup.me) }
 
-  pub votes_are_decided : (setup : Setup K L) (floor : FloorFacts D) (now : ℕ) (events : List (Event K D)) (v : ℕ) → AllowsEach same elect (new_state setup) (event.SetFloor floor now ∷ events)
+  pub votes_are_decided : (setup : Setup K L) (floor : FloorFacts D) (now : ℕ) (events : List (Event K D)) (v : ℕ)
+      → AllowsEach same elect (new_state setup) (event.SetFloor floor now ∷ events)
       → voted_nullify (after_events same elect (new_state setup) (event.SetFloor floor now ∷ events)) v
-      ≡ (is_some setup.me && is_nullify (round_of (after_events same elect (new_state setup) (event.SetFloor floor now ∷ events)) v).decision)
+      ≡ (is_some setup.me && is_nullify
+      (round_of (after_events same elect (new_state setup) (event.SetFloor floor now ∷ events)) v).decision)
   votes_are_decided setup floor now events v allowed =
       let all : List (Event K D) = event.SetFloor floor now ∷ events in
       let y = after_events same elect (new_state setup) all in

@@ -21,9 +21,12 @@ pub floor_unsigned : {D : Type 0} (floor : FloorFacts D) (vote : Subject D) → 
 floor_unsigned (Genesis _) vote h = absurd (signed_none vote h)
 floor_unsigned (Finalized c) vote h = absurd (let e = only_signed (Accepts (subject.Finalize c.proposal)) vote h in cc)
 
-module _ {K L D : Type 0} (same : D → D → Bool) (decides : (d e : D) → same d e ≡ true → d ≡ e) (elect : Elect L) (settings : Settings) (me : Option ℕ) (members : List K) (elector : L) (terms : Terms) (early : Bool) (floor : FloorFacts D) where
+module _ {K L D : Type 0} (same : D → D → Bool) (decides : (d e : D) → same d e ≡ true → d ≡ e) (elect : Elect L)
+    (settings : Settings) (me : Option ℕ) (members : List K) (elector : L) (terms : Terms) (early : Bool)
+    (floor : FloorFacts D) where
   -- before the floor is set
-  unvoted : (reached v : ℕ) → RoundShowsVotes {K = K} (of_floor floor) reached 0 v (new_round me members (record { epoch = settings.epoch; view = v }))
+  unvoted : (reached v : ℕ) → RoundShowsVotes {K = K} (of_floor floor) reached 0 v
+      (new_round me members (record { epoch = settings.epoch; view = v }))
   unvoted reached v = record {
     notarized = λ c is. absurd (cc);
     held = λ c is. absurd (cc);
@@ -33,7 +36,8 @@ module _ {K L D : Type 0} (same : D → D → Bool) (decides : (d e : D) → sam
     finalize_decided = λ p h at. absurd (floor_unsigned floor (subject.Finalize p) h);
   }
 
-  new_stands : (reached : ℕ) → ShowsVotes terms.term_length (of_floor floor) reached (new_facts settings me members elector terms early)
+  new_stands : (reached : ℕ) → ShowsVotes terms.term_length (of_floor floor) reached
+      (new_facts settings me members elector terms early)
   new_stands reached = record {
     terms = refl;
     rounds = λ v. unvoted reached v;
@@ -48,7 +52,8 @@ module _ {K L D : Type 0} (same : D → D → Bool) (decides : (d e : D) → sam
       by_floor (Genesis payload) = inl refl
       by_floor (Finalized c) = inr (c.proposal, (0, omega arith, refl), refl)
 
-  pub start_stays : (now : ℕ) → ShowsVotesInLife terms.term_length (of_floor floor) (after_set_floor same elect (new_facts settings me members elector terms early) floor now)
+  pub start_stays : (now : ℕ) → ShowsVotesInLife terms.term_length (of_floor floor)
+      (after_set_floor same elect (new_facts settings me members elector terms early) floor now)
   start_stays now =
       let x : StateFacts K L D = new_facts settings me members elector terms early in
       let e : Event K D = event.SetFloor floor now in
@@ -61,4 +66,5 @@ module _ {K L D : Type 0} (same : D → D → Bool) (decides : (d e : D) → sam
         nullifies = λ v says. absurd (cc);
         finalizes = λ v says. absurd (cc);
       } in
-      event_stays same decides elect terms.term_length (of_floor floor) x e suits (inr (refl, refl)) (new_stands y.current) (inl refl)
+      event_stays same decides elect terms.term_length (of_floor floor) x e suits (inr (refl, refl))
+      (new_stands y.current) (inl refl)

@@ -28,7 +28,8 @@ module _ {D : Type 0} (same : D → D → Bool) (decides : (d e : D) → same d 
       ]
 
   -- the held proposal stays held, unless another is seen
-  pub holds_old : (s : SlotFacts D) (p q : Proposal D) → HoldsUncontested s q → HoldsUncontested (after_certificate (same_proposal same) s p) q
+  pub holds_old : (s : SlotFacts D) (p q : Proposal D) → HoldsUncontested s q
+      → HoldsUncontested (after_certificate (same_proposal same) s p) q
   holds_old s p q holds = by_held s.held refl
     where
       by_held : (o : Option (Proposal D)) → s.held ≡ o → HoldsUncontested (after_certificate (same_proposal same) s p) q
@@ -42,13 +43,16 @@ module _ {D : Type 0} (same : D → D → Bool) (decides : (d e : D) → same d 
       ]
 
   -- a proposal of one's own takes no other one's place
-  pub holds_own : (s : SlotFacts D) (p q : Proposal D) → HoldsUncontested s q → HoldsUncontested (after_own (same_proposal same) s p) q
+  pub holds_own : (s : SlotFacts D) (p q : Proposal D) → HoldsUncontested s q
+      → HoldsUncontested (after_own (same_proposal same) s p) q
   holds_own s p q holds = by_test (holds_or_empty (same_proposal same) s p) refl
     where
       taken_over : s.held ≡ Some q → holds_or_empty (same_proposal same) s p ≡ true → Some p ≡ Some q
-      taken_over here fits = ap Some (sym (same_proposal-true same decides q p (ap (λ o. option_map_or (λ h. same_proposal same h p) o true) (sym here) ∙ fits)))
+      taken_over here fits = ap Some (sym (same_proposal-true same decides q p
+          (ap (λ o. option_map_or (λ h. same_proposal same h p) o true) (sym here) ∙ fits)))
 
-      by_test : (b : Bool) → holds_or_empty (same_proposal same) s p ≡ b → HoldsUncontested (after_own (same_proposal same) s p) q
+      by_test : (b : Bool) → holds_or_empty (same_proposal same) s p ≡ b
+          → HoldsUncontested (after_own (same_proposal same) s p) q
       by_test false is = rw is holds
       by_test true is = elim holds [
         | inl seen ↦ rw is (inl seen)
@@ -57,7 +61,8 @@ module _ {D : Type 0} (same : D → D → Bool) (decides : (d e : D) → same d 
 
 module _ {D : Type 0} (same : D → D → Bool) where
   -- nor does one that is received
-  pub holds_voted : (s : SlotFacts D) (p q : Proposal D) → HoldsUncontested s q → HoldsUncontested (after_vote (same_proposal same) s p) q
+  pub holds_voted : (s : SlotFacts D) (p q : Proposal D) → HoldsUncontested s q
+      → HoldsUncontested (after_vote (same_proposal same) s p) q
   holds_voted s p q holds = by_held s.held refl
     where
       by_held : (o : Option (Proposal D)) → s.held ≡ o → HoldsUncontested (after_vote (same_proposal same) s p) q
@@ -71,7 +76,9 @@ module _ {D : Type 0} (same : D → D → Bool) where
       ]
 
 -- nothing is known of a view whose votes are no higher than a finalization
-pub fresh_stands : {K D : Type 0} (trace : List (TraceEvent D)) (reached finalized v : ℕ) (me : Option ℕ) (members : List K) (round : Round) → v ≤ finalized → RoundShowsVotes trace reached finalized v (new_round me members round)
+pub fresh_stands : {K D : Type 0} (trace : List (TraceEvent D)) (reached finalized v : ℕ) (me : Option ℕ)
+    (members : List K) (round : Round) → v ≤ finalized
+    → RoundShowsVotes trace reached finalized v (new_round me members round)
 fresh_stands trace reached finalized v me members round below = record {
   notarized = λ c is. absurd (cc);
   held = λ c is. absurd (cc);

@@ -28,7 +28,8 @@ use Rattle.laws_safety.proofs.votes.UnchangedRounds.{UnchangedProposal, calm, ca
 abbrev pub Above : {K L D : Type 0} → ℕ → StateFacts K L D → Type 0
 Above base x = (v : ℕ) → is_tracked x v ≡ true → base ≤ v
 
--- each round is unchanged in this sense, no view below `base` becomes tracked, and the event covers what is newly nullified
+-- each round is unchanged in this sense, no view below `base` becomes tracked, and the event covers what is newly
+-- nullified
 pub record UnchangedProposalsFrom {K L D : Type 0} (base : ℕ) (e : Event K D) (x y : StateFacts K L D) : Type 0 where
   pub goes : UnchangedOrHigher x y
   pub above : Above base x → Above base y
@@ -68,10 +69,13 @@ leaves {K} {D} {e} none = by_event e none
     by_event Prune none = absurd (false≢true (sym none))
     by_event _ none = record { note = refl; answer = refl; other = none; prune = refl; placed = λ v p is. absurd cc }
 
-pub found_apart : {K L D : Type 0} (x : StateFacts K L D) (w v : ℕ) (r : RoundFacts K D) → w ≢ v → find nat_cmp w (put nat_cmp v r x.rounds) ≡ find nat_cmp w x.rounds
-found_apart x w v r apart = find-put nat_cmp nat_cmp_total w v r x.rounds ∙ ap (λ b. cond b (Some r) (find nat_cmp w x.rounds)) (is_eq-nat_cmp w v ∙ ne_eqb w v apart)
+pub found_apart : {K L D : Type 0} (x : StateFacts K L D) (w v : ℕ) (r : RoundFacts K D) → w ≢ v
+    → find nat_cmp w (put nat_cmp v r x.rounds) ≡ find nat_cmp w x.rounds
+found_apart x w v r apart = find-put nat_cmp nat_cmp_total w v r x.rounds
+    ∙ ap (λ b. cond b (Some r) (find nat_cmp w x.rounds)) (is_eq-nat_cmp w v ∙ ne_eqb w v apart)
 
-pub above_put : {K L D : Type 0} (base : ℕ) (x : StateFacts K L D) (v : ℕ) (r : RoundFacts K D) → base ≤ v → Above base x → Above base (with_round x v r)
+pub above_put : {K L D : Type 0} (base : ℕ) (x : StateFacts K L D) (v : ℕ) (r : RoundFacts K D) → base ≤ v
+    → Above base x → Above base (with_round x v r)
 above_put base x v r over above w tracked = elim (cases_eq w v) [
   | inl at ↦ subst (λ u. base ≤ u) (sym at) over
   | inr apart ↦ above w (sym (ap is_some (found_apart x w v r apart)) ∙ tracked)
@@ -82,7 +86,9 @@ pub among_more : (k u : ℕ) (ks : List ℕ) → Contains (insert_key nat_cmp ks
 among_more k u [] h = elim (Contains-cases k [] u h) [ inl at ↦ inl at | inr none ↦ absurd (omega (arith, none.1)) ]
 among_more k u (x ∷ xs) h = by_order (nat_cmp k x) (among_more k u xs) h
   where
-    by_order : (o : Ordering) → (Contains (insert_key nat_cmp xs k) u → (k ≡ u) ⊎ Contains xs u) → Contains (match_ordering o (k ∷ x ∷ xs) (x ∷ xs) (x ∷ insert_key nat_cmp xs k)) u → (k ≡ u) ⊎ Contains (x ∷ xs) u
+    by_order : (o : Ordering) → (Contains (insert_key nat_cmp xs k) u → (k ≡ u) ⊎ Contains xs u)
+        → Contains (match_ordering o (k ∷ x ∷ xs) (x ∷ xs) (x ∷ insert_key nat_cmp xs k)) u
+        → (k ≡ u) ⊎ Contains (x ∷ xs) u
     by_order Less behind h = Contains-cases k (x ∷ xs) u h
     by_order Equal behind h = inr h
     by_order Greater behind h = elim (Contains-cases x (insert_key nat_cmp xs k) u h) [
@@ -90,34 +96,59 @@ among_more k u (x ∷ xs) h = by_order (nat_cmp k x) (among_more k u xs) h
       | inr rest ↦ elim (behind rest) [ inl at ↦ inl at | inr old ↦ inr (Contains-cons_rest x xs u old) ]
     ]
 
-module _ {K L D : Type 0} (same : D → D → Bool) (elect : Elect L) (begun : StateFacts K L D) (e : Event K D) (base : ℕ) (left : IsNoProposalWork e) where
-  change_calm : (y : StateFacts K L D) (v : ℕ) (r s : RoundFacts K D) → RoundStep same elect begun e y v r s → UnchangedProposal v r s
+module _ {K L D : Type 0} (same : D → D → Bool) (elect : Elect L) (begun : StateFacts K L D) (e : Event K D) (base : ℕ)
+    (left : IsNoProposalWork e) where
+  change_calm : (y : StateFacts K L D) (v : ℕ) (r s : RoundFacts K D) → RoundStep same elect begun e y v r s
+      → UnchangedProposal v r s
   change_calm y v r s (step.Led leader none) = calm_led v r leader none
-  change_calm y v r s (step.Notarized c says at none) = calm_joined v r _ s (slot_in_round v r (after_certificate (same_proposal same) r.slot c.proposal) (certificate_calm v same r.slot c.proposal at)) (calm_alike v _ s refl refl refl refl refl)
-  change_calm y v r s (step.Finalized c says at none) = calm_joined v r _ s (slot_in_round v r (after_certificate (same_proposal same) r.slot c.proposal) (certificate_calm v same r.slot c.proposal at)) (calm_alike v _ s refl refl refl refl refl)
+  change_calm y v r s (step.Notarized c says at none) =
+      calm_joined v r _ s (slot_in_round v r (after_certificate (same_proposal same) r.slot c.proposal)
+      (certificate_calm v same r.slot c.proposal at)) (calm_alike v _ s refl refl refl refl refl)
+  change_calm y v r s (step.Finalized c says at none) =
+      calm_joined v r _ s (slot_in_round v r (after_certificate (same_proposal same) r.slot c.proposal)
+      (certificate_calm v same r.slot c.proposal at)) (calm_alike v _ s refl refl refl refl refl)
   change_calm y v r s (step.NotarizeDecided is may) = calm_decided v r
   change_calm y v r s (step.VotedAgain p binding says at which) = absurd (let none = left.note in cc)
-  change_calm y v r s (step.Heard p says free) = slot_in_round v r (after_vote (same_proposal same) r.slot p) (voted_calm v same r.slot p (left.placed v p says))
+  change_calm y v r s (step.Heard p says free) =
+      slot_in_round v r (after_vote (same_proposal same) r.slot p) (voted_calm v same r.slot p (left.placed v p says))
   change_calm y v r s (step.Marked is bound free) = absurd (false≢true (sym left.answer ∙ ap is_answer is))
-  change_calm y v r s (step.Asked requested) = slot_in_round v r _ (record { holding = λ p is clear. is; empty = λ is. is; placed = λ p is. inl is; clear = λ is. is; requested = λ is. is; verified = λ is. is })
-  change_calm y v r s (step.Built context payload now is answer at) = absurd (false≢true (sym left.other ∙ ap is_other is))
+  change_calm y v r s (step.Asked requested) =
+      slot_in_round v r _ (record {
+        holding = λ p is clear. is;
+        empty = λ is. is;
+        placed = λ p is. inl is;
+        clear = λ is. is;
+        requested = λ is. is;
+        verified = λ is. is;
+      })
+  change_calm y v r s (step.Built context payload now is answer at) =
+      absurd (false≢true (sym left.other ∙ ap is_other is))
   change_calm y v r s (step.Verifying payload is stands) = absurd (false≢true (sym left.other ∙ ap is_other is))
   change_calm y v r s (step.Unbound answers) = absurd (false≢true (sym left.answer ∙ answers))
   change_calm y v r s _ = calm_alike v r s refl refl refl refl refl
 
   step_above : (y z : StateFacts K L D) → Step same elect begun e base y z → Above base y → Above base z
-  step_above y z s above v tracked = elim (cases_lt v base) [ inl below ↦ absurd (false≢true (sym (step_out same elect base begun e y z s v below (gone (is_tracked y v) refl below)) ∙ tracked)) | inr over ↦ over ]
+  step_above y z s above v tracked = elim (cases_lt v base) [
+    | inl below ↦ absurd (false≢true (sym (step_out same elect base begun e y z s v below
+        (gone (is_tracked y v) refl below)) ∙ tracked))
+    | inr over ↦ over
+  ]
     where
       gone : (b : Bool) → is_tracked y v ≡ b → v < base → b ≡ false
       gone true is below = absurd (let over = above v is in omega (arith, over, below))
       gone false is below = refl
 
-  step_covered : (x y z : StateFacts K L D) → Step same elect begun e base y z → ((u : ℕ) → Contains y.nullified u → (covers_from u e ≡ true) ⊎ Contains x.nullified u) → (u : ℕ) → Contains z.nullified u → (covers_from u e ≡ true) ⊎ Contains x.nullified u
-  step_covered x y z (Covers w says) p u h = elim (among_more w u y.nullified h) [ inl at ↦ inl (subst (λ v. covers_from v e ≡ true) at says) | inr old ↦ p u old ]
+  step_covered : (x y z : StateFacts K L D) → Step same elect begun e base y z
+      → ((u : ℕ) → Contains y.nullified u → (covers_from u e ≡ true) ⊎ Contains x.nullified u) → (u : ℕ)
+      → Contains z.nullified u → (covers_from u e ≡ true) ⊎ Contains x.nullified u
+  step_covered x y z (Covers w says) p u h =
+      elim (among_more w u y.nullified h)
+      [ inl at ↦ inl (subst (λ v. covers_from v e ≡ true) at says) | inr old ↦ p u old ]
   step_covered x y z (Prunes is) p u h = absurd (true≢false (sym is ∙ left.prune))
   step_covered x y z _ p u h = p u h
 
-  step_calm : (x y z : StateFacts K L D) → Step same elect begun e base y z → UnchangedProposalsFrom base e x y → UnchangedProposalsFrom base e x z
+  step_calm : (x y z : StateFacts K L D) → Step same elect begun e base y z → UnchangedProposalsFrom base e x y
+      → UnchangedProposalsFrom base e x z
   step_calm x y z s p = record {
     goes = step_goes same elect begun e base x y z s p.goes;
     above = λ above. step_above y z s (p.above above);
@@ -129,8 +160,12 @@ module _ {K L D : Type 0} (same : D → D → Bool) (elect : Elect L) (begun : S
   }
 
   pub calm_along : (x y : StateFacts K L D) → Path same elect begun e base x y → UnchangedProposalsFrom base e x y
-  calm_along x y path = along same elect begun e base (UnchangedProposalsFrom base e x) (step_calm x) x y path (record { goes = goes_still x; above = λ above. above; rounds = λ v. calm v (round_of x v); covered = λ u h. inr h })
+  calm_along x y path = along same elect begun e base (UnchangedProposalsFrom base e x) (step_calm x) x y path
+      (record
+      { goes = goes_still x; above = λ above. above; rounds = λ v. calm v (round_of x v); covered = λ u h. inr h })
 
 module _ {K L D : Type 0} (same : D → D → Bool) (elect : Elect L) (base : ℕ) (x : StateFacts K L D) where
-  pub event_calm : (e : Event K D) → IsNoProposalWork e → base ≤ x.current → AskedFrom base x e → UnchangedProposalsFrom base e x (after_event same elect x e)
-  event_calm e left reached asked = calm_along same elect x e base left x (after_event same elect x e) (event_path same elect base x e reached asked)
+  pub event_calm : (e : Event K D) → IsNoProposalWork e → base ≤ x.current → AskedFrom base x e
+      → UnchangedProposalsFrom base e x (after_event same elect x e)
+  event_calm e left reached asked = calm_along same elect x e base left x (after_event same elect x e)
+      (event_path same elect base x e reached asked)

@@ -12,7 +12,8 @@ use Rattle.simplex_round.specs.Round.{RoundFacts, signs_as}
 abbrev pub leads_round : {K D : Type 0} → RoundFacts K D → Bool
 leads_round r = option_map_or (λ l. signs_as r.me l.idx) r.leader false
 
--- what each change of a round keeps: the held proposal, unless another one is seen, the vote to notarize, the request for verification, and
+-- what each change of a round keeps: the held proposal, unless another one is seen, the vote to notarize, the request
+-- for verification, and
 -- the leader; a newly held one is of the round's view
 pub record Grown {K D : Type 0} (v : ℕ) (r s : RoundFacts K D) : Type 0 where
   pub me : s.me ≡ r.me
@@ -43,11 +44,17 @@ module _ {K D : Type 0} (v : ℕ) where
     leader = λ is. q.leader (ap is_some (p.leader is) ∙ is) ∙ p.leader is;
   }
 
-  pub calm_joined : (r s t : RoundFacts K D) → UnchangedProposal v r s → UnchangedProposal v s t → UnchangedProposal v r t
-  calm_joined r s t p q = record { grown = grown_joined r s t p.grown q.grown; verified = λ is. p.verified (q.verified is); binding = q.binding ∙ p.binding }
+  pub calm_joined : (r s t : RoundFacts K D) → UnchangedProposal v r s → UnchangedProposal v s t
+      → UnchangedProposal v r t
+  calm_joined r s t p q = record {
+    grown = grown_joined r s t p.grown q.grown;
+    verified = λ is. p.verified (q.verified is);
+    binding = q.binding ∙ p.binding;
+  }
 
   -- what a proposal's work rests on is the same
-  pub calm_alike : (r s : RoundFacts K D) → s.me ≡ r.me → s.slot ≡ r.slot → s.notarize_decided ≡ r.notarize_decided → s.leader ≡ r.leader → s.binding ≡ r.binding → UnchangedProposal v r s
+  pub calm_alike : (r s : RoundFacts K D) → s.me ≡ r.me → s.slot ≡ r.slot → s.notarize_decided ≡ r.notarize_decided
+      → s.leader ≡ r.leader → s.binding ≡ r.binding → UnchangedProposal v r s
   calm_alike r s me slot decided leader binding = record {
     grown = record {
       me = me;
@@ -67,7 +74,8 @@ module _ {K D : Type 0} (v : ℕ) where
   calm r = calm_alike r r refl refl refl refl refl
 
   -- the first leader
-  pub calm_led : (r : RoundFacts K D) (leader : Option (Leader K)) → is_some r.leader ≡ false → UnchangedProposal v r (record r { leader = leader })
+  pub calm_led : (r : RoundFacts K D) (leader : Option (Leader K)) → is_some r.leader ≡ false
+      → UnchangedProposal v r (record r { leader = leader })
   calm_led r leader none = record {
     grown = record {
       me = refl;
@@ -119,9 +127,17 @@ left_of_and false b is = absurd (false≢true is)
 
 module _ {D : Type 0} (v : ℕ) where
   pub slot_calm : (s : SlotFacts D) → UnchangedSlot v s s
-  slot_calm s = record { holding = λ p is clear. is; empty = λ is. is; placed = λ p is. inl is; clear = λ is. is; requested = λ is. is; verified = λ is. is }
+  slot_calm s = record {
+    holding = λ p is clear. is;
+    empty = λ is. is;
+    placed = λ p is. inl is;
+    clear = λ is. is;
+    requested = λ is. is;
+    verified = λ is. is;
+  }
 
-  pub slot_in_round : {K : Type 0} (r : RoundFacts K D) (s : SlotFacts D) → UnchangedSlot v r.slot s → UnchangedProposal v r (record r { slot = s })
+  pub slot_in_round : {K : Type 0} (r : RoundFacts K D) (s : SlotFacts D) → UnchangedSlot v r.slot s
+      → UnchangedProposal v r (record r { slot = s })
   slot_in_round r s same = record {
     grown = record {
       me = refl;
@@ -139,10 +155,16 @@ module _ {D : Type 0} (v : ℕ) where
 
   module _ (same : D → D → Bool) where
     -- a proposal of the view in a vote
-    pub voted_calm : (s : SlotFacts D) (p : Proposal D) → p.round.view ≡ v → UnchangedSlot v s (after_vote (same_proposal same) s p)
+    pub voted_calm : (s : SlotFacts D) (p : Proposal D) → p.round.view ≡ v
+        → UnchangedSlot v s (after_vote (same_proposal same) s p)
     voted_calm s p at = by_held s.held refl
       where
-        by_held : (o : Option (Proposal D)) → s.held ≡ o → UnchangedSlot v s (option_map_or (λ h. record s { conflict = s.conflict || not (same_proposal same h p); verified = s.verified && same_proposal same h p }) o (record s { held = Some p }))
+        by_held : (o : Option (Proposal D)) → s.held ≡ o
+            → UnchangedSlot v s (option_map_or (λ h.
+            record s {
+              conflict = s.conflict || not (same_proposal same h p);
+              verified = s.verified && same_proposal same h p;
+            }) o (record s { held = Some p }))
         by_held None none = record {
           holding = λ q is clear. absurd (let e = sym none ∙ is in cc);
           empty = λ is. none;
@@ -161,10 +183,13 @@ module _ {D : Type 0} (v : ℕ) where
         }
 
     -- one in a certificate
-    pub certificate_calm : (s : SlotFacts D) (p : Proposal D) → p.round.view ≡ v → UnchangedSlot v s (after_certificate (same_proposal same) s p)
+    pub certificate_calm : (s : SlotFacts D) (p : Proposal D) → p.round.view ≡ v
+        → UnchangedSlot v s (after_certificate (same_proposal same) s p)
     certificate_calm s p at = by_held s.held refl
       where
-        other : (b : Bool) (h : Proposal D) → s.held ≡ Some h → UnchangedSlot v s (if b then s else record { held = Some p; conflict = true; verified = false; build_requested = true; verify_requested = true })
+        other : (b : Bool) (h : Proposal D) → s.held ≡ Some h
+            → UnchangedSlot v s (if b then s else record
+            { held = Some p; conflict = true; verified = false; build_requested = true; verify_requested = true })
         other true h some = slot_calm s
         other false h some = record {
           holding = λ q is clear. absurd (false≢true (sym clear));
@@ -175,7 +200,11 @@ module _ {D : Type 0} (v : ℕ) where
           verified = λ is. absurd (false≢true is);
         }
 
-        by_held : (o : Option (Proposal D)) → s.held ≡ o → UnchangedSlot v s (option_map_or (λ h. if same_proposal same h p then s else record { held = Some p; conflict = true; verified = false; build_requested = true; verify_requested = true }) o (record s { held = Some p }))
+        by_held : (o : Option (Proposal D)) → s.held ≡ o
+            → UnchangedSlot v s (option_map_or (λ h.
+            if same_proposal same h p then s else record
+            { held = Some p; conflict = true; verified = false; build_requested = true; verify_requested = true }) o
+            (record s { held = Some p }))
         by_held None none = record {
           holding = λ q is clear. absurd (let e = sym none ∙ is in cc);
           empty = λ is. none;

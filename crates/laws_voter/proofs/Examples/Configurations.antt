@@ -49,7 +49,8 @@ as_long_as_the_leader : broken (record usual { leader_timeout = 2000 }) ≡ Some
 as_long_as_the_leader = refl
 
 -- a leader counts as inactive later than the view's own timeout and than the retry
-skipped_at_the_certification : broken (record usual { skip = skip.Enabled 2000 budget.Participants }) ≡ Some error.SkipNotAboveCertification
+skipped_at_the_certification : broken (record usual { skip = skip.Enabled 2000 budget.Participants }) ≡ Some
+    error.SkipNotAboveCertification
 skipped_at_the_certification = refl
 
 skipped_at_the_retry : broken (record usual { timeout_retry = 5000 }) ≡ Some error.SkipNotAboveRetry
@@ -68,7 +69,11 @@ nothing_kept = refl
 -- a finalized floor
 abbrev finalized : ℕ → ℕ → Bool → Floor ℕ ℕ ℕ ℕ Bool
 finalized epoch view good =
-    floor.Finalized (record { proposal = record { round = record { epoch = epoch; view = view }; parent = 0; payload = 7 }; certificate = good })
+    floor.Finalized (record {
+      proposal =
+          record { round = record { epoch = epoch; view = view }; parent = 0; payload = 7 };
+      certificate = good;
+    })
 
 good_floor : broken (record usual { floor = finalized 1 3 true }) ≡ None
 good_floor = refl

@@ -14,7 +14,8 @@ use Rattle.laws_voter.proofs.Examples.Scripts.Reply.{Done, Flag, Added, Asked, A
 -- member 1, terms of 2, 0 optimistic views
 first_mix :
     replies_of
-    (member (Some 1) (record { term_length = 2; optimistic_views = 0; stall_timeout = None }) (record usual { skip_budget = 1; view_retention = 3 }) 0)
+    (member (Some 1) (record { term_length = 2; optimistic_views = 0; stall_timeout = None })
+    (record usual { skip_budget = 1; view_retention = 3 }) 0)
     (
     SetProposal 1 0 3 ∷ TryPropose ∷ TryPropose ∷ AddNotarization 1 0 3 ∷ Verified 1 ∷ Certified 1 true 2202 ∷
     Trigger 1 MissingProposal 2302 ∷ SetProposal 2 1 2 ∷ Leader 3 ∷ SetProposal 2 1 2 ∷ Finalize 1 ∷
@@ -40,7 +41,8 @@ first_mix = refl
 -- member 0, terms of 5, 2 optimistic views
 second_mix :
     replies_of
-    (member (Some 0) (record { term_length = 5; optimistic_views = 2; stall_timeout = Some 700 }) (record usual { skip_budget = 4; view_retention = 3 }) 0)
+    (member (Some 0) (record { term_length = 5; optimistic_views = 2; stall_timeout = Some 700 })
+    (record usual { skip_budget = 4; view_retention = 3 }) 0)
     (
     NextTimeout 102 ∷ View ∷ TryPropose ∷ Proposed (context 1 0 0 0) 1 1603 ∷ AddNotarization 1 0 1 ∷
     SetProposal 2 1 1 ∷ AddNullification 1 1604 ∷ AddNotarization 7 6 1 ∷ Certified 1 true 2004 ∷
@@ -67,7 +69,8 @@ second_mix = refl
 -- member 3, terms of 1, 4 optimistic views
 third_mix :
     replies_of
-    (member (Some 3) (record { term_length = 1; optimistic_views = 4; stall_timeout = None }) (record usual { skip_budget = 2; view_retention = 1 }) 0)
+    (member (Some 3) (record { term_length = 1; optimistic_views = 4; stall_timeout = None })
+    (record usual { skip_budget = 2; view_retention = 1 }) 0)
     (
     AddNotarization 1 0 1 ∷ Candidates ∷ SetProposal 2 1 3 ∷ BroadcastNotarization 1 ∷ TryVerify ∷
     AddNotarization 3 2 3 ∷ Nullify 2 ∷ ParentCertified 0 3 ∷ Notarize 1 ∷ SetProposal 1 0 2 ∷
@@ -95,7 +98,8 @@ third_mix = refl
 -- member 1, terms of 2, 0 optimistic views
 fourth_mix :
     replies_of
-    (member (Some 1) (record { term_length = 2; optimistic_views = 0; stall_timeout = Some 1500 }) (record usual { skip_budget = 4; view_retention = 10 }) 0)
+    (member (Some 1) (record { term_length = 2; optimistic_views = 0; stall_timeout = Some 1500 })
+    (record usual { skip_budget = 4; view_retention = 10 }) 0)
     (
     Leader 2 ∷ Candidates ∷ Candidates ∷ Finalize 1 ∷ Prune ∷ Certified 2 true 1607 ∷ SetCertifyHandle 2 8 ∷
     ParentCertified 0 3 ∷ AddNotarization 1 0 1 ∷ Trigger 1 Inactivity 2509 ∷ Elapsed 2 2609 ∷ Elapsed 2 3210 ∷
@@ -122,7 +126,8 @@ fourth_mix = refl
 -- member 3, terms of 2, 1 optimistic views
 fifth_mix :
     replies_of
-    (member (Some 3) (record { term_length = 2; optimistic_views = 1; stall_timeout = None }) (record usual { skip_budget = 1; view_retention = 2 }) 0)
+    (member (Some 3) (record { term_length = 2; optimistic_views = 1; stall_timeout = None })
+    (record usual { skip_budget = 1; view_retention = 2 }) 0)
     (
     TryPropose ∷ AddNotarization 1 0 2 ∷ TryPropose ∷ Replayed (finalized 3 1 2) ∷ Candidates ∷
     ParentCertified 0 0 ∷ TryVerify ∷ Candidates ∷ NextTimeout 3402 ∷ Certified 1 true 3507 ∷ Notarize 1 ∷
@@ -147,7 +152,8 @@ fifth_mix = refl
 -- member 1, terms of 1, 2 optimistic views
 sixth_mix :
     replies_of
-    (member (Some 1) (record { term_length = 1; optimistic_views = 2; stall_timeout = Some 1500 }) (record usual { skip_budget = 1; view_retention = 2 }) 0)
+    (member (Some 1) (record { term_length = 1; optimistic_views = 2; stall_timeout = Some 1500 })
+    (record usual { skip_budget = 1; view_retention = 2 }) 0)
     (
     AddNotarization 3 2 2 ∷ SetCertifyHandle 3 6 ∷ Nullify 1 ∷ Prune ∷ View ∷ Forwardable 1 ∷ Finalize 1 ∷
     TryVerify ∷ AddFinalization 3 2 2 2212 ∷ SetCertifyHandle 5 9 ∷ AddNotarization 3 2 2 ∷ TryVerify ∷
@@ -172,7 +178,8 @@ sixth_mix = refl
 -- member 1, terms of 2, 0 optimistic views
 seventh_mix :
     replies_of
-    (member (Some 1) (record { term_length = 2; optimistic_views = 0; stall_timeout = None }) (record usual { skip_budget = 4; view_retention = 1 }) 0)
+    (member (Some 1) (record { term_length = 2; optimistic_views = 0; stall_timeout = None })
+    (record usual { skip_budget = 4; view_retention = 1 }) 0)
     (
     Finalize 2 ∷ Nullify 1 ∷ SetProposal 1 1 3 ∷ Verified 3 ∷ Nullify 1 ∷ SetProposal 2 1 3 ∷ TryPropose ∷ Best ∷
     AddFinalization 1 1 3 2422 ∷ AddNotarization 2 1 3 ∷ Leader 3 ∷ Trigger 4 Inactivity 2827 ∷
@@ -200,7 +207,8 @@ seventh_mix = refl
 -- member 2, terms of 2, 4 optimistic views
 eighth_mix :
     replies_of
-    (member (Some 2) (record { term_length = 2; optimistic_views = 4; stall_timeout = Some 1500 }) (record usual { skip_budget = 1; view_retention = 1 }) 0)
+    (member (Some 2) (record { term_length = 2; optimistic_views = 4; stall_timeout = Some 1500 })
+    (record usual { skip_budget = 1; view_retention = 1 }) 0)
     (
     Notarize 1 ∷ SetProposal 1 0 2 ∷ Prune ∷ AddNotarization 2 1 3 ∷ Trigger 2 Inactivity 607 ∷ SetProposal 3 2 1 ∷
     TryVerify ∷ Rejected 1 InvalidProposal 609 ∷ VotedNullify 6 ∷ Release 1 ∷ Release 1 ∷ Elapsed 1 2714 ∷
@@ -225,7 +233,8 @@ eighth_mix = refl
 -- member 0, terms of 2, 1 optimistic views
 ninth_mix :
     replies_of
-    (member (Some 0) (record { term_length = 2; optimistic_views = 1; stall_timeout = Some 1500 }) (record usual { skip_budget = 4; view_retention = 10 }) 0)
+    (member (Some 0) (record { term_length = 2; optimistic_views = 1; stall_timeout = Some 1500 })
+    (record usual { skip_budget = 4; view_retention = 10 }) 0)
     (
     Replayed (voted_nullify 0 2) ∷ TryVerify ∷ Finalize 3 ∷ View ∷ Release 1 ∷ View ∷ NextTimeout 2218 ∷ Best ∷
     TryVerify ∷ TryVerify ∷ Leader 1 ∷ TryPropose ∷ Abandonment (context 1 0 0 0) ∷ AddNotarization 3 2 2 ∷
@@ -250,7 +259,8 @@ ninth_mix = refl
 -- member 0, terms of 1, 2 optimistic views
 tenth_mix :
     replies_of
-    (member (Some 0) (record { term_length = 1; optimistic_views = 2; stall_timeout = None }) (record usual { skip_budget = 2; view_retention = 2 }) 0)
+    (member (Some 0) (record { term_length = 1; optimistic_views = 2; stall_timeout = None })
+    (record usual { skip_budget = 2; view_retention = 2 }) 0)
     (
     AddNotarization 2 1 1 ∷ Replayed (voted_notarize 0 2 1 1) ∷ Certified 2 true 907 ∷ AddNotarization 2 1 1 ∷
     TryVerify ∷ TryVerify ∷ Best ∷ TryVerify ∷ Certified 3 true 1610 ∷ Candidates ∷ Finalize 2 ∷ Forwardable 3 ∷
@@ -276,7 +286,8 @@ tenth_mix = refl
 -- member 1, terms of 1, 0 optimistic views
 eleventh_mix :
     replies_of
-    (member (Some 1) (record { term_length = 1; optimistic_views = 0; stall_timeout = None }) (record usual { skip_budget = 4; view_retention = 2 }) 0)
+    (member (Some 1) (record { term_length = 1; optimistic_views = 0; stall_timeout = None })
+    (record usual { skip_budget = 4; view_retention = 2 }) 0)
     (
     AddFinalization 2 1 2 5 ∷ NextTimeout 6 ∷ NextTimeout 106 ∷ VotedNullify 4 ∷ NextTimeout 406 ∷
     AddFinalization 4 3 2 407 ∷ Release 8 ∷ SetProposal 3 2 1 ∷ BroadcastNullification 4 ∷ AddNotarization 6 5 3 ∷
@@ -301,7 +312,8 @@ eleventh_mix = refl
 -- member 1, terms of 1, 0 optimistic views
 twelfth_mix :
     replies_of
-    (member (Some 1) (record { term_length = 1; optimistic_views = 0; stall_timeout = None }) (record usual { skip_budget = 4; view_retention = 3 }) 0)
+    (member (Some 1) (record { term_length = 1; optimistic_views = 0; stall_timeout = None })
+    (record usual { skip_budget = 4; view_retention = 3 }) 0)
     (
     NextTimeout 305 ∷ Notarize 2 ∷ TryPropose ∷ AddNotarization 1 0 2 ∷ Elapsed 1 2510 ∷ Best ∷
     AddNotarization 3 2 2 ∷ TryVerify ∷ TryPropose ∷ Release 1 ∷ Release 1 ∷ Candidates ∷ Prune ∷ Verified 1 ∷

@@ -164,7 +164,8 @@ no_moment_unless_allowed = refl
 -- without budget a latch doesn't count
 no_skip_budget :
     replies_of
-    (member (Some 0) (record { term_length = 1; optimistic_views = 0; stall_timeout = None }) (record usual { skip_budget = 0 }) 0)
+    (member (Some 0) (record { term_length = 1; optimistic_views = 0; stall_timeout = None })
+    (record usual { skip_budget = 0 }) 0)
     (
     SetProposal 1 0 7 ∷ Trigger 1 LeaderNullify 5 ∷ NextTimeout 0 ∷ []
     )
@@ -176,7 +177,8 @@ no_skip_budget = refl
 -- with a budget of one term it does
 little_skip_budget :
     replies_of
-    (member (Some 0) (record { term_length = 1; optimistic_views = 0; stall_timeout = None }) (record usual { skip_budget = 1 }) 0)
+    (member (Some 0) (record { term_length = 1; optimistic_views = 0; stall_timeout = None })
+    (record usual { skip_budget = 1 }) 0)
     (
     SetProposal 1 0 7 ∷ Trigger 1 LeaderNullify 5 ∷ NextTimeout 0 ∷ []
     )
@@ -188,7 +190,8 @@ little_skip_budget = refl
 -- the least entered view of the term that isn't finalized says when the term stalls
 stall :
     replies_of
-    (member (Some 0) (record { term_length = 5; optimistic_views = 0; stall_timeout = Some 5000 }) (record usual { leader_timeout = 9000; certification_timeout = 10000 }) 0)
+    (member (Some 0) (record { term_length = 5; optimistic_views = 0; stall_timeout = Some 5000 })
+    (record usual { leader_timeout = 9000; certification_timeout = 10000 }) 0)
     (
     NextTimeout 10 ∷ AddNotarization 1 0 0 ∷ Certified 1 true 100 ∷ NextTimeout 100 ∷ AddFinalization 1 0 0 100 ∷
     NextTimeout 100 ∷ NextTimeout 9100 ∷ []
@@ -279,7 +282,8 @@ retry_over_stall = refl
 -- a latch waits while too many terms were skipped
 skipped_terms :
     replies_of
-    (member (Some 0) (record { term_length = 1; optimistic_views = 0; stall_timeout = None }) (record usual { skip_budget = 2 }) 0)
+    (member (Some 0) (record { term_length = 1; optimistic_views = 0; stall_timeout = None })
+    (record usual { skip_budget = 2 }) 0)
     (
     AddNullification 1 5 ∷ Trigger 2 MissingProposal 6 ∷ NextTimeout 7 ∷ AddNullification 2 8 ∷
     Trigger 3 MissingProposal 9 ∷ NextTimeout 10 ∷ AddFinalization 1 0 7 11 ∷ NextTimeout 12 ∷ []

@@ -127,13 +127,16 @@ same = nat_eq
 abbrev pub reply_to : State → Call → Reply
 reply_to x (AddNotarization v p d) =
     let c = certificate v p d in
-    guarded (accept.takes_proposal_certificate x c) (accept.notarization_refusal x c) (added (accept.notarization_added same in_turn x c))
+    guarded (accept.takes_proposal_certificate x c) (accept.notarization_refusal x c)
+    (added (accept.notarization_added same in_turn x c))
 reply_to x (AddNullification v now) =
     let c = nullification v in
-    guarded (accept.takes_nullification x c) (accept.nullification_refusal x c now) (Flag (accept.nullification_added x c))
+    guarded (accept.takes_nullification x c) (accept.nullification_refusal x c now)
+    (Flag (accept.nullification_added x c))
 reply_to x (AddFinalization v p d now) =
     let c = certificate v p d in
-    guarded (accept.takes_proposal_certificate x c) (accept.finalization_refusal x (proposal v p d) now) (added (accept.finalization_added same in_turn x c))
+    guarded (accept.takes_proposal_certificate x c) (accept.finalization_refusal x (proposal v p d) now)
+    (added (accept.finalization_added same in_turn x c))
 reply_to x (SetProposal v p d) =
     guarded (takes_proposal x v (proposal v p d)) (proposal_refusal x (proposal v p d)) (Flag (set_proposal_answer x v))
 reply_to x TryPropose = Asked (propose_answer same in_turn x)
@@ -147,7 +150,8 @@ reply_to x (Rejected v reason now) = Done
 reply_to x Candidates = let answer = candidates_answer same in_turn x in Offered answer.0 answer.1
 reply_to x (SetCertifyHandle v token) = guarded (takes_certify_handle x v) (plain_refusal x) Done
 reply_to x (Certified v success now) =
-    guarded (takes_verdict x v success) (certified_refusal x v success now) (Judged (option_map (λ c. c.proposal) (certified_answer x v)))
+    guarded (takes_verdict x v success) (certified_refusal x v success now)
+    (Judged (option_map (λ c. c.proposal) (certified_answer x v)))
 reply_to x (Notarize v) = Vote (notarize_answer same in_turn x v)
 reply_to x (Nullify v) = NullifyVote (nullify_answer x v)
 reply_to x (Finalize v) = Vote (finalize_answer in_turn x v)
@@ -156,7 +160,8 @@ reply_to x (BroadcastNullification v) = Certificate (option_map Nullified (broad
 reply_to x (BroadcastFinalization v) = Certificate (option_map Finalized (broadcast_finalization_answer x v))
 reply_to x Best = Certificate (best_certificate x)
 reply_to x (Trigger v reason now) = Done
-reply_to x (NextTimeout now) = guarded (has_timeout x) (next_timeout_refusal x now) (Timeout (next_timeout_answer x now))
+reply_to x (NextTimeout now) = guarded (has_timeout x) (next_timeout_refusal x now)
+    (Timeout (next_timeout_answer x now))
 reply_to x Prune = Views (prune_answer x)
 reply_to x (Replayed entry) = guarded (takes_round x (artifact_round entry)) (replay_refusal x entry) Done
 reply_to x View = Now x.current x.finalized (min_active x)
@@ -171,11 +176,14 @@ reply_to x (Restart now entries) = Done
 -- a recovery takes an entry: votes are replayed, a certificate is added first, and a verdict is certified after
 abbrev pub entry_taken : ℕ → State → Entry → State
 entry_taken now x (artifact.Notarization n) =
-    after_replayed same in_turn (accept.after_add_notarization same in_turn x (record { proposal = n.proposal; bytes = [] })) (artifact.Notarization n)
+    after_replayed same in_turn (accept.after_add_notarization same in_turn x
+    (record { proposal = n.proposal; bytes = [] })) (artifact.Notarization n)
 entry_taken now x (artifact.Nullification n) =
-    after_replayed same in_turn (accept.after_add_nullification in_turn x (record { round = n.round; bytes = [] }) now) (artifact.Nullification n)
+    after_replayed same in_turn (accept.after_add_nullification in_turn x (record { round = n.round; bytes = [] }) now)
+    (artifact.Nullification n)
 entry_taken now x (artifact.Finalization f) =
-    after_replayed same in_turn (accept.after_add_finalization same in_turn x (record { proposal = f.proposal; bytes = [] }) now) (artifact.Finalization f)
+    after_replayed same in_turn (accept.after_add_finalization same in_turn x
+    (record { proposal = f.proposal; bytes = [] }) now) (artifact.Finalization f)
 entry_taken now x (artifact.Certification round success) =
     let entry : Entry = artifact.Certification round success in
     after_certified in_turn (after_replayed same in_turn x entry) round.view success now
@@ -233,7 +241,10 @@ was_taken _ = true
 
 -- the replies to a list of calls
 unfoldable pub replies_of : State → List Call → List Reply
-unfolding first_unnullified_view is_admitted in_issuance_window explicit_ancestry_payload is_handoff_parent is_voted_ancestor can_chain_on optimistic_ancestry_payload has_valid_parent_span ancestry_payload_for_child parent_payload_for find_parent captured_parent_valid verification_matches may_nullify has_conflicting_nullify required_certification_parent may_finalize may_notarize propose_answer proposed_answer standing
+unfolding first_unnullified_view is_admitted in_issuance_window explicit_ancestry_payload is_handoff_parent
+    is_voted_ancestor can_chain_on optimistic_ancestry_payload has_valid_parent_span ancestry_payload_for_child
+    parent_payload_for find_parent captured_parent_valid verification_matches may_nullify has_conflicting_nullify
+    required_certification_parent may_finalize may_notarize propose_answer proposed_answer standing
 replies_of x [] = []
 replies_of x (call ∷ calls) =
     let reply = reply_to x call in
@@ -245,7 +256,14 @@ member me terms settings now =
     recovered (new_facts settings me (0 ∷ 1 ∷ 2 ∷ 3 ∷ []) terms.term_length terms true) now []
 
 abbrev pub usual : Settings
-usual = record { epoch = 1; view_retention = 10; leader_timeout = 1000; certification_timeout = 2000; timeout_retry = 500; skip_budget = 4 }
+usual = record {
+  epoch = 1;
+  view_retention = 10;
+  leader_timeout = 1000;
+  certification_timeout = 2000;
+  timeout_retry = 500;
+  skip_budget = 4;
+}
 
 -- the usual settings, without a stall timeout
 abbrev pub voter : ℕ → ℕ → ℕ → State
@@ -254,7 +272,8 @@ voter me length optimistic =
 
 -- the same without a key
 abbrev pub keyless : ℕ → ℕ → State
-keyless length optimistic = member None (record { term_length = length; optimistic_views = optimistic; stall_timeout = None }) usual 0
+keyless length optimistic =
+    member None (record { term_length = length; optimistic_views = optimistic; stall_timeout = None }) usual 0
 
 abbrev pub fetch : ℕ → ℕ → CertificateFetch
 fetch p v = record { proposal = p; view = v }

@@ -18,7 +18,8 @@ gated_until_finalized :
     Certified 6 true 13 ∷ Finalize 6 ∷ AddNotarization 7 6 5 ∷ Certified 7 true 14 ∷ Finalize 7 ∷
     AddFinalization 6 2 4 15 ∷ Finalize 7 ∷ BroadcastFinalization 6 ∷ BroadcastFinalization 6 ∷
     BroadcastNotarization 6 ∷ BroadcastNullification 3 ∷
-    Restart 20 (finalized 2 1 9 ∷ nullified 3 ∷ voted_nullify 0 6 ∷ notarized 6 2 4 ∷ verdict 6 true ∷ finalized 6 2 4 ∷ notarized 7 6 5 ∷ verdict 7 true ∷ voted_finalize 0 7 6 5 ∷ []) ∷
+    Restart 20 (finalized 2 1 9 ∷ nullified 3 ∷ voted_nullify 0 6 ∷ notarized 6 2 4 ∷ verdict 6 true ∷ finalized 6 2 4
+    ∷ notarized 7 6 5 ∷ verdict 7 true ∷ voted_finalize 0 7 6 5 ∷ []) ∷
     View ∷ Nullify 6 ∷ []
     )
     ≡

@@ -40,11 +40,15 @@ none_of false b is other = other
 
 module _ {A : Type 0} (test : A → Bool) where
   -- none of these and none of those
-  pub none_both : (these those : List A) → list_any test these ≡ false → list_any test those ≡ false → list_any test (these ++ those) ≡ false
-  none_both these those first second = list_any-append test these those ∙ none_of (list_any test these) (list_any test those) first second
+  pub none_both : (these those : List A) → list_any test these ≡ false → list_any test those ≡ false
+      → list_any test (these ++ those) ≡ false
+  none_both these those first second = list_any-append test these those
+      ∙ none_of (list_any test these) (list_any test those) first second
 
-  none_each : (these those : List A) → list_any test (these ++ those) ≡ false → (list_any test these ≡ false) × (list_any test those ≡ false)
-  none_each these those is = not_or (list_any test these) (list_any test those) (sym (list_any-append test these those) ∙ is)
+  none_each : (these those : List A) → list_any test (these ++ those) ≡ false
+      → (list_any test these ≡ false) × (list_any test those ≡ false)
+  none_each these those is = not_or (list_any test these) (list_any test those)
+      (sym (list_any-append test these those) ∙ is)
 
 kind_itself : (kind : FetchKind) → same_kind kind kind ≡ true
 kind_itself fetch.Notarization = refl
@@ -52,7 +56,8 @@ kind_itself fetch.Nullification = refl
 kind_itself fetch.Decision = refl
 
 -- a view that is among those of which none is above is not above either
-low_among : (top view : ℕ) (views : List ℕ) → has views view ≡ true → list_any (nat_lt top) views ≡ false → nat_lt top view ≡ false
+low_among : (top view : ℕ) (views : List ℕ) → has views view ≡ true → list_any (nat_lt top) views ≡ false
+    → nat_lt top view ≡ false
 low_among top view [] is low = absurd (false≢true is)
 low_among top view (u ∷ views) is low =
     let both = not_or (nat_lt top u) (list_any (nat_lt top) views) low in
@@ -117,7 +122,8 @@ module _ (S D K G C : Type 0) (top : ℕ) where
   steps_height : (steps : List (Step S D K G C)) → list_any above (of_steps steps) ≡ list_any (resolves_above top) steps
   steps_height [] = refl
   steps_height (it ∷ rest) =
-      list_any-append above (of_step it) (of_steps rest) ∙ ap (λ t. t || list_any above (of_steps rest)) (step_height it)
+      list_any-append above (of_step it) (of_steps rest)
+      ∙ ap (λ t. t || list_any above (of_steps rest)) (step_height it)
       ∙ ap (λ t. resolves_above top it || t) (steps_height rest)
 
   blocks_low : (builds : List (Building D K)) → list_any above (of_blocks builds) ≡ false
@@ -128,71 +134,99 @@ module _ (S D K G C : Type 0) (top : ℕ) where
   early_low [] = refl
   early_low (it ∷ early) = early_low early
 
-  fetch_low : (t : Bool) (it : Fetch) → nat_lt top it.view ≡ false → list_any above (cond t [] (MissingCertificate it.kind it.view ∷ [])) ≡ false
+  fetch_low : (t : Bool) (it : Fetch) → nat_lt top it.view ≡ false
+      → list_any above (cond t [] (MissingCertificate it.kind it.view ∷ [])) ≡ false
   fetch_low true it low = refl
   fetch_low false it low = or_none (nat_lt top it.view) ∙ low
 
-  fetches_low : (wanted : List ℕ) (fetches : List Fetch) → list_any (λ (it : Fetch). nat_lt top it.view) fetches ≡ false → list_any above (of_fetches wanted fetches) ≡ false
+  fetches_low : (wanted : List ℕ) (fetches : List Fetch) → list_any (λ (it : Fetch). nat_lt top it.view) fetches ≡ false
+      → list_any above (of_fetches wanted fetches) ≡ false
   fetches_low wanted [] low = refl
   fetches_low wanted (it ∷ rest) low =
       let both = not_or (nat_lt top it.view) (list_any (λ (it : Fetch). nat_lt top it.view) rest) low in
-      none_both above (of_fetch wanted it) (of_fetches wanted rest) (fetch_low (wants wanted it.kind it.view) it both.0) (fetches_low wanted rest both.1)
+      none_both above (of_fetch wanted it) (of_fetches wanted rest) (fetch_low (wants wanted it.kind it.view) it both.0)
+      (fetches_low wanted rest both.1)
 
   -- a fetch without such a missing certificate as its cause is not above, where none is that the resolver wants
-  fetch_asked : (wanted : List ℕ) → list_any (nat_lt top) wanted ≡ false → (it : Fetch) (t : Bool) → wants wanted it.kind it.view ≡ t → list_any above (cond t [] (MissingCertificate it.kind it.view ∷ [])) ≡ false
+  fetch_asked : (wanted : List ℕ) → list_any (nat_lt top) wanted ≡ false → (it : Fetch) (t : Bool)
+      → wants wanted it.kind it.view ≡ t → list_any above (cond t [] (MissingCertificate it.kind it.view ∷ [])) ≡ false
       → nat_lt top it.view ≡ false
-  fetch_asked wanted open_low it true is low = low_among top it.view wanted (and_parts (same_kind it.kind fetch.Nullification) (has wanted it.view) is).1 open_low
+  fetch_asked wanted open_low it true is low =
+      low_among top it.view wanted (and_parts (same_kind it.kind fetch.Nullification) (has wanted it.view) is).1
+      open_low
   fetch_asked wanted open_low it false is low = sym (or_none (nat_lt top it.view)) ∙ low
 
-  fetches_asked : (wanted : List ℕ) → list_any (nat_lt top) wanted ≡ false → (fetches : List Fetch) → list_any above (of_fetches wanted fetches) ≡ false
+  fetches_asked : (wanted : List ℕ) → list_any (nat_lt top) wanted ≡ false → (fetches : List Fetch)
+      → list_any above (of_fetches wanted fetches) ≡ false
       → list_any (λ (it : Fetch). nat_lt top it.view) fetches ≡ false
   fetches_asked wanted open_low [] low = refl
   fetches_asked wanted open_low (it ∷ rest) low =
       let both = none_each above (of_fetch wanted it) (of_fetches wanted rest) low in
-      none_of (nat_lt top it.view) (list_any (λ (it : Fetch). nat_lt top it.view) rest) (fetch_asked wanted open_low it (wants wanted it.kind it.view) refl both.0)
+      none_of (nat_lt top it.view) (list_any (λ (it : Fetch). nat_lt top it.view) rest)
+      (fetch_asked wanted open_low it (wants wanted it.kind it.view) refl both.0)
       (fetches_asked wanted open_low rest both.1)
 
   -- what is planned
-  plan_low : (plan : Plan S D K G C) → list_any (λ (it : Fetch). nat_lt top it.view) plan.repair.fetches.wanted.items ≡ false → list_any (resolves_above top) plan.steps.items ≡ false
+  plan_low : (plan : Plan S D K G C) → list_any (λ (it : Fetch). nat_lt top it.view)
+      plan.repair.fetches.wanted.items ≡ false → list_any (resolves_above top) plan.steps.items ≡ false
       → list_any above (planned_causes plan) ≡ false
   plan_low plan asked planned =
-      none_both above (of_steps plan.steps.items) (of_blocks plan.builds.buildings.items ++ (of_early plan.early.proposals.items ++ of_repair plan.repair))
+      none_both above (of_steps plan.steps.items)
+      (of_blocks plan.builds.buildings.items ++ (of_early plan.early.proposals.items ++ of_repair plan.repair))
       (steps_height plan.steps.items ∙ planned)
-      (none_both above (of_blocks plan.builds.buildings.items) (of_early plan.early.proposals.items ++ of_repair plan.repair) (blocks_low plan.builds.buildings.items)
-      (none_both above (of_early plan.early.proposals.items) (of_repair plan.repair) (early_low plan.early.proposals.items)
+      (none_both above (of_blocks plan.builds.buildings.items)
+      (of_early plan.early.proposals.items ++ of_repair plan.repair) (blocks_low plan.builds.buildings.items)
+      (none_both above (of_early plan.early.proposals.items) (of_repair plan.repair)
+      (early_low plan.early.proposals.items)
       (fetches_low plan.repair.resolver.open_fetches plan.repair.fetches.wanted.items asked)))
 
-  plan_asks : (plan : Plan S D K G C) → list_any (nat_lt top) plan.repair.resolver.open_fetches ≡ false → list_any above (planned_causes plan) ≡ false
-      → (list_any (λ (it : Fetch). nat_lt top it.view) plan.repair.fetches.wanted.items ≡ false) × (list_any (resolves_above top) plan.steps.items ≡ false)
+  plan_asks : (plan : Plan S D K G C) → list_any (nat_lt top) plan.repair.resolver.open_fetches ≡ false
+      → list_any above (planned_causes plan) ≡ false
+      → (list_any (λ (it : Fetch). nat_lt top it.view) plan.repair.fetches.wanted.items ≡ false)
+      × (list_any (resolves_above top) plan.steps.items ≡ false)
   plan_asks plan open_low low =
-      let by_steps = none_each above (of_steps plan.steps.items) (of_blocks plan.builds.buildings.items ++ (of_early plan.early.proposals.items ++ of_repair plan.repair)) low in
-      let by_blocks = none_each above (of_blocks plan.builds.buildings.items) (of_early plan.early.proposals.items ++ of_repair plan.repair) by_steps.1 in
-      let by_early = none_each above (of_early plan.early.proposals.items) (of_repair plan.repair) by_blocks.1 in
-      (fetches_asked plan.repair.resolver.open_fetches open_low plan.repair.fetches.wanted.items by_early.1, sym (steps_height plan.steps.items) ∙ by_steps.0)
+      let by_steps = none_each above (of_steps plan.steps.items)
+      (of_blocks plan.builds.buildings.items ++ (of_early plan.early.proposals.items ++ of_repair plan.repair)) low
+      in
+      let by_blocks = none_each above (of_blocks plan.builds.buildings.items)
+      (of_early plan.early.proposals.items ++ of_repair plan.repair) by_steps.1 in
+      let by_early = none_each above (of_early plan.early.proposals.items) (of_repair plan.repair) by_blocks.1 in (
+        fetches_asked plan.repair.resolver.open_fetches open_low plan.repair.fetches.wanted.items by_early.1,
+        sym (steps_height plan.steps.items) ∙ by_steps.0,
+      )
 
 -- ---- what is at hand
 
 -- what is at hand says so of none, where nothing is asked for above this view
-pub hand_low : {S L D K G C : Type 0} (top : ℕ) (engine : Engine S L D K G C) → list_any (λ fetch. nat_lt top fetch.view) engine.plan.repair.fetches.wanted.items ≡ false
-    → list_any (resolves_above top) engine.plan.steps.items ≡ false → list_any (lacks_above top) (pending_causes engine) ≡ false
+pub hand_low : {S L D K G C : Type 0} (top : ℕ) (engine : Engine S L D K G C)
+    → list_any (λ fetch. nat_lt top fetch.view) engine.plan.repair.fetches.wanted.items ≡ false
+    → list_any (resolves_above top) engine.plan.steps.items ≡ false
+    → list_any (lacks_above top) (pending_causes engine) ≡ false
 hand_low {S = S} {D = D} {K = K} {G = G} {C = C} top engine asked planned =
-    none_both (lacks_above top) (of_works (work_in engine.core.outbox.queue.items)) (planned_causes engine.plan) (works_low S D K G C top (work_in engine.core.outbox.queue.items))
+    none_both (lacks_above top) (of_works (work_in engine.core.outbox.queue.items)) (planned_causes engine.plan)
+    (works_low S D K G C top (work_in engine.core.outbox.queue.items))
     (plan_low S D K G C top engine.plan asked planned)
 
 -- and where it says so of none, nothing is asked for or to be that is above, but what the resolver wants
-pub hand_asks : {S L D K G C : Type 0} (top : ℕ) (out : List (Work S D K G C)) (engine : Engine S L D K G C) → list_any (nat_lt top) engine.plan.repair.resolver.open_fetches ≡ false
+pub hand_asks : {S L D K G C : Type 0} (top : ℕ) (out : List (Work S D K G C)) (engine : Engine S L D K G C)
+    → list_any (nat_lt top) engine.plan.repair.resolver.open_fetches ≡ false
     → list_any (lacks_above top) (of_works out ++ pending_causes engine) ≡ false
-    → (list_any (λ fetch. nat_lt top fetch.view) engine.plan.repair.fetches.wanted.items ≡ false) × (list_any (resolves_above top) engine.plan.steps.items ≡ false)
+    → (list_any (λ fetch. nat_lt top fetch.view) engine.plan.repair.fetches.wanted.items ≡ false)
+    × (list_any (resolves_above top) engine.plan.steps.items ≡ false)
 hand_asks {S = S} {D = D} {K = K} {G = G} {C = C} top out engine open_low low =
     plan_asks S D K G C top engine.plan open_low
-    (none_each (lacks_above top) (of_works (work_in engine.core.outbox.queue.items)) (planned_causes engine.plan) (none_each (lacks_above top) (of_works out) (pending_causes engine) low).1).1
+    (none_each (lacks_above top) (of_works (work_in engine.core.outbox.queue.items)) (planned_causes engine.plan)
+    (none_each (lacks_above top) (of_works out) (pending_causes engine) low).1).1
 
 -- of what came in none is missing
-pub none_lacks : {S D K G C : Type 0} (top : ℕ) (came : List (Cause S D K G C)) → HasNoMissingCertificate came → list_any (lacks_above top) came ≡ false
+pub none_lacks : {S D K G C : Type 0} (top : ℕ) (came : List (Cause S D K G C)) → HasNoMissingCertificate came
+    → list_any (lacks_above top) came ≡ false
 none_lacks top [] none = refl
 none_lacks top (WorkItem it ∷ rest) none = none_lacks top rest none
 none_lacks top (MissingCertificate kind view ∷ rest) none =
-    absurd (false≢true (sym (none kind view) ∙ or_left (same_kind kind kind && view == view) (list_any (is_missing_certificate kind view) rest) (ap (λ t. t && view == view) (kind_itself kind) ∙ eq-eqb view view refl)))
+    absurd (false≢true (sym (none kind view)
+    ∙ or_left (same_kind kind kind && view == view) (list_any (is_missing_certificate kind view) rest)
+    (ap (λ t. t && view == view) (kind_itself kind) ∙ eq-eqb view view refl)))
 none_lacks top (Arrival from proposal ∷ rest) none = none_lacks top rest none
 none_lacks top (Quorum on ∷ rest) none = none_lacks top rest none
 none_lacks top (Message told ∷ rest) none = none_lacks top rest none

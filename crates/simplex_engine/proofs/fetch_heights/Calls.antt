@@ -32,16 +32,21 @@ use Rattle.simplex_engine.proofs.fetch_heights.Replies.{highest_passed}
 use Rattle.simplex_engine.proofs.fetch_heights.Lacks.{lacks_ahead, fetches_within}
 
 module _ {K L D : Type 0} where
-  -- what runs preserve of a living member: each notarization is in the record, at its own view, and each view that waits is notarized
+  -- what runs preserve of a living member: each notarization is in the record, at its own view, and each view that
+  -- waits is notarized
   pub record IsKnown (m : MemberFacts K L D) (x : StateFacts K L D) : Type 0 where
     pub some : 0 < x.terms.term_length
-    pub recorded : (v : ℕ) → is_some (round_of x v).notarization ≡ true → (c : ProposalFacts D) × Contains m.entries (Accepted (Notarized c)) × (c.proposal.round.view ≡ v)
+    pub recorded : (v : ℕ) → is_some (round_of x v).notarization ≡ true
+        → (c : ProposalFacts D) × Contains m.entries (Accepted (Notarized c)) × (c.proposal.round.view ≡ v)
     pub placed : (v : ℕ) (c : ProposalFacts D) → (round_of x v).notarization ≡ Some c → c.proposal.round.view ≡ v
     pub waits : (v : ℕ) → list_any (λ w. v == w) x.named ≡ true → is_some (round_of x v).notarization ≡ true
 
-module _ {K L D : Type 0} (same : D → D → Bool) (elect : Elect L) (m : MemberFacts K L D) (x : StateFacts K L D) (known : IsKnown m x) where
-  newly_recorded : (is_new : Bool) (e : ArtifactFacts D) → (if is_new then entry_view e else 0) ≤ greatest (map entry_view (m.entries ++ if_new is_new e))
-  newly_recorded true e = among_greatest (m.entries ++ e ∷ []) e (Contains-append_right m.entries (e ∷ []) e (0, omega arith, refl))
+module _ {K L D : Type 0} (same : D → D → Bool) (elect : Elect L) (m : MemberFacts K L D) (x : StateFacts K L D)
+    (known : IsKnown m x) where
+  newly_recorded : (is_new : Bool) (e : ArtifactFacts D)
+      → (if is_new then entry_view e else 0) ≤ greatest (map entry_view (m.entries ++ if_new is_new e))
+  newly_recorded true e = among_greatest (m.entries ++ e ∷ []) e
+      (Contains-append_right m.entries (e ∷ []) e (0, omega arith, refl))
   newly_recorded false e = omega arith
 
   recorded_below : (v : ℕ) → is_some (round_of x v).notarization ≡ true → v ≤ greatest (map entry_view m.entries)
@@ -51,16 +56,21 @@ module _ {K L D : Type 0} (same : D → D → Bool) (elect : Elect L) (m : Membe
       let at = there.2 in
       omega (arith, below, at)
 
-  candidates_below : greatest (map (λ (it : CertificateFetch). it.view) (candidates_answer same elect x).1) ≤ greatest (map entry_view m.entries)
-  candidates_below = fetches_within same elect x (greatest (map entry_view m.entries)) x.named (λ v named. recorded_below v (known.waits v named))
+  candidates_below : greatest (map (λ (it : CertificateFetch). it.view) (candidates_answer same elect x).1) ≤ greatest
+      (map entry_view m.entries)
+  candidates_below = fetches_within same elect x (greatest (map entry_view m.entries)) x.named
+      (λ v named. recorded_below v (known.waits v named))
 
-  judged_below : (v : ℕ) (n : ProposalFacts D) → certified_answer x v ≡ Some n → n.proposal.round.view ≤ greatest (map entry_view m.entries)
+  judged_below : (v : ℕ) (n : ProposalFacts D) → certified_answer x v ≡ Some n
+      → n.proposal.round.view ≤ greatest (map entry_view m.entries)
   judged_below v n is = by_round (round_at x v) refl is
     where
-      by_round : (o : Option (RoundFacts K D)) → round_at x v ≡ o → option_and_then (λ r. r.notarization) o ≡ Some n → n.proposal.round.view ≤ greatest (map entry_view m.entries)
+      by_round : (o : Option (RoundFacts K D)) → round_at x v ≡ o → option_and_then (λ r. r.notarization) o ≡ Some n
+          → n.proposal.round.view ≤ greatest (map entry_view m.entries)
       by_round None untracked is = absurd (cc)
       by_round (Some r) tracked is =
-          let stands : (round_of x v).notarization ≡ Some n = ap (λ o. (unwrap_or o (new_round x.me x.members (round_number x v))).notarization) tracked ∙ is in
+          let stands : (round_of x v).notarization ≡ Some n =
+          ap (λ o. (unwrap_or o (new_round x.me x.members (round_number x v))).notarization) tracked ∙ is in
           let at = known.placed v n stands in
           let below = recorded_below v (ap is_some stands) in
           omega (arith, at, below)
@@ -72,10 +82,12 @@ module _ {K L D : Type 0} (same : D → D → Bool) (elect : Elect L) (m : Membe
     abbrev next_member : MemberFacts K L D
     next_member = with_call same elect x m call
 
-    next_up : next_term_start x.terms.term_length x.current ≤ next_term_start next_state.terms.term_length next_state.current
+    next_up : next_term_start x.terms.term_length x.current ≤ next_term_start next_state.terms.term_length
+        next_state.current
     next_up =
         let goes = call_goes same elect x m.outstanding_work call in
-        subst (λ t. next_term_start x.terms.term_length x.current ≤ next_term_start t.term_length next_state.current) (sym goes.terms)
+        subst (λ t. next_term_start x.terms.term_length x.current ≤ next_term_start t.term_length next_state.current)
+        (sym goes.terms)
         (next_monotone x.terms.term_length x.current next_state.current goes.current)
 
     called_up : highest_received m x ≤ highest_received next_member next_state
@@ -84,27 +96,34 @@ module _ {K L D : Type 0} (same : D → D → Bool) (elect : Elect L) (m : Membe
         let grows = greatest_grows m.entries (recorded_by same elect x call) in
         omega (arith, up, grows)
 
-  told_below : (call : CallFacts D) → highest_passed (answer same elect x m.outstanding_work call) call ≤ highest_received (next_member call) (next_state call)
-  told_below (AddNotarization c) = (let new = newly_recorded (notarization_added same elect x c).0 (Accepted (Notarized c)) in omega (arith, new))
-  told_below (AddNullification c now) = (let new = newly_recorded (nullification_added x c) (Accepted (Nullified c)) in omega (arith, new))
-  told_below (AddFinalization c now) = (let new = newly_recorded (finalization_added same elect x c).0 (Accepted (Finalized c)) in omega (arith, new))
+  told_below : (call : CallFacts D) → highest_passed (answer same elect x m.outstanding_work call)
+      call ≤ highest_received (next_member call) (next_state call)
+  told_below (AddNotarization c) =
+      (let new = newly_recorded (notarization_added same elect x c).0 (Accepted (Notarized c)) in omega (arith, new))
+  told_below (AddNullification c now) =
+      (let new = newly_recorded (nullification_added x c) (Accepted (Nullified c)) in omega (arith, new))
+  told_below (AddFinalization c now) =
+      (let new = newly_recorded (finalization_added same elect x c).0 (Accepted (Finalized c)) in omega (arith, new))
   told_below TryVerify = by_answer (verify_answer same elect x) refl
     where
-      by_answer : (a : Verify D K) → verify_answer same elect x ≡ a → highest_passed (ToldStanding a) TryVerify ≤ highest_received (next_member TryVerify) (next_state TryVerify)
+      by_answer : (a : Verify D K) → verify_answer same elect x ≡ a
+          → highest_passed (ToldStanding a) TryVerify ≤ highest_received (next_member TryVerify) (next_state TryVerify)
       by_answer (verify.Ready context proposal) is = omega arith
       by_answer (verify.Resolve proposal view kind leader) is =
           let ahead = lacks_ahead same elect x known.some proposal view kind leader is in
           let up = next_up TryVerify in
           omega (arith, ahead, up)
       by_answer verify.Wait is = omega arith
-  told_below CertifyCandidates = (let below = candidates_below in let grows = greatest_grows m.entries [] in omega (arith, below, grows))
+  told_below CertifyCandidates =
+      (let below = candidates_below in let grows = greatest_grows m.entries [] in omega (arith, below, grows))
   told_below (Certified v success now) = by_answer (certified_answer x v) refl
     where
       judged : Bool → Option (ProposalFacts D) → ReplyFacts K D
       judged = Judged
 
       by_answer : (o : Option (ProposalFacts D)) → certified_answer x v ≡ o
-          → highest_passed (judged success o) (Certified v success now) ≤ highest_received (next_member (Certified v success now)) (next_state (Certified v success now))
+          → highest_passed (judged success o) (Certified v success now) ≤ highest_received
+          (next_member (Certified v success now)) (next_state (Certified v success now))
       by_answer None is = omega arith
       by_answer (Some n) is =
           let below = judged_below v n is in
@@ -119,22 +138,42 @@ module _ {K L D : Type 0} (same : D → D → Bool) (elect : Elect L) (m : Membe
     pub up : highest_received m x ≤ highest_received left state
     pub low : highest_passed told call ≤ highest_received left state
 
-  pub call_heard : (call : CallFacts D) (told : ReplyFacts K D) (left : MemberFacts K L D) → m.life ≡ Some x → IsCall same elect m call told left → (left.life ≡ None) ⊎ HasHeard call told left
+  pub call_heard : (call : CallFacts D) (told : ReplyFacts K D) (left : MemberFacts K L D) → m.life ≡ Some x
+      → IsCall same elect m call told left → (left.life ≡ None) ⊎ HasHeard call told left
   unfolding IsCall
-  call_heard call told left alive is_call = by_answer (subst (λ life. AnswersAlive same elect life m call told left) alive is_call)
+  call_heard call told left alive is_call =
+      by_answer (subst (λ life. AnswersAlive same elect life m call told left) alive is_call)
     where
       still : told ≡ NotAllowed → left ≡ m → HasHeard call told left
-      still tells leaves = record { state = x; alive = ap (λ (n : MemberFacts K L D). n.life) leaves ∙ alive; up = rw leaves (omega arith); low = rw tells (omega arith) }
+      still tells leaves = record {
+        state = x;
+        alive = ap (λ (n : MemberFacts K L D). n.life) leaves ∙ alive;
+        up = rw leaves (omega arith);
+        low = rw tells (omega arith);
+      }
 
       faulty : (fault : Fault) → told ≡ Refused fault → left ≡ m → HasHeard call told left
-      faulty fault tells leaves = record { state = x; alive = ap (λ (n : MemberFacts K L D). n.life) leaves ∙ alive; up = rw leaves (omega arith); low = rw tells (omega arith) }
+      faulty fault tells leaves = record {
+        state = x;
+        alive = ap (λ (n : MemberFacts K L D). n.life) leaves ∙ alive;
+        up = rw leaves (omega arith);
+        low = rw tells (omega arith);
+      }
 
-      by_fault : (o : Option Fault) → fault_of x call ≡ o → told ≡ unless_refused o (answer same elect x m.outstanding_work call) → left ≡ unless_retained o m (next_member call) → HasHeard call told left
-      by_fault None none tells leaves = record { state = next_state call; alive = ap (λ (n : MemberFacts K L D). n.life) leaves; up = rw leaves (called_up call); low = rw (tells, leaves) (told_below call) }
+      by_fault : (o : Option Fault) → fault_of x call ≡ o
+          → told ≡ unless_refused o (answer same elect x m.outstanding_work call)
+          → left ≡ unless_retained o m (next_member call) → HasHeard call told left
+      by_fault None none tells leaves = record {
+        state = next_state call;
+        alive = ap (λ (n : MemberFacts K L D). n.life) leaves;
+        up = rw leaves (called_up call);
+        low = rw (tells, leaves) (told_below call);
+      }
       by_fault (Some fault) due tells leaves = faulty fault tells leaves
 
       by_allowed : (b : Bool) → is_allowed x m.outstanding_work call ≡ b
-          → told ≡ (if b then unless_refused (fault_of x call) (answer same elect x m.outstanding_work call) else NotAllowed) → left ≡ (if b then unless_retained (fault_of x call) m (next_member call) else m)
+          → told ≡ (if b then unless_refused (fault_of x call) (answer same elect x m.outstanding_work call)
+          else NotAllowed) → left ≡ (if b then unless_retained (fault_of x call) m (next_member call) else m)
           → HasHeard call told left
       by_allowed true allowed tells leaves = by_fault (fault_of x call) refl tells leaves
       by_allowed false other tells leaves = still tells leaves
@@ -150,5 +189,6 @@ module _ {K L D : Type 0} (m : MemberFacts K L D) (x : StateFacts K L D) where
   pub pruned_heard : m.life ≡ Some x → highest_received m x ≤ highest_received (pruned_member m) x
   pruned_heard alive =
       let reaches = greatest_stays m.entries (stays_within m) (finalized_in m.entries - m.retention) (omega arith)
-      (λ v gone. (let parts = not_or (tracks m.life v) (nat_le (finalized_in m.entries - m.retention) v) gone in leb-false (finalized_in m.entries - m.retention) v parts.1)) in
+      (λ v gone. (let parts = not_or (tracks m.life v) (nat_le (finalized_in m.entries - m.retention) v) gone in
+      leb-false (finalized_in m.entries - m.retention) v parts.1)) in
       omega (arith, reaches)

@@ -33,7 +33,8 @@ use Rattle.simplex_engine.proofs.fetch_heights.Records.{among_greatest}
 use Rattle.simplex_engine.proofs.fetch_heights.Replies.{IsLow}
 use Rattle.simplex_engine.proofs.fetch_heights.Steps.{climbs, dead_stays, some_none}
 
-any_higher : {A : Type 0} (view_of : A → ℕ) (low high : ℕ) → low ≤ high → (items : List A) → list_any (λ a. nat_lt low (view_of a)) items ≡ false → list_any (λ a. nat_lt high (view_of a)) items ≡ false
+any_higher : {A : Type 0} (view_of : A → ℕ) (low high : ℕ) → low ≤ high → (items : List A)
+    → list_any (λ a. nat_lt low (view_of a)) items ≡ false → list_any (λ a. nat_lt high (view_of a)) items ≡ false
 any_higher view_of low high up [] none = refl
 any_higher view_of low high up (a ∷ items) none =
     let parts = not_or (nat_lt low (view_of a)) (list_any (λ b. nat_lt low (view_of b)) items) none in
@@ -42,14 +43,16 @@ any_higher view_of low high up (a ∷ items) none =
     rw here (any_higher view_of low high up items parts.1)
 
 module _ {S D K G C : Type 0} where
-  step_higher : (low high : ℕ) → low ≤ high → (it : Step S D K G C) → resolves_above low it ≡ false → resolves_above high it ≡ false
+  step_higher : (low high : ℕ) → low ≤ high → (it : Step S D K G C) → resolves_above low it ≡ false
+      → resolves_above high it ≡ false
   step_higher low high up (step.Resolve kind view proposal) none = grind (arith, nat_tests, none, up)
   step_higher low high up (step.Ask asked) none = refl
   step_higher low high up (step.Offer from proposal) none = refl
   step_higher low high up (step.Repeat view) none = refl
   step_higher low high up (step.Push work) none = refl
 
-  steps_higher : (low high : ℕ) → low ≤ high → (steps : List (Step S D K G C)) → list_any (resolves_above low) steps ≡ false → list_any (resolves_above high) steps ≡ false
+  steps_higher : (low high : ℕ) → low ≤ high → (steps : List (Step S D K G C))
+      → list_any (resolves_above low) steps ≡ false → list_any (resolves_above high) steps ≡ false
   steps_higher low high up [] none = refl
   steps_higher low high up (it ∷ steps) none =
       let parts = not_or (resolves_above low it) (list_any (resolves_above low) steps) none in
@@ -70,78 +73,113 @@ low_wanted top (w ∷ views) none v among =
     let parts = not_or (nat_lt top w) (list_any (nat_lt top) views) none in
     let first = parts.0 in
     elim (or_cases (eqb v w) (has views v) among) [
-      | inl here ↦ (let at = eqb-true v w here in let under : w ≤ top = grind (arith, nat_tests, first) in omega (arith, at, under))
+      | inl here ↦ (let at = eqb-true v w here in let under : w ≤ top = grind (arith, nat_tests, first) in
+          omega (arith, at, under))
       | inr later ↦ low_wanted top views parts.1 v later
     ]
 
-made_all : (top : ℕ) (calls : List Call) (r left : LawfulResolverFacts) → AllByRecursion (IsLow top) calls → IsUpTo top r → AreMade r calls left → IsUpTo top left
+made_all : (top : ℕ) (calls : List Call) (r left : LawfulResolverFacts) → AllByRecursion (IsLow top) calls
+    → IsUpTo top r → AreMade r calls left → IsUpTo top left
 made_all top [] r left low is made = subst (IsUpTo top) (sym made) is
-made_all top (call ∷ rest) r left (here, low) is (next, is_made, made) = made_all top rest next left low (made_up_to top call r next here.lives here.view is is_made) made
+made_all top (call ∷ rest) r left (here, low) is (next, is_made, made) =
+    made_all top rest next left low (made_up_to top call r next here.lives here.view is is_made) made
 
-module _ {S L D K G C : Type 0} (same : D → D → Bool) (decides : (d e : D) → same d e ≡ true → d ≡ e) (itself : (d : D) → same d d ≡ true) (elect : Elect L) (bytes : D → List ℕ)
+module _ {S L D K G C : Type 0} (same : D → D → Bool) (decides : (d e : D) → same d e ≡ true → d ≡ e)
+    (itself : (d : D) → same d d ≡ true) (elect : Elect L) (bytes : D → List ℕ)
     (bytes_of : C → List ℕ) (now : ℕ) (term_length i : ℕ) (all : List (TraceEvent D)) where
-  pub no_higher : {came : List (Cause S D K G C)} {out : List (Work S D K G C)} {held : FetchKind → ℕ → Bool} {a b : Engine S L D K G C} → HasHistory same elect term_length i all a.core.member.facts
-      → HasNoMissingCertificate came → IsCaused same elect bytes bytes_of now came out held a b → FetchesTheReported a → FetchesTheReported b
-  no_higher {came = came} {out = out} {held = held} {a = a} {b = b} done no_lack provenance asks = by_lives a.core.member.facts.life b.core.member.facts.life refl refl asks
+  pub no_higher : {came : List (Cause S D K G C)} {out : List (Work S D K G C)} {held : FetchKind → ℕ → Bool}
+      {a b : Engine S L D K G C} → HasHistory same elect term_length i all a.core.member.facts
+      → HasNoMissingCertificate came → IsCaused same elect bytes bytes_of now came out held a b → FetchesTheReported a
+      → FetchesTheReported b
+  no_higher {came = came} {out = out} {held = held} {a = a} {b = b} done no_lack provenance asks =
+      by_lives a.core.member.facts.life b.core.member.facts.life refl refl asks
     where
       over : FetchKind → ℕ → Bool
-      over kind view = held kind view || (is_final b.core.member.facts view || ended_by a.plan.repair.resolver.state (received_in bytes bytes_of provenance.steps) kind view)
+      over kind view = held kind view || (is_final b.core.member.facts view || ended_by a.plan.repair.resolver.state
+          (received_in bytes bytes_of provenance.steps) kind view)
 
-      by_lives : (old new : Option (StateFacts K L D)) → a.core.member.facts.life ≡ old → b.core.member.facts.life ≡ new → IfSome old (λ x. FetchesUpTo (highest_received a.core.member.facts x) a.plan)
+      by_lives : (old new : Option (StateFacts K L D)) → a.core.member.facts.life ≡ old → b.core.member.facts.life ≡ new
+          → IfSome old (λ x. FetchesUpTo (highest_received a.core.member.facts x) a.plan)
           → IfSome new (λ x. FetchesUpTo (highest_received b.core.member.facts x) b.plan)
       by_lives old None was is asks = tt
       by_lives None (Some y) was is asks =
-          absurd (some_none y (sym (dead_stays same elect bytes bytes_of now (asks_of b.plan) over provenance.steps (came ++ pending_causes a) (of_works out ++ pending_causes b) (with_missing_certificate (asks_of a.plan) came)
+          absurd (some_none y (sym (dead_stays same elect bytes bytes_of now (asks_of b.plan) over provenance.steps
+          (came ++ pending_causes a) (of_works out ++ pending_causes b)
+          (with_missing_certificate (asks_of a.plan) came)
           a.core.member.facts b.core.member.facts was provenance.by_steps) ∙ is))
       by_lives (Some x) (Some y) was is asks =
-          let goes = climbs same elect bytes bytes_of now (asks_of b.plan) over decides itself term_length i provenance.steps (came ++ pending_causes a) (of_works out ++ pending_causes b) (with_missing_certificate (asks_of a.plan) came)
+          let goes = climbs same elect bytes bytes_of now (asks_of b.plan) over decides itself term_length i
+          provenance.steps (came ++ pending_causes a) (of_works out ++ pending_causes b)
+          (with_missing_certificate (asks_of a.plan) came)
           a.core.member.facts b.core.member.facts all done x y was is provenance.by_steps in
           let top : ℕ = highest_received b.core.member.facts y in
           let low : ℕ = highest_received a.core.member.facts x in
           let up = goes.up in
           let heard = asks.heard in
-          let resolver = made_all top (received_in bytes bytes_of provenance.steps) a.plan.repair.resolver b.plan.repair.resolver goes.heard
-          (record { heard = omega (arith, up, heard); wanted = low_wanted top a.plan.repair.resolver.open_fetches (any_higher (λ v. v) low top up a.plan.repair.resolver.open_fetches asks.wanted) })
+          let resolver = made_all top (received_in bytes bytes_of provenance.steps) a.plan.repair.resolver
+          b.plan.repair.resolver goes.heard
+          (record {
+            heard = omega (arith, up, heard);
+            wanted = low_wanted top a.plan.repair.resolver.open_fetches
+                (any_higher (λ v. v) low top up a.plan.repair.resolver.open_fetches asks.wanted);
+          })
           provenance.heard in
           let wanted = wanted_low top b.plan.repair.resolver.open_fetches resolver.wanted in
-          let before = hand_low top a (any_higher (λ (fetch : Fetch). fetch.view) low top up a.plan.repair.fetches.wanted.items asks.asked) (steps_higher low top up a.plan.steps.items asks.planned) in
-          let behind = hand_asks top out b wanted (goes.low (none_both (lacks_above top) came (pending_causes a) (none_lacks top came no_lack) before)) in
+          let before = hand_low top a (any_higher (λ (fetch : Fetch). fetch.view) low top up
+          a.plan.repair.fetches.wanted.items asks.asked) (steps_higher low top up a.plan.steps.items asks.planned)
+          in
+          let behind = hand_asks top out b wanted
+          (goes.low (none_both (lacks_above top) came (pending_causes a) (none_lacks top came no_lack) before)) in
           record { asked = behind.0; planned = behind.1; wanted = wanted; heard = resolver.heard }
 
 -- where it begins
 
 module _ (top : ℕ) where
-  opened_low : (v : ℕ) (fetches : List Fetch) → v ≤ top → list_any (λ fetch. nat_lt top fetch.view) fetches ≡ false → list_any (λ fetch. nat_lt top fetch.view) (opened Nullification v 0 0 fetches) ≡ false
+  opened_low : (v : ℕ) (fetches : List Fetch) → v ≤ top → list_any (λ fetch. nat_lt top fetch.view) fetches ≡ false
+      → list_any (λ fetch. nat_lt top fetch.view) (opened Nullification v 0 0 fetches) ≡ false
   opened_low v fetches low none = by_open (is_fetch_open Nullification v fetches)
     where
-      by_open : (b : Bool) → list_any (λ (fetch : Fetch). nat_lt top fetch.view) (if b then fetches else fetches ++ fresh Nullification v 0 0 ∷ []) ≡ false
+      by_open : (b : Bool) → list_any (λ (fetch : Fetch). nat_lt top fetch.view)
+          (if b then fetches else fetches ++ fresh Nullification v 0 0 ∷ []) ≡ false
       by_open true = none
-      by_open false = none_both (λ (fetch : Fetch). nat_lt top fetch.view) fetches (fresh Nullification v 0 0 ∷ []) none (let here : nat_lt top v ≡ false = grind (arith, nat_tests, low) in rw here refl)
+      by_open false = none_both (λ (fetch : Fetch). nat_lt top fetch.view) fetches (fresh Nullification v 0 0 ∷ []) none
+          (let here : nat_lt top v ≡ false = grind (arith, nat_tests, low) in rw here refl)
 
-  wanting_low : (views : List ℕ) (fetches : List Fetch) → ((v : ℕ) → has views v ≡ true → v ≤ top) → list_any (λ fetch. nat_lt top fetch.view) fetches ≡ false
+  wanting_low : (views : List ℕ) (fetches : List Fetch) → ((v : ℕ) → has views v ≡ true → v ≤ top)
+      → list_any (λ fetch. nat_lt top fetch.view) fetches ≡ false
       → list_any (λ fetch. nat_lt top fetch.view) (wanting views fetches) ≡ false
   wanting_low [] fetches low none = none
   wanting_low (v ∷ views) fetches low none =
-      wanting_low views (opened Nullification v 0 0 fetches) (λ w among. low w (or_right (eqb w v) (has views w) among)) (opened_low v fetches (low v (rw (eq-eqb v v refl) refl)) none)
+      wanting_low views (opened Nullification v 0 0 fetches) (λ w among. low w (or_right (eqb w v) (has views w) among))
+      (opened_low v fetches (low v (rw (eq-eqb v v refl) refl)) none)
 
-module _ {S L D K G C : Type 0} (bytes : D → List ℕ) (keys_of : S → List K) (keys : List K) (me : Option ℕ) (term_length : ℕ) (options : Options) where
-  pub heights_begun : (engine : Engine S L D K G C) → HasStartedWith bytes keys_of keys me term_length options engine → FetchesTheReported engine
+module _ {S L D K G C : Type 0} (bytes : D → List ℕ) (keys_of : S → List K) (keys : List K) (me : Option ℕ)
+    (term_length : ℕ) (options : Options) where
+  pub heights_begun : (engine : Engine S L D K G C) → HasStartedWith bytes keys_of keys me term_length options engine
+      → FetchesTheReported engine
   heights_begun engine begun = by_life engine.core.member.facts.life
     where
-      by_life : (life : Option (StateFacts K L D)) → IfSome life (λ x. FetchesUpTo (highest_received engine.core.member.facts x) engine.plan)
+      by_life : (life : Option (StateFacts K L D))
+          → IfSome life (λ x. FetchesUpTo (highest_received engine.core.member.facts x) engine.plan)
       by_life None = tt
       by_life (Some x) =
           let top : ℕ = highest_received engine.core.member.facts x in
           let repair = begun.plan.repair in
-          let is = begun_up_to bytes top term_length engine.core.member.facts.entries engine.plan.repair.resolver repair.told accepted_low in
+          let is = begun_up_to bytes top term_length engine.core.member.facts.entries engine.plan.repair.resolver
+          repair.told accepted_low in
           record {
-            asked = subst (λ fetches. list_any (λ (fetch : Fetch). nat_lt top fetch.view) fetches ≡ false) (sym repair.fetched) (wanting_low top engine.plan.repair.resolver.open_fetches [] is.wanted refl);
+            asked = subst (λ fetches. list_any (λ (fetch : Fetch). nat_lt top fetch.view) fetches ≡ false)
+                (sym repair.fetched) (wanting_low top engine.plan.repair.resolver.open_fetches [] is.wanted refl);
             planned = rw begun.plan.nothing.0 refl;
             wanted = wanted_low top engine.plan.repair.resolver.open_fetches is.wanted;
             heard = is.heard;
           }
         where
-          accepted_low : (c : CertificateFacts D) → Contains engine.core.member.facts.entries (Accepted c) → view_of_certificate c ≤ highest_received engine.core.member.facts x
-          accepted_low (Notarized c) there = (let below = among_greatest engine.core.member.facts.entries (Accepted (Notarized c)) there in omega (arith, below))
-          accepted_low (Nullified c) there = (let below = among_greatest engine.core.member.facts.entries (Accepted (Nullified c)) there in omega (arith, below))
-          accepted_low (Finalized c) there = (let below = among_greatest engine.core.member.facts.entries (Accepted (Finalized c)) there in omega (arith, below))
+          accepted_low : (c : CertificateFacts D) → Contains engine.core.member.facts.entries (Accepted c)
+              → view_of_certificate c ≤ highest_received engine.core.member.facts x
+          accepted_low (Notarized c) there = (let below =
+              among_greatest engine.core.member.facts.entries (Accepted (Notarized c)) there in omega (arith, below))
+          accepted_low (Nullified c) there = (let below =
+              among_greatest engine.core.member.facts.entries (Accepted (Nullified c)) there in omega (arith, below))
+          accepted_low (Finalized c) there = (let below =
+              among_greatest engine.core.member.facts.entries (Accepted (Finalized c)) there in omega (arith, below))

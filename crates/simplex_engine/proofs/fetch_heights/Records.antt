@@ -10,21 +10,24 @@ use Rattle.laws_safety.proofs.lists.Filters.{Contains-filter}
 use Rattle.laws_safety.proofs.lists.Splits.{Contains-cases, Contains-cons_rest}
 
 module _ {D : Type 0} where
-  pub among_greatest : (entries : List (ArtifactFacts D)) (e : ArtifactFacts D) → Contains entries e → entry_view e ≤ greatest (map entry_view entries)
+  pub among_greatest : (entries : List (ArtifactFacts D)) (e : ArtifactFacts D) → Contains entries e
+      → entry_view e ≤ greatest (map entry_view entries)
   among_greatest [] e h = absurd (omega (arith, h.1))
   among_greatest (f ∷ rest) e h = elim (Contains-cases f rest e h) [
     | inl here ↦ (let is : entry_view f ≡ entry_view e = ap entry_view here in omega (arith, is))
     | inr later ↦ (let below = among_greatest rest e later in omega (arith, below))
   ]
 
-  greatest_within : (u : ℕ) (entries : List (ArtifactFacts D)) → ((e : ArtifactFacts D) → Contains entries e → entry_view e ≤ u) → greatest (map entry_view entries) ≤ u
+  greatest_within : (u : ℕ) (entries : List (ArtifactFacts D))
+      → ((e : ArtifactFacts D) → Contains entries e → entry_view e ≤ u) → greatest (map entry_view entries) ≤ u
   greatest_within u [] low = omega arith
   greatest_within u (e ∷ rest) low =
       let here = low e (0, omega arith, refl) in
       let later = greatest_within u rest (λ f h. low f (Contains-cons_rest e rest f h)) in
       omega (arith, here, later)
 
-  pub greatest_grows : (entries more : List (ArtifactFacts D)) → greatest (map entry_view entries) ≤ greatest (map entry_view (entries ++ more))
+  pub greatest_grows : (entries more : List (ArtifactFacts D))
+      → greatest (map entry_view entries) ≤ greatest (map entry_view (entries ++ more))
   greatest_grows [] more = omega arith
   greatest_grows (e ∷ rest) more = let grows = greatest_grows rest more in omega (arith, grows)
 
@@ -38,7 +41,8 @@ module _ {D : Type 0} where
   is_final_entry (Accepted (Nullified c)) some = absurd (omega (arith, some))
   is_final_entry (Accepted (Finalized c)) some = refl
 
-  finalization_there : (entries : List (ArtifactFacts D)) → 0 < finalized_in entries → (e : ArtifactFacts D) × Contains entries e × (entry_view e ≡ finalized_in entries)
+  finalization_there : (entries : List (ArtifactFacts D)) → 0 < finalized_in entries
+      → (e : ArtifactFacts D) × Contains entries e × (entry_view e ≡ finalized_in entries)
   finalization_there [] some = absurd (omega (arith, some))
   finalization_there (e ∷ rest) some = elim (cases_Bool (nat_lt (finalized_by e) (finalized_in rest))) [
     | inl later ↦ (
@@ -55,7 +59,8 @@ module _ {D : Type 0} where
 
   -- what a pruning leaves reaches as high
   pub greatest_stays : (entries : List (ArtifactFacts D)) (stays : ℕ → Bool) (low : ℕ) → low ≤ finalized_in entries
-      → ((v : ℕ) → stays v ≡ false → v < low) → greatest (map entry_view entries) ≤ greatest (map entry_view (filter (λ e. stays (entry_view e)) entries))
+      → ((v : ℕ) → stays v ≡ false → v < low)
+      → greatest (map entry_view entries) ≤ greatest (map entry_view (filter (λ e. stays (entry_view e)) entries))
   greatest_stays entries stays low within goes = greatest_within _ entries below
     where
       kept : List (ArtifactFacts D)
@@ -67,8 +72,14 @@ module _ {D : Type 0} where
         | inr gone ↦ (
             let under = goes (entry_view e) gone in
             let last = finalization_there entries (omega (arith, under, within)) in
-            let last_stays : stays (entry_view last.0) ≡ true = elim (cases_Bool (stays (entry_view last.0))) [ inl is ↦ is | inr is ↦ absurd (let lower = goes (entry_view last.0) is in let at = last.2 in omega (arith, lower, at, within)) ] in
-            let reaches = among_greatest kept last.0 (Contains-filter (λ e. stays (entry_view e)) entries last.0 last.1 last_stays) in
+            let last_stays : stays (entry_view last.0) ≡ true =
+            elim (cases_Bool (stays (entry_view last.0))) [
+              | inl is ↦ is
+              | inr is ↦ absurd
+                  (let lower = goes (entry_view last.0) is in let at = last.2 in omega (arith, lower, at, within))
+            ] in
+            let reaches = among_greatest kept last.0
+            (Contains-filter (λ e. stays (entry_view e)) entries last.0 last.1 last_stays) in
             let at = last.2 in
             omega (arith, under, within, reaches, at)
             )

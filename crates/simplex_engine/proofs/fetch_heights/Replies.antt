@@ -45,61 +45,79 @@ not_above : (top view : ℕ) → view ≤ top → nat_lt top view ≡ false
 not_above top view low = grind (arith, nat_tests, low)
 
 module _ (top : ℕ) where
-  told_of : (v : ℕ) (call : Call) → is_replayed call ≡ false → view_told call ≡ v → v ≤ top → AllByRecursion (IsLow top) (above_genesis v call)
+  told_of : (v : ℕ) (call : Call) → is_replayed call ≡ false → view_told call ≡ v → v ≤ top
+      → AllByRecursion (IsLow top) (above_genesis v call)
   told_of v call lives is low = by_genesis (v == 0)
     where
       by_genesis : (b : Bool) → AllByRecursion (IsLow top) (if b then [] else call ∷ [])
       by_genesis true = tt
       by_genesis false = (record { lives = lives; view = omega (arith, is, low) }, tt)
 
-  heard_of_low : {D : Type 0} (bytes : D → List ℕ) (call : CallFacts D) → handed_view call ≤ top → AllByRecursion (IsLow top) (views_received bytes call)
+  heard_of_low : {D : Type 0} (bytes : D → List ℕ) (call : CallFacts D) → handed_view call ≤ top
+      → AllByRecursion (IsLow top) (views_received bytes call)
   heard_of_low bytes (AddNotarization c) low = told_of c.proposal.round.view (update bytes (Notarized c)) refl refl low
   heard_of_low bytes (AddNullification c now) low = told_of c.round.view (update bytes (Nullified c)) refl refl low
-  heard_of_low bytes (AddFinalization c now) low = told_of c.proposal.round.view (update bytes (Finalized c)) refl refl low
+  heard_of_low bytes (AddFinalization c now) low =
+      told_of c.proposal.round.view (update bytes (Finalized c)) refl refl low
   heard_of_low bytes _ low = tt
 
-  heard_where : {D : Type 0} (bytes : D → List ℕ) (call : CallFacts D) (is_new : Bool) → (if is_new then handed_view call else 0) ≤ top
+  heard_where : {D : Type 0} (bytes : D → List ℕ) (call : CallFacts D) (is_new : Bool)
+      → (if is_new then handed_view call else 0) ≤ top
       → AllByRecursion (IsLow top) (if is_new then views_received bytes call else [])
   heard_where bytes call true low = heard_of_low bytes call low
   heard_where bytes call false low = tt
 
   -- by the reply
-  pub heard_low : {S D K G C : Type 0} (bytes : D → List ℕ) (bytes_of : C → List ℕ) (answer : Reply S D K G C) (call : CallFacts D)
-      → highest_passed (told bytes_of answer) call ≤ top → AllByRecursion (IsLow top) (received_by bytes bytes_of answer call)
+  pub heard_low : {S D K G C : Type 0} (bytes : D → List ℕ) (bytes_of : C → List ℕ) (answer : Reply S D K G C)
+      (call : CallFacts D)
+      → highest_passed (told bytes_of answer) call ≤ top
+      → AllByRecursion (IsLow top) (received_by bytes bytes_of answer call)
   heard_low bytes bytes_of (reply.Added is_new equivocator) call low = heard_where bytes call is_new low
   heard_low bytes bytes_of (reply.AddedNullification is_new) call low = heard_where bytes call is_new low
-  heard_low bytes bytes_of (reply.Certified success (Some n)) call low = told_of n.proposal.round.view (verdict bytes (notarization_facts bytes_of n) success) refl refl low
+  heard_low bytes bytes_of (reply.Certified success (Some n)) call low =
+      told_of n.proposal.round.view (verdict bytes (notarization_facts bytes_of n) success) refl refl low
   heard_low bytes bytes_of (reply.Certified success None) call low = tt
   heard_low bytes bytes_of _ call low = tt
 
   module _ (S D K G C : Type 0) where
     fetches_low : (fetches : List CertificateFetch) → greatest (map (λ (it : CertificateFetch). it.view) fetches) ≤ top
-        → list_any (lacks_above {S = S} {D = D} {K = K} {G = G} {C = C} top) (map (λ (it : CertificateFetch). MissingCertificate FetchOfNotarization it.view) fetches) ≡ false
+        → list_any (lacks_above {S = S} {D = D} {K = K} {G = G} {C = C} top)
+        (map (λ (it : CertificateFetch). MissingCertificate FetchOfNotarization it.view) fetches) ≡ false
     fetches_low [] low = refl
-    fetches_low (it ∷ rest) low = rw (not_above top it.view (omega (arith, low))) (fetches_low rest (omega (arith, low)))
+    fetches_low (it ∷ rest) low = rw (not_above top it.view (omega (arith, low)))
+        (fetches_low rest (omega (arith, low)))
 
-    duties_low : {A : Type 0} (make : A → Work S D K G C) (items : List A) → list_any (lacks_above {S = S} {D = D} {K = K} {G = G} {C = C} top) (map (λ it. WorkItem (make it)) items) ≡ false
+    duties_low : {A : Type 0} (make : A → Work S D K G C) (items : List A)
+        → list_any (lacks_above {S = S} {D = D} {K = K} {G = G} {C = C} top)
+        (map (λ it. WorkItem (make it)) items) ≡ false
     duties_low make [] = refl
     duties_low make (it ∷ rest) = duties_low make rest
 
-    shown_low : (call : CallFacts D) (leader : K) → list_any (lacks_above {S = S} {D = D} {K = K} {G = G} {C = C} top) (shown_by call leader) ≡ false
+    shown_low : (call : CallFacts D) (leader : K)
+        → list_any (lacks_above {S = S} {D = D} {K = K} {G = G} {C = C} top) (shown_by call leader) ≡ false
     shown_low (AddNotarization c) leader = refl
     shown_low (AddNullification c now) leader = refl
     shown_low (AddFinalization c now) leader = refl
     shown_low _ leader = refl
 
-    expiry_low : (b : Bool) → list_any (lacks_above {S = S} {D = D} {K = K} {G = G} {C = C} top) (if b then Expiry ∷ [] else []) ≡ false
+    expiry_low : (b : Bool) → list_any (lacks_above {S = S} {D = D} {K = K} {G = G} {C = C} top)
+        (if b then Expiry ∷ [] else []) ≡ false
     expiry_low true = refl
     expiry_low false = refl
 
-    pub given_low : (bytes_of : C → List ℕ) (now : ℕ) (answer : Reply S D K G C) (call : CallFacts D) → highest_passed (told bytes_of answer) call ≤ top → list_any (lacks_above top) (reply_causes now answer call) ≡ false
+    pub given_low : (bytes_of : C → List ℕ) (now : ℕ) (answer : Reply S D K G C) (call : CallFacts D)
+        → highest_passed (told bytes_of answer) call ≤ top
+        → list_any (lacks_above top) (reply_causes now answer call) ≡ false
     given_low bytes_of now (reply.Work (verify.Ready context proposal)) call low = refl
-    given_low bytes_of now (reply.Work (verify.Resolve proposal view kind leader)) call low = rw (not_above top view low) refl
+    given_low bytes_of now (reply.Work (verify.Resolve proposal view kind leader)) call low =
+        rw (not_above top view low) refl
     given_low bytes_of now (reply.Work verify.Wait) call low = refl
     given_low bytes_of now (reply.Request (Some request)) call low = refl
     given_low bytes_of now (reply.Request None) call low = refl
     given_low bytes_of now (reply.Candidates proposals wanted) call low =
-        list_any-append (lacks_above {S = S} {D = D} {K = K} {G = G} {C = C} top) (map (λ proposal. WorkItem (work.Certify proposal)) proposals.items) (map (λ (it : CertificateFetch). MissingCertificate FetchOfNotarization it.view) wanted.items)
+        list_any-append (lacks_above {S = S} {D = D} {K = K} {G = G} {C = C} top)
+        (map (λ proposal. WorkItem (work.Certify proposal)) proposals.items)
+        (map (λ (it : CertificateFetch). MissingCertificate FetchOfNotarization it.view) wanted.items)
         ∙ rw (duties_low work.Certify proposals.items) (fetches_low wanted.items low)
     given_low bytes_of now (reply.Certificate (Some certificate)) call low = refl
     given_low bytes_of now (reply.Certificate None) call low = refl

@@ -57,18 +57,27 @@ current_if false x y n left right = right
 
 -- a raise of the floor leaves it
 current_raised : (x : ResolverFacts) (v n : ℕ) → x.current ≡ n → (after_raise x v).current ≡ n
-current_raised x v n is = current_if (nat_lt x.floor v) (record x { floor = v; scanned = cond (starts_term (term_length x) (v + 1)) x.scanned (min x.scanned (v + 1)) }) x n is is
+current_raised x v n is = current_if (nat_lt x.floor v)
+    (record x { floor = v; scanned = cond (starts_term (term_length x) (v + 1)) x.scanned (min x.scanned (v + 1)) }) x n
+    is is
 
-current_before_scan : (x : ResolverFacts) (call : Call) → (before_scan x call).current ≡ max x.current (current_view call)
+current_before_scan : (x : ResolverFacts) (call : Call)
+    → (before_scan x call).current ≡ max x.current (current_view call)
 current_before_scan x (Nullification v encoding) =
-    current_if (nat_lt (last_finalized x) (term_end (term_length x) v)) (record (with_stored_nullification x v encoding) { current = max x.current v }) (record x { current = max x.current v })
+    current_if (nat_lt (last_finalized x) (term_end (term_length x) v))
+    (record (with_stored_nullification x v encoding) { current = max x.current v })
+    (record x { current = max x.current v })
     (max x.current v) refl refl
 current_before_scan x (Notarization v) =
-    current_if (nat_lt (last_finalized x) v) (record x { current = max x.current v; notarizations = insert_new x.notarizations v None }) (record x { current = max x.current v }) (max x.current v) refl refl
+    current_if (nat_lt (last_finalized x) v)
+    (record x { current = max x.current v; notarizations = insert_new x.notarizations v None })
+    (record x { current = max x.current v }) (max x.current v) refl refl
 current_before_scan x (Finalization v encoding) =
-    current_raised (without_finalized (with_stored_finalization x v encoding) (max (last_finalized x) v)) v (max x.current v) refl
+    current_raised (without_finalized (with_stored_finalization x v encoding) (max (last_finalized x) v)) v
+    (max x.current v) refl
 current_before_scan x (Verdict v encoding true) =
-    current_raised (with_certified x v encoding) v (max x.current 0) (current_if (nat_lt (last_finalized x) v) _ x (max x.current 0) (omega arith) (omega arith))
+    current_raised (with_certified x v encoding) v (max x.current 0)
+    (current_if (nat_lt (last_finalized x) v) _ x (max x.current 0) (omega arith) (omega arith))
 current_before_scan x (Verdict v encoding false) = let f = fails x v encoding in omega (arith, f.current)
 current_before_scan x Replayed = omega arith
 
@@ -94,7 +103,8 @@ opens_none false e v none = refl
 
 settling_opens_none : (x : ResolverFacts) (call : Call) (v : ℕ) → is_outstanding (settle_effects x call) v ≡ false
 settling_opens_none x (Nullification u encoding) v =
-    opens_none (nat_lt (last_finalized x) (term_end (term_length x) u)) (effect.Settled kind.Nullification u (term_end (term_length x) u)) v refl
+    opens_none (nat_lt (last_finalized x) (term_end (term_length x) u))
+    (effect.Settled kind.Nullification u (term_end (term_length x) u)) v refl
 settling_opens_none x (Notarization u) v = opens_none _ (effect.Settled kind.Notarization u u) v refl
 settling_opens_none x (Finalization u encoding) v = opens_none (nat_lt x.floor u) (effect.Raised u) v refl
 settling_opens_none x (Verdict u encoding true) v = opens_none (nat_lt x.floor u) (effect.Raised u) v refl
@@ -106,62 +116,79 @@ missing_below : (x : ResolverFacts) (v : ℕ) → has (missing x) v ≡ true →
 missing_below x v is =
     let first = scan_start x in
     let outer = has-filter (λ u. not (has_covering x.nullifications u)) (anchors (term_length x) first x.current) v in
-    let inner = has-filter (λ u. starts_term (term_length x) u || u == first) (range_with_len first (x.current - first)) v in
+    let inner = has-filter (λ u. starts_term (term_length x) u || u == first) (range_with_len first (x.current - first))
+    v in
     let range = has-range first (x.current - first) v in
-    within first x.current v (not (has_covering x.nullifications v)) (starts_term (term_length x) v || v == first) (has (missing x) v) (has (anchors (term_length x) first x.current) v) (has (range_with_len first (x.current - first)) v)
+    within first x.current v (not (has_covering x.nullifications v)) (starts_term (term_length x) v || v == first)
+    (has (missing x) v) (has (anchors (term_length x) first x.current) v)
+    (has (range_with_len first (x.current - first)) v)
     outer inner range is
   where
-    within : (first current v : ℕ) (bare anchor found between inside : Bool) → found ≡ (bare && between) → between ≡ (anchor && inside) → inside ≡ (nat_le first v && nat_lt v (first + (current - first)))
+    within : (first current v : ℕ) (bare anchor found between inside : Bool) → found ≡ (bare && between)
+        → between ≡ (anchor && inside) → inside ≡ (nat_le first v && nat_lt v (first + (current - first)))
         → found ≡ true → v < current
-    within first current v bare anchor found between inside is among range there = grind (arith, nat_tests, is, among, range, there)
+    within first current v bare anchor found between inside is among range there =
+        grind (arith, nat_tests, is, among, range, there)
 
-scan_opens : (b : Bool) (x : ResolverFacts) (cause v : ℕ) → is_outstanding (cond b [] (missing_fetches cause (missing x))) v ≡ true → v < x.current
+scan_opens : (b : Bool) (x : ResolverFacts) (cause v : ℕ)
+    → is_outstanding (cond b [] (missing_fetches cause (missing x))) v ≡ true → v < x.current
 scan_opens true x cause v is = absurd (cc)
-scan_opens false x cause v is = missing_below x v (sym (fetches-map (λ _. cause) MissingNullification (missing x) v) ∙ is)
+scan_opens false x cause v is = missing_below x v
+    (sym (fetches-map (λ _. cause) MissingNullification (missing x) v) ∙ is)
 
 -- after effects that open none, the others do
-opened_behind : (es fs : List Effect) (v : ℕ) → is_outstanding es v ≡ false → is_outstanding (es ++ fs) v ≡ true → is_outstanding fs v ≡ true
+opened_behind : (es fs : List Effect) (v : ℕ) → is_outstanding es v ≡ false → is_outstanding (es ++ fs) v ≡ true
+    → is_outstanding fs v ≡ true
 opened_behind es fs v none is = let parts = is_outstanding-append es fs v in grind (arith, parts, none, is)
 
 -- a call that scans
-scanning_opens : (x : ResolverFacts) (call : Call) (cause v : ℕ) → is_outstanding (settle_effects x call ++ scan_fetches (before_scan x call) cause) v ≡ true → v ≤ max x.current (view_told call)
+scanning_opens : (x : ResolverFacts) (call : Call) (cause v : ℕ)
+    → is_outstanding (settle_effects x call ++ scan_fetches (before_scan x call) cause) v ≡ true
+    → v ≤ max x.current (view_told call)
 scanning_opens x call cause v is =
     let y = before_scan x call in
-    let below = scan_opens y.replaying y cause v (opened_behind (settle_effects x call) (scan_fetches y cause) v (settling_opens_none x call v) is) in
+    let below = scan_opens y.replaying y cause v
+    (opened_behind (settle_effects x call) (scan_fetches y cause) v (settling_opens_none x call v) is) in
     omega (arith, below, current_before x call)
 
 failing_is : (b : Bool) (u v : ℕ) → has (cond b (u ∷ []) []) v ≡ true → v ≡ u
 failing_is true u v is = grind (arith, nat_tests, is)
 failing_is false u v is = absurd (cc)
 
-opened_up_to : (x : ResolverFacts) (call : Call) (v : ℕ) → is_replayed call ≡ false → is_outstanding (effects x call) v ≡ true → v ≤ max x.current (view_told call)
+opened_up_to : (x : ResolverFacts) (call : Call) (v : ℕ) → is_replayed call ≡ false
+    → is_outstanding (effects x call) v ≡ true → v ≤ max x.current (view_told call)
 opened_up_to x (Nullification u encoding) v lasts is = scanning_opens x (Nullification u encoding) u v is
 opened_up_to x (Notarization u) v lasts is = scanning_opens x (Notarization u) u v is
 opened_up_to x (Finalization u encoding) v lasts is = scanning_opens x (Finalization u encoding) u v is
 opened_up_to x (Verdict u encoding true) v lasts is = scanning_opens x (Verdict u encoding true) u v is
 opened_up_to x (Verdict u encoding false) v lasts is =
     let asked = opened_behind (settle_effects x (Verdict u encoding false)) (failure_fetches (failing x u)) v refl is in
-    let at = failing_is (not x.replaying && needs_nullification x u) u v (sym (fetches-map (λ w. w) CertificationFailed (failing x u) v) ∙ asked) in
+    let at = failing_is (not x.replaying && needs_nullification x u) u v
+    (sym (fetches-map (λ w. w) CertificationFailed (failing x u) v) ∙ asked) in
     omega (arith, at)
 opened_up_to x Replayed v lasts is = absurd (cc)
 
 -- a call of a view up to this one
-pub made_up_to : (top : ℕ) (call : Call) (r left : LawfulResolverFacts) → is_replayed call ≡ false → view_told call ≤ top → IsUpTo top r → IsMade call r (effects r.state call) left → IsUpTo top left
+pub made_up_to : (top : ℕ) (call : Call) (r left : LawfulResolverFacts) → is_replayed call ≡ false
+    → view_told call ≤ top → IsUpTo top r → IsMade call r (effects r.state call) left → IsUpTo top left
 made_up_to top call r left lasts low is made = record {
   heard = let same = ap (λ x. x.current) made.state in omega (arith, same, current_after r.state call, is.heard, low);
   wanted = λ v asked.
-      by_either v (has r.open_fetches v) (not (list_any (settles v) (effects r.state call))) (is_outstanding (effects r.state call) v) (is.wanted v)
+      by_either v (has r.open_fetches v) (not (list_any (settles v) (effects r.state call)))
+      (is_outstanding (effects r.state call) v) (is.wanted v)
       (λ opened. omega (arith, opened_up_to r.state call v lasts opened, is.heard, low)) (sym (made.applied v) ∙ asked);
 }
   where
-    by_either : (v : ℕ) (was stays opened : Bool) → (was ≡ true → v ≤ top) → (opened ≡ true → v ≤ top) → ((was && stays) || opened) ≡ true → v ≤ top
+    by_either : (v : ℕ) (was stays opened : Bool) → (was ≡ true → v ≤ top) → (opened ≡ true → v ≤ top)
+        → ((was && stays) || opened) ≡ true → v ≤ top
     by_either v was stays true before now is = now refl
     by_either v true stays false before now is = before refl
     by_either v false stays false before now is = absurd (cc)
 
 -- ---- all that a resolver received
 
-current_of_told : (top : ℕ) (calls : List Call) → AllByRecursion (λ call. view_told call ≤ top) calls → current_of calls ≤ top
+current_of_told : (top : ℕ) (calls : List Call) → AllByRecursion (λ call. view_told call ≤ top) calls
+    → current_of calls ≤ top
 current_of_told top [] all = omega arith
 current_of_told top (call ∷ calls) all = omega (arith, view_current call, all.0, current_of_told top calls all.1)
 
@@ -173,7 +200,8 @@ false_verdict_is (Verdict u encoding true) v is = absurd (cc)
 false_verdict_is (Verdict u encoding false) v is = grind (arith, nat_tests, is)
 false_verdict_is Replayed v is = absurd (cc)
 
-false_verdict_told : (top : ℕ) (calls : List Call) (v : ℕ) → AllByRecursion (λ call. view_told call ≤ top) calls → list_any (is_false_verdict v) calls ≡ true → v ≤ top
+false_verdict_told : (top : ℕ) (calls : List Call) (v : ℕ) → AllByRecursion (λ call. view_told call ≤ top) calls
+    → list_any (is_false_verdict v) calls ≡ true → v ≤ top
 false_verdict_told top [] v all is = absurd (cc)
 false_verdict_told top (call ∷ calls) v all is =
     elim (or_cases (is_false_verdict v call) (list_any (is_false_verdict v) calls) is) [
@@ -182,13 +210,16 @@ false_verdict_told top (call ∷ calls) v all is =
     ]
 
 -- a view is wanted below the current one, or after a false verdict
-wanted_is : (bare anchor low failed above wanted : Bool) → wanted ≡ (bare && ((anchor && low) || (failed && above))) → wanted ≡ true → (low || failed) ≡ true
+wanted_is : (bare anchor low failed above wanted : Bool) → wanted ≡ (bare && ((anchor && low) || (failed && above)))
+    → wanted ≡ true → (low || failed) ≡ true
 wanted_is bare anchor low failed above wanted is there = grind (arith, is, there)
 
-wanted_told : (top t : ℕ) (calls : List Call) (v : ℕ) → AllByRecursion (λ call. view_told call ≤ top) calls → is_needed t calls v ≡ true → v ≤ top
+wanted_told : (top t : ℕ) (calls : List Call) (v : ℕ) → AllByRecursion (λ call. view_told call ≤ top) calls
+    → is_needed t calls v ≡ true → v ≤ top
 wanted_told top t calls v all is =
     elim (or_cases (nat_lt v (current_of calls)) (list_any (is_false_verdict v) calls)
-    (wanted_is (not (list_any (is_covering t v) calls)) (is_anchor t (floor_of calls) v) (nat_lt v (current_of calls)) (list_any (is_false_verdict v) calls) (nat_lt (floor_of calls) v) (is_needed t calls v) refl is)) [
+    (wanted_is (not (list_any (is_covering t v) calls)) (is_anchor t (floor_of calls) v) (nat_lt v (current_of calls))
+    (list_any (is_false_verdict v) calls) (nat_lt (floor_of calls) v) (is_needed t calls v) refl is)) [
       | inl below ↦ lower v (current_of calls) below (current_of_told top calls all)
       | inr failed ↦ false_verdict_told top calls v all failed
     ]
@@ -197,15 +228,18 @@ wanted_told top t calls v all is =
     lower v current below low = grind (arith, nat_tests, below, low)
 
 -- whatever it received about views up to this one, once its replay has ended
-pub told_up_to : (top : ℕ) (t : ℕ) (calls : List Call) (r : LawfulResolverFacts) → HasReceivedCalls t calls r → list_any is_replayed calls ≡ true → AllByRecursion (λ call. view_told call ≤ top) calls → IsUpTo top r
+pub told_up_to : (top : ℕ) (t : ℕ) (calls : List Call) (r : LawfulResolverFacts) → HasReceivedCalls t calls r
+    → list_any is_replayed calls ≡ true → AllByRecursion (λ call. view_told call ≤ top) calls → IsUpTo top r
 told_up_to top t calls r told replayed all = record {
-  heard = let same = ap (λ x. x.current) told.state ∙ (stands t calls told.long told.named).current in omega (arith, same, current_of_told top calls all);
+  heard = let same = ap (λ x. x.current) told.state ∙ (stands t calls told.long told.named).current in
+      omega (arith, same, current_of_told top calls all);
   wanted = λ v asked. wanted_told top t calls v all (sym (opens_the_wanted r t calls told replayed v) ∙ asked);
 }
 
 -- ---- a record
 
-all_of_both : (top : ℕ) (later earlier : List Call) → AllByRecursion (λ call. view_told call ≤ top) later → AllByRecursion (λ call. view_told call ≤ top) earlier
+all_of_both : (top : ℕ) (later earlier : List Call) → AllByRecursion (λ call. view_told call ≤ top) later
+    → AllByRecursion (λ call. view_told call ≤ top) earlier
     → AllByRecursion (λ call. view_told call ≤ top) (later ++ earlier)
 all_of_both top [] earlier all rest = rest
 all_of_both top (call ∷ later) earlier all rest = (all.0, all_of_both top later earlier all.1 rest)
@@ -230,36 +264,56 @@ module _ {D : Type 0} (bytes : D → List ℕ) (top : ℕ) where
   rest_low e before low c among = low c (Contains-append_right (e ∷ []) before (Accepted c) among)
 
   -- a verdict is of the view of an accepted notarization
-  verdict_told : (v : ℕ) (success : Bool) (before : List (ArtifactFacts D)) → AreLow before → AllByRecursion (λ call. view_told call ≤ top) (verdict_on bytes (newest_notarization v before) success)
+  verdict_told : (v : ℕ) (success : Bool) (before : List (ArtifactFacts D)) → AreLow before
+      → AllByRecursion (λ call. view_told call ≤ top) (verdict_on bytes (newest_notarization v before) success)
   verdict_told v success [] low = tt
   verdict_told v success (Accepted (Notarized n) ∷ before) low =
-      by_test (n.proposal.round.view == v) (low (Notarized n) (0, omega arith, refl)) (verdict_told v success before (rest_low (Accepted (Notarized n)) before low))
+      by_test (n.proposal.round.view == v) (low (Notarized n) (0, omega arith, refl))
+      (verdict_told v success before (rest_low (Accepted (Notarized n)) before low))
     where
-      by_test : (b : Bool) → n.proposal.round.view ≤ top → AllByRecursion (λ call. view_told call ≤ top) (verdict_on bytes (newest_notarization v before) success)
-          → AllByRecursion (λ call. view_told call ≤ top) (verdict_on bytes (option_or (cond b (Some n) None) (newest_notarization v before)) success)
+      by_test : (b : Bool) → n.proposal.round.view ≤ top
+          → AllByRecursion (λ call. view_told call ≤ top) (verdict_on bytes (newest_notarization v before) success)
+          → AllByRecursion (λ call. view_told call ≤ top)
+          (verdict_on bytes (option_or (cond b (Some n) None) (newest_notarization v before)) success)
       by_test true here there = (here, tt)
       by_test false here there = there
-  verdict_told v success (Accepted (Nullified n) ∷ before) low = verdict_told v success before (rest_low (Accepted (Nullified n)) before low)
-  verdict_told v success (Accepted (Finalized f) ∷ before) low = verdict_told v success before (rest_low (Accepted (Finalized f)) before low)
-  verdict_told v success (NotarizeVote p i ∷ before) low = verdict_told v success before (rest_low (NotarizeVote p i) before low)
-  verdict_told v success (NullifyVote round i ∷ before) low = verdict_told v success before (rest_low (NullifyVote round i) before low)
-  verdict_told v success (FinalizeVote p i ∷ before) low = verdict_told v success before (rest_low (FinalizeVote p i) before low)
-  verdict_told v success (VerdictOf round b ∷ before) low = verdict_told v success before (rest_low (VerdictOf round b) before low)
+  verdict_told v success (Accepted (Nullified n) ∷ before) low =
+      verdict_told v success before (rest_low (Accepted (Nullified n)) before low)
+  verdict_told v success (Accepted (Finalized f) ∷ before) low =
+      verdict_told v success before (rest_low (Accepted (Finalized f)) before low)
+  verdict_told v success (NotarizeVote p i ∷ before) low =
+      verdict_told v success before (rest_low (NotarizeVote p i) before low)
+  verdict_told v success (NullifyVote round i ∷ before) low =
+      verdict_told v success before (rest_low (NullifyVote round i) before low)
+  verdict_told v success (FinalizeVote p i ∷ before) low =
+      verdict_told v success before (rest_low (FinalizeVote p i) before low)
+  verdict_told v success (VerdictOf round b ∷ before) low =
+      verdict_told v success before (rest_low (VerdictOf round b) before low)
 
-  entry_told : (e : ArtifactFacts D) (before : List (ArtifactFacts D)) → AreLow (e ∷ before) → AllByRecursion (λ call. view_told call ≤ top) (entry_calls bytes before e)
+  entry_told : (e : ArtifactFacts D) (before : List (ArtifactFacts D)) → AreLow (e ∷ before)
+      → AllByRecursion (λ call. view_told call ≤ top) (entry_calls bytes before e)
   entry_told (Accepted c) before low = (update_told c (low c (0, omega arith, refl)), tt)
-  entry_told (VerdictOf round success) before low = verdict_told round.view success before (rest_low (VerdictOf round success) before low)
+  entry_told (VerdictOf round success) before low =
+      verdict_told round.view success before (rest_low (VerdictOf round success) before low)
   entry_told (NotarizeVote p i) before low = tt
   entry_told (NullifyVote round i) before low = tt
   entry_told (FinalizeVote p i) before low = tt
 
-  pub record_told : (entries : List (ArtifactFacts D)) → ((c : CertificateFacts D) → Contains entries (Accepted c) → view_of_certificate c ≤ top) → AllByRecursion (λ call. view_told call ≤ top) (calls_of bytes entries)
+  pub record_told : (entries : List (ArtifactFacts D))
+      → ((c : CertificateFacts D) → Contains entries (Accepted c) → view_of_certificate c ≤ top)
+      → AllByRecursion (λ call. view_told call ≤ top) (calls_of bytes entries)
   record_told [] low = tt
-  record_told (e ∷ before) low = all_of_both top (entry_calls bytes before e) (calls_of bytes before) (entry_told e before low) (record_told before (rest_low e before low))
+  record_told (e ∷ before) low = all_of_both top (entry_calls bytes before e) (calls_of bytes before)
+      (entry_told e before low) (record_told before (rest_low e before low))
 
 -- a resolver that has replayed a record
-pub begun_up_to : {D : Type 0} (bytes : D → List ℕ) (top t : ℕ) (entries : List (ArtifactFacts D)) (r : LawfulResolverFacts)
-    → HasReceivedCalls t (Replayed ∷ calls_of bytes (reverse entries)) r → ((c : CertificateFacts D) → Contains entries (Accepted c) → view_of_certificate c ≤ top) → IsUpTo top r
+pub begun_up_to : {D : Type 0} (bytes : D → List ℕ) (top t : ℕ) (entries : List (ArtifactFacts D))
+    (r : LawfulResolverFacts)
+    → HasReceivedCalls t (Replayed ∷ calls_of bytes (reverse entries)) r
+    → ((c : CertificateFacts D) → Contains entries (Accepted c) → view_of_certificate c ≤ top) → IsUpTo top r
 begun_up_to bytes top t entries r told low =
-    told_up_to top t (Replayed ∷ calls_of bytes (reverse entries)) r told refl
-    (omega arith, record_told bytes top (reverse entries) (λ c among. low c (reversed_contains entries (Accepted c) among)))
+    told_up_to top t (Replayed ∷ calls_of bytes (reverse entries)) r told refl (
+      omega arith,
+      record_told bytes top (reverse entries)
+          (λ c among. low c (reversed_contains entries (Accepted c) among)),
+    )

@@ -7,4 +7,6 @@ pub loop-fetch-preserved : goal.loop-fetch-preserved
 loop-fetch-preserved c =
     let within : c.loop-fetch.fetch-index < length c.args.fetches.now = omega arith in
     let more = take_more c.args.fetches.now c.loop-fetch.fetch-index c.fetch-item.result within in
-    rw (c.first_of.ensures, more, ← c.fetch-item.is) (earlier (take c.loop-fetch.fetch-index c.args.fetches.now) c.fetch-item.result c.loop-fetch.earliest c.loop-fetch.invariant)
+    rw (c.first_of.ensures, more, ← c.fetch-item.is)
+    (earlier (take c.loop-fetch.fetch-index c.args.fetches.now) c.fetch-item.result c.loop-fetch.earliest
+    c.loop-fetch.invariant)

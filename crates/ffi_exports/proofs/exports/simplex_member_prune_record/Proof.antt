@@ -1,4 +1,5 @@
--- `simplex_member_prune_record` answers at null, and else lends what lies at the pointer for the call of `pass_pruned`, and has it back.
+-- `simplex_member_prune_record` answers at null, and else lends what lies at the pointer for the call of `pass_pruned`,
+-- and has it back.
 use Rattle.ffi_exports.proofs.Steps.{◌≡◌, ℕ, [], ◌∷◌, refl, MutBor, proved, full_share, id⊢, Lft, ftrue, flft, flent, fex, fsep, named, vptr, fact, tables, ‵, raw, ◌⊛◌, some, later, prop, at_ret, ◌$◌, ◌∵◌, !, qed, done, move, keep, drop, use1, use3, split, join, fsplit, fjoin, fpack, pick, await, regoal, suffices, group, lft_new, lft_end, enter, of_opd, addr, stop, no_more, and_then, first, blocks, exec, returns, alloc_all, pass_all, free_all, look_at, get, through, sets, sets_last, lands_as, env, yes, Is, shows, lends_ref, ref_back, Body, mem, Ptr, RawPtr, block_ptr, lies_at, rawptr_vals, rawptr_Tells, MutRef, mut_vals, plain, nothing, heard, peeks, calls_at, lasts, Lasts, on_entry, triple_of, framed, Stays, walk_of, stay_dropped, Goes-dropped, ends_at, rewrite, inl, inr, lit<, fpick, bin, lit, skips, branches, returns_within, null_ptr, Testable, tests_null, null_or_not}
 use prog.Wp.{WpFn}
 use Rattle.ffi_exports.specs.contracts.exports.simplex_member_prune_record as f
@@ -37,12 +38,16 @@ simplex_member_prune_record_spec 𝓤 𝓛 𝓜 𝓡 wired =
           let G = triple_of 𝓛 n.signature (n.spec 𝓛 𝓜.mem 𝓡.returns) in
           let z : G.Ghost = ((tt, tt, tt, tt, tt), tt) in
           nothing ! $ nothing ! $ join ! $ nothing ! $ move ! (1 ∷ 0 ∷ []) $ join ! $ use1 𝓛 (raw (G.pre z)) (id⊢ 𝓤 _) $
-          calls_at ! (framed 𝓤 𝓛.H 𝓜 (tables 𝓤 𝓛.H 𝓜 𝓡 𝓡.env)) G (met_null 𝓤 𝓛 𝓜 𝓡 (code.calls-ffi_member::null_handle::entries 𝓡.env wired)) z (no_more !) (λ v.
+          calls_at ! (framed 𝓤 𝓛.H 𝓜 (tables 𝓤 𝓛.H 𝓜 𝓡 𝓡.env)) G
+          (met_null 𝓤 𝓛 𝓜 𝓡 (code.calls-ffi_member::null_handle::entries 𝓡.env wired)) z (no_more !) (λ v.
           use1 𝓛 (later (some (λ (u : FlatEntries). (‵ ftrue ⊛ ‵ (A.own_val u (v ∷ []))) ⊛
-          some (λ (ws : Lasts n.ended z.0.0 z.0.3). ‵ (lasts n.ended z.0.0 z.0.3 ws) ⊛ raw (fact 𝓤 (u.status ≡ 15)))))) (id⊢ 𝓤 _) $
+          some (λ (ws : Lasts n.ended z.0.0 z.0.3). ‵ (lasts n.ended z.0.0 z.0.3 ws) ⊛ raw (fact 𝓤 (u.status ≡ 15))))))
+          (id⊢ 𝓤 _) $
           await ! tt $ pick ! (λ u. split ! $ split ! $ drop ! $
-          peeks ! A (Is A) (shows 𝓛 A) u (v ∷ []) (λ is. lands_as ! refl refl ((answer.the_row_laws.lawful 𝓛).typed u (v ∷ []) is).0 $
-          move ! (1 ∷ []) $ pick ! (λ ws. split ! $ drop ! $ heard ! _ (λ added. nothing ! $ fpack ! (u.status ≡ 15) (λ _. ftrue) added $
+          peeks ! A (Is A) (shows 𝓛 A) u (v ∷ [])
+          (λ is. lands_as ! refl refl ((answer.the_row_laws.lawful 𝓛).typed u (v ∷ []) is).0 $
+          move ! (1 ∷ []) $ pick !
+          (λ ws. split ! $ drop ! $ heard ! _ (λ added. nothing ! $ fpack ! (u.status ≡ 15) (λ _. ftrue) added $
           returns_within ! (W.post (y null_ptr)) refl (look_at ! 0 refl) $ free_all ! refl $ keep ! (1 ∷ 0 ∷ []) $
           suffices ! _ (ends_at 𝓛 f.ended stayed c (y null_ptr) v u (tt, tt) (tt, tt)) $
           nothing ! $ nothing ! $ join ! $ nothing ! $ group ! 3 $ done !)))))) (λ t. absurd t))
@@ -54,32 +59,41 @@ simplex_member_prune_record_spec 𝓤 𝓛 𝓜 𝓡 wired =
           sets ! (of_opd ! (get ! refl)) refl (tt, tt) $
           sets ! (bin ! (get ! refl) (lit ! tt) (tests_null (block_ptr b o) may)) refl (tt, tt) $
           first ! $ branches ! (get ! refl) (λ t. absurd t) (λ t. skips ! $
-          exec ! 𝓣.C 𝓣.Λ (env code.Mir.locals l) code.Mir.t-4 (at_ret (env code.Mir.locals l) (W.post (y (block_ptr b o)))) $
+          exec ! 𝓣.C 𝓣.Λ (env code.Mir.locals l) code.Mir.t-4
+          (at_ret (env code.Mir.locals l) (W.post (y (block_ptr b o)))) $
           -- [the counter; the locals]
           first ! $ blocks ! $
           sets ! (of_opd ! (get ! refl)) refl (tt, tt) $ sets ! (of_opd ! (get ! refl)) refl (tt, tt) $
           sets_last ! (addr ! (through ! refl (stop !))) refl (tt, tt) $
-          exec ! 𝓣.C 𝓣.Λ (env code.Mir.locals l) code.Mir.t-5 (at_ret (env code.Mir.locals l) (W.post (y (block_ptr b o)))) $
+          exec ! 𝓣.C 𝓣.Λ (env code.Mir.locals l) code.Mir.t-5
+          (at_ret (env code.Mir.locals l) (W.post (y (block_ptr b o)))) $
           sets ! (of_opd ! (get ! refl)) refl (tt, tt) $
           lft_new ! tt (λ α. let κ : Lft = α ∷ [] in move ! (1 ∷ []) $
-          use1 𝓛 (later (some (λ (γ : ℕ). ‵ ((MutRef (named 0) κ R).own_val (record { ref_ptr = (b, o); ghost_name = γ; now = held }) (vptr b o ∷ [])) ⊛ ‵ (flent κ (Body (mem R) b o γ)))))
+          use1 𝓛 (later (some (λ (γ : ℕ). ‵ ((MutRef (named 0) κ R).own_val
+          (record { ref_ptr = (b, o); ghost_name = γ; now = held }) (vptr b o ∷ []))
+          ⊛ ‵ (flent κ (Body (mem R) b o γ)))))
           (lends_ref 𝓛 R (named 0) κ held b o) $ await ! tt $ pick ! (λ γ. split ! $
           -- [the loan; what the lender keeps; the token]
           let r : MutBor Held = record { ref_ptr = (b, o); ghost_name = γ; now = held } in
           let G = triple_of 𝓛 g.signature (g.spec 𝓛 𝓜.mem 𝓡.returns) in
           let z : G.Ghost = (((κ, tt), (full_share, tt), tt, (r, tt), (mut_vals r, tt)), tt) in
           nothing ! $ move ! (1 ∷ 0 ∷ []) $ fjoin ! $
-          nothing ! $ move ! (3 ∷ 0 ∷ []) $ join ! $ join ! $ nothing ! $ move ! (1 ∷ 0 ∷ []) $ join ! $ use1 𝓛 (raw (G.pre z)) (id⊢ 𝓤 _) $
-          calls_at ! (framed 𝓤 𝓛.H 𝓜 (tables 𝓤 𝓛.H 𝓜 𝓡 𝓡.env)) G (met 𝓤 𝓛 𝓜 𝓡 (code.calls-ffi_exports::exports::pass_pruned 𝓡.env wired)) z
+          nothing ! $ move ! (3 ∷ 0 ∷ []) $ join ! $ join ! $ nothing ! $ move ! (1 ∷ 0 ∷ []) $ join ! $ use1 𝓛
+          (raw (G.pre z)) (id⊢ 𝓤 _) $
+          calls_at ! (framed 𝓤 𝓛.H 𝓜 (tables 𝓤 𝓛.H 𝓜 𝓡 𝓡.env)) G
+          (met 𝓤 𝓛 𝓜 𝓡 (code.calls-ffi_exports::exports::pass_pruned 𝓡.env wired)) z
           (and_then ! (get ! refl) (no_more !)) (λ v.
           use1 𝓛 (later (some (λ (u : FlatEntries). ((‵ (flft κ full_share) ⊛ ‵ ftrue) ⊛ ‵ (A.own_val u (v ∷ []))) ⊛
-          some (λ (ws : Lasts g.ended z.0.0 z.0.3). ‵ (lasts g.ended z.0.0 z.0.3 ws) ⊛ raw (fact 𝓤 (IsPruned held u ws.0)))))) (id⊢ 𝓤 _) $
+          some (λ (ws : Lasts g.ended z.0.0 z.0.3). ‵ (lasts g.ended z.0.0 z.0.3 ws)
+          ⊛ raw (fact 𝓤 (IsPruned held u ws.0)))))) (id⊢ 𝓤 _) $
           await ! tt $ pick ! (λ u. split ! $ split ! $ split ! $ lft_end ! tt $
           -- [α is over; nothing; the answer; the rest; what the lender keeps]
-          move ! (2 ∷ []) $ peeks ! A (Is A) (shows 𝓛 A) u (v ∷ []) (λ is. lands_as ! refl refl ((answer.the_row_laws.lawful 𝓛).typed u (v ∷ []) is).0 $
+          move ! (2 ∷ []) $ peeks ! A (Is A) (shows 𝓛 A) u (v ∷ [])
+          (λ is. lands_as ! refl refl ((answer.the_row_laws.lawful 𝓛).typed u (v ∷ []) is).0 $
           move ! (3 ∷ []) $ pick ! (λ ws. split ! $ move ! (1 ∷ []) $ heard ! _ (λ added. fsplit ! $ fsplit ! $
           -- [the loan's last value; its borrow; nothing; the answer; α is over; nothing; what the lender keeps]
-          move ! (4 ∷ 6 ∷ 0 ∷ []) $ use3 𝓛 (later (‵ (lies_at R full_share (block_ptr b o) ws.0))) (ref_back 𝓛 R κ γ ws.0 b o) $ await ! tt $
+          move ! (4 ∷ 6 ∷ 0 ∷ []) $ use3 𝓛 (later (‵ (lies_at R full_share (block_ptr b o) ws.0)))
+          (ref_back 𝓛 R κ γ ws.0 b o) $ await ! tt $
           nothing ! $ fpack ! (Testable (block_ptr b o)) (λ _. ftrue) may $ fjoin ! $
           nothing ! $ fpack ! (IsPruned held u ws.0) (λ _. ftrue) added $ fjoin ! $
           fpack ! Held (λ now. fsep (fact_formula (IsPruned held u now)) (held_at (block_ptr b o) now)) ws.0 $

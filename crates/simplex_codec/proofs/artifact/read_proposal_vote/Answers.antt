@@ -1,4 +1,5 @@
--- How the contract of `read_proposal_vote` follows: a signature that its scheme refuses is the cause, after a signer and a proposal.
+-- How the contract of `read_proposal_vote` follows: a signature that its scheme refuses is the cause, after a signer
+-- and a proposal.
 use Rattle.std.proofs.Common.{sym, ◌∙◌}
 use Rattle.simplex_codec.proofs.artifact.read_proposal_vote.Goals as goal
 

@@ -1,4 +1,5 @@
--- How the contract of `read_with_proposal` follows: a certificate that its scheme refuses is the cause, after a proposal.
+-- How the contract of `read_with_proposal` follows: a certificate that its scheme refuses is the cause, after a
+-- proposal.
 use Rattle.simplex_codec.proofs.Laws.{none_read}
 use Rattle.simplex_codec.proofs.certificate.read_with_proposal.Goals as goal
 
@@ -8,5 +9,6 @@ returns-in-None-clause-refused g c = record {
   own = c.in_ok-proposal.own.now;
   fits = c.in_ok-proposal.ensures.fits;
   parts = c.in_ok-proposal.ensures.parts;
-  unreadable = none_read g.S.CertificateScheme.certificate_bytes c.in_ok-proposal.own.now c.in_ok-certificate.field-0 c.in_ok-certificate.ensures c.in-None.is;
+  unreadable = none_read g.S.CertificateScheme.certificate_bytes c.in_ok-proposal.own.now c.in_ok-certificate.field-0
+      c.in_ok-certificate.ensures c.in-None.is;
 }

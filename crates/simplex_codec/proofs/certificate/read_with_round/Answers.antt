@@ -8,5 +8,6 @@ returns-in-None-clause-refused g c = record {
   own = c.in-Some.own.now;
   fits = c.in-Some.ensures.fits;
   parts = c.in-Some.ensures.parts;
-  unreadable = none_read g.S.CertificateScheme.certificate_bytes c.in-Some.own.now c.in_ok-certificate.field-0 c.in_ok-certificate.ensures c.in-None.is;
+  unreadable = none_read g.S.CertificateScheme.certificate_bytes c.in-Some.own.now c.in_ok-certificate.field-0
+      c.in_ok-certificate.ensures c.in-None.is;
 }

@@ -1,4 +1,5 @@
--- How the contract of `put_proposal_certificate` follows: the kind, the proposal and the certificate come one after another.
+-- How the contract of `put_proposal_certificate` follows: the kind, the proposal and the certificate come one after
+-- another.
 use Rattle.std.proofs.Common.{ap, ◌∙◌, ◌++◌, ◌∷◌, []}
 use Rattle.simplex_types.specs.Encoding.{proposal_bytes}
 use Rattle.simplex_codec.proofs.Appended.{appended}
@@ -10,5 +11,6 @@ returns g c =
     let own = g.S.CertificateScheme.certificate_bytes c.args.certificate.now in
     appended c.args.out.now.items c.put_u8.new.self.items c.put_slice.new.self.items (c.args.kind ∷ []) (front ++ own)
     c.in_ok-put_u8.ensures.ok
-    (appended c.put_u8.new.self.items c.put_proposal.new.out.items c.put_slice.new.self.items front own c.in_ok-put_proposal.ensures.written
+    (appended c.put_u8.new.self.items c.put_proposal.new.out.items c.put_slice.new.self.items front own
+    c.in_ok-put_proposal.ensures.written
     (c.in_ok-put_slice.ensures.ok ∙ ap (λ bytes. c.put_proposal.new.out.items ++ bytes) c.certificate_bytes.ensures))

@@ -10,5 +10,6 @@ returns g c =
     let own = g.S.CertificateScheme.certificate_bytes c.args.certificate.now in
     appended c.args.out.now.items c.put_u8.new.self.items c.put_slice.new.self.items (c.args.kind ∷ []) (front ++ own)
     c.in_ok-put_u8.ensures.ok
-    (appended c.put_u8.new.self.items c.put_round.new.out.items c.put_slice.new.self.items front own c.in_ok-put_round.ensures.written
+    (appended c.put_u8.new.self.items c.put_round.new.out.items c.put_slice.new.self.items front own
+    c.in_ok-put_round.ensures.written
     (c.in_ok-put_slice.ensures.ok ∙ ap (λ bytes. c.put_round.new.out.items ++ bytes) c.certificate_bytes.ensures))

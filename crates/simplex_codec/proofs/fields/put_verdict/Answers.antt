@@ -18,5 +18,7 @@ returns c =
     let own = byte c.args.success ∷ [] in
     appended c.args.out.now.items c.put_u8.new.self.items c.put_u8-2.new.self.items (6 ∷ []) (front ++ own)
     c.in_ok-put_u8.ensures.ok
-    (appended c.put_u8.new.self.items c.put_round.new.out.items c.put_u8-2.new.self.items front own c.in_ok-put_round.ensures.written
-    (c.in_ok-put_u8-2.ensures.ok ∙ ap (λ n. c.put_round.new.out.items ++ (n ∷ [])) (c.from.ensures ∙ same_byte c.args.success)))
+    (appended c.put_u8.new.self.items c.put_round.new.out.items c.put_u8-2.new.self.items front own
+    c.in_ok-put_round.ensures.written
+    (c.in_ok-put_u8-2.ensures.ok ∙ ap (λ n. c.put_round.new.out.items ++ (n ∷ []))
+    (c.from.ensures ∙ same_byte c.args.success)))

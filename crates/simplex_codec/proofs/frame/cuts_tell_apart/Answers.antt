@@ -1,4 +1,5 @@
--- How the contract of `cuts_tell_apart` follows: a check sum has 32 bytes, so whatever changed within a frame leaves as many bytes and is no cut.
+-- How the contract of `cuts_tell_apart` follows: a check sum has 32 bytes, so whatever changed within a frame leaves as
+-- many bytes and is no cut.
 use Rattle.sha2.specs.Sha256.{sha256}
 use Rattle.sha2.proofs.Facts256.{length-sha256}
 use Rattle.simplex_codec.proofs.FrameLaw.{cut_ends, body_ends_not, header_ends_not}

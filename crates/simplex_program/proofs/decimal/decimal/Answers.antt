@@ -1,4 +1,5 @@
--- How the contract of `decimal` follows: a word of digits without padding is the decimal of the number that it is read as, and of no other.
+-- How the contract of `decimal` follows: a word of digits without padding is the decimal of the number that it is read
+-- as, and of no other.
 use Rattle.std.proofs.Common.{rules}
 use Rattle.simplex_program.proofs.Decimals.{decimal-IsUnpadded, reads}
 use Rattle.simplex_program.proofs.decimal.decimal.Goals as goal

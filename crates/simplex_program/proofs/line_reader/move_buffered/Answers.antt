@@ -3,4 +3,5 @@ use Rattle.simplex_program.proofs.Parts.{taken_ahead}
 use Rattle.simplex_program.proofs.line_reader.move_buffered.Goals as goal
 
 pub returns-clause-reader : goal.returns-clause-reader
-returns-clause-reader g c = taken_ahead g.R.Read.remaining c.args.reader.now _ c.args.count c.requires c.consume.ensures.bytes
+returns-clause-reader g c = taken_ahead g.R.Read.remaining c.args.reader.now _ c.args.count c.requires
+    c.consume.ensures.bytes

@@ -15,8 +15,10 @@ loop-try-preserved g c = record {
 pub returns-in-Ok-eq0 : goal.returns-in-Ok-eq0
 returns-in-Ok-eq0 g c =
     let read = rw c.in-Ok-eq0.is at c.read.ensures.bytes in
-    none_given _ _ _ c.in-Ok-eq0.field-0 _ c.in-Ok-eq0.field-0-test (omega (arith, c.read.auto.buf, c.loop-try.invariant.room)) c.loop-try.invariant.taken read
+    none_given _ _ _ c.in-Ok-eq0.field-0 _ c.in-Ok-eq0.field-0-test
+    (omega (arith, c.read.auto.buf, c.loop-try.invariant.room)) c.loop-try.invariant.taken read
 
 pub returns-in-Ok : goal.returns-in-Ok
 returns-in-Ok g c =
-    one_given _ _ _ c.in-Ok.field-0 _ c.in-Ok.field-0-test.1 c.in-Ok.ensures.bound.0 (omega (arith, c.read.auto.buf, c.loop-try.invariant.room)) c.loop-try.invariant.taken c.in-Ok.ensures.bytes.0
+    one_given _ _ _ c.in-Ok.field-0 _ c.in-Ok.field-0-test.1 c.in-Ok.ensures.bound.0
+    (omega (arith, c.read.auto.buf, c.loop-try.invariant.room)) c.loop-try.invariant.taken c.in-Ok.ensures.bytes.0

@@ -1,4 +1,5 @@
--- The loop of `read_line`: the bytes that are read are in the line, and have no feed among them; each part has at least one.
+-- The loop of `read_line`: the bytes that are read are in the line, and have no feed among them; each part has at least
+-- one.
 use Rattle.std.proofs.Common.{◌<◌, ◌≤◌, length}
 use Rattle.std.specs.Io.Buffered.{reader_remaining}
 use Rattle.std.specs.Io.KnownBytes.{Consumes}
@@ -10,5 +11,6 @@ invariant-loop-part g l = record {
   least : l._part ≤ length l.line.items;
   most : length l.line.items < 201;
   passed : IsPassed l.line.items;
-  taken : Consumes (reader_remaining g.R.Read.remaining l.initial.reader) (reader_remaining g.R.Read.remaining l.reader) l.line.items;
+  taken : Consumes (reader_remaining g.R.Read.remaining l.initial.reader) (reader_remaining g.R.Read.remaining l.reader)
+      l.line.items;
 }

@@ -1,4 +1,5 @@
--- How the contract of `write_line` follows: a front of the bytes is written each time, and a write that fails or writes none leaves the rest.
+-- How the contract of `write_line` follows: a front of the bytes is written each time, and a write that fails or writes
+-- none leaves the rest.
 use Rattle.std.proofs.Common.{◌≡◌, ℕ, List, [], drop, Bor, refl, ap, ◌∙◌}
 use Rattle.std.proofs.lemmas.List.{take_rest}
 use Rattle.simplex_program.proofs.ServedLines.{keeps_self, nothing_appended, more_written, as_much_written, front_written, front_and_more_written, all_written}

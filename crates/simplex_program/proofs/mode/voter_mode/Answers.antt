@@ -4,4 +4,7 @@ use Rattle.simplex_program.proofs.Modes.{no_member}
 use Rattle.simplex_program.proofs.mode.voter_mode.Goals as goal
 
 pub returns-in_err-member_of : goal.returns-in_err-member_of
-returns-in_err-member_of c = search (rules, no_member c.args.members.now c.args.me.now c.args.term_length.now c.args.optimistic.now c.in_ok-members.field-0)
+returns-in_err-member_of c = search (
+  rules,
+  no_member c.args.members.now c.args.me.now c.args.term_length.now c.args.optimistic.now c.in_ok-members.field-0,
+)

@@ -9,4 +9,5 @@ loop-byte-preserved g c = λ plain.
     let so_far = c.loop-byte.invariant plain in
     let written = rw (c.laid_out.ensures, c.in_radix.ensures) at c.in_ok-write.ensures.writes in
     let i = c.loop-byte.byte-index in
-    has_written_of_eq _ _ _ _ _ (byte_more c.args.bytes.now i c.loop-byte-test.true (omega (arith, c.type_inv.bytes i))) (has_written_append _ _ _ _ _ _ so_far (written so_far.plain refl))
+    has_written_of_eq _ _ _ _ _ (byte_more c.args.bytes.now i c.loop-byte-test.true (omega (arith, c.type_inv.bytes i)))
+    (has_written_append _ _ _ _ _ _ so_far (written so_far.plain refl))

@@ -11,4 +11,5 @@ returns g c = λ plain ok.
     let second = c.in_ok-write_offers.ensures first.plain refl in
     let third = c.in_ok-write_str-2.ensures.writes second.plain refl in
     has_written_of_eq _ _ _ _ _ (text_around (codes "candidates") offer_word c.args.proposals.now (codes "fetch") fetch_word c.args.fetches.now)
-    (has_written_append _ _ _ _ _ _ first (has_written_append _ _ _ _ _ _ second (has_written_append _ _ _ _ _ _ third (c.write_fetches.ensures third.plain ok))))
+    (has_written_append _ _ _ _ _ _ first (has_written_append _ _ _ _ _ _ second
+    (has_written_append _ _ _ _ _ _ third (c.write_fetches.ensures third.plain ok))))

@@ -8,4 +8,5 @@ use Rattle.simplex_program.proofs.voter_text.write_offers.Given as goal
 abbrev pub invariant-loop-proposal : goal.invariant-loop-proposal
 invariant-loop-proposal g l =
     IsPlainFormatter l.initial.f
-    → HasWritten g.W.Write.write_str_gives l.initial.f (flat_map (λ p. 32 ∷ offer_word p) (take l.proposal-index l.proposals)) l.f
+    → HasWritten g.W.Write.write_str_gives l.initial.f
+    (flat_map (λ p. 32 ∷ offer_word p) (take l.proposal-index l.proposals)) l.f

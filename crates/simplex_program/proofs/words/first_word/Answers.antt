@@ -1,4 +1,5 @@
--- How the contract of `first_word` follows: a text that is split at its first space is the word and the rest, and one without a space is the word.
+-- How the contract of `first_word` follows: a text that is split at its first space is the word and the rest, and one
+-- without a space is the word.
 use Rattle.std.proofs.Common.{lit<, ◌==◌}
 use Rattle.std.proofs.lemmas.List.Splits.{slice_split_first}
 use Rattle.simplex_program.proofs.WordLists.{one_part}

@@ -6,7 +6,8 @@ use Rattle.simplex_view_maps.proofs.CutRows.{on_err, full_cut, joined_pushed, ro
 use Rattle.simplex_view_maps.proofs.rows.add_row.Goals as goal
 
 pub returns-in_err-reserve-clause-cut : goal.returns-in_err-reserve-clause-cut
-returns-in_err-reserve-clause-cut g c = on_err _ (full_cut c.reserve.new.self.items (rw c.reserve.ensures.items c.requires))
+returns-in_err-reserve-clause-cut g c = on_err _
+    (full_cut c.reserve.new.self.items (rw c.reserve.ensures.items c.requires))
 
 pub returns-in_err-row-clause-cut : goal.returns-in_err-row-clause-cut
 returns-in_err-row-clause-cut g c = on_err _ (full_cut c.reserve.new.self.items (rw c.reserve.ensures.items c.requires))
@@ -19,5 +20,8 @@ returns-clause-same g c =
 
 pub returns-clause-room : goal.returns-clause-room
 returns-clause-room g c =
-    let last : deque_len c.push_back_reserved.new.self - 1 ≡ length c.reserve.new.self.items = omega (arith, c.push_back_reserved.ensures.len, c.reserve.new.self.ok.0) in
-    rw (c.push_back_reserved.ensures.items, last) (room_pushed c.reserve.new.self.items c.in_ok-row.row (rw c.reserve.ensures.items c.requires) c.in_ok-row.ensures.len (omega (arith, c.in_ok-row.ensures.exact)))
+    let last : deque_len c.push_back_reserved.new.self - 1 ≡ length c.reserve.new.self.items =
+    omega (arith, c.push_back_reserved.ensures.len, c.reserve.new.self.ok.0) in
+    rw (c.push_back_reserved.ensures.items, last)
+    (room_pushed c.reserve.new.self.items c.in_ok-row.row (rw c.reserve.ensures.items c.requires)
+    c.in_ok-row.ensures.len (omega (arith, c.in_ok-row.ensures.exact)))

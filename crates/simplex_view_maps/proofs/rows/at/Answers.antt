@@ -9,13 +9,15 @@ use Rattle.simplex_view_maps.proofs.rows.at.Goals as goal
 pub index-requires : goal.index-requires
 index-requires g c =
     let apart = div-add-mod' c.args.place row_size in
-    let within = row_within c.args.rows.now.items (c.args.place / row_size) (c.args.place % row_size) c.requires.0 (omega (arith, apart, c.requires.1)) in
+    let within = row_within c.args.rows.now.items (c.args.place / row_size) (c.args.place % row_size) c.requires.0
+    (omega (arith, apart, c.requires.1)) in
     omega (arith, within, c.args.rows.now.ok.0)
 
 pub index-requires-2 : goal.index-requires-2
 index-requires-2 g c =
     let apart = div-add-mod' c.args.place row_size in
-    spot_within c.args.rows.now.items (c.args.place / row_size) (c.args.place % row_size) c.index.result.now c.requires.0 (mod-lt c.args.place (omega arith)) (omega (arith, apart, c.requires.1)) c.index.ensures
+    spot_within c.args.rows.now.items (c.args.place / row_size) (c.args.place % row_size) c.index.result.now
+    c.requires.0 (mod-lt c.args.place (omega arith)) (omega (arith, apart, c.requires.1)) c.index.ensures
 
 pub returns : goal.returns
 returns g c =
@@ -24,6 +26,8 @@ returns g c =
     let o = c.args.place % row_size in
     let apart = div-add-mod' c.args.place row_size in
     let below : k * row_size + o < length (row_entries rows) = omega (arith, apart, c.requires.1) in
-    let spot = spot_within rows k o c.index.result.now c.requires.0 (mod-lt c.args.place (omega arith)) below c.index.ensures in
-    entry_at rows k o c.index.result.now c.index-2.result.now c.requires.0 (row_within rows k o c.requires.0 below) c.index.ensures spot c.index-2.ensures
+    let spot = spot_within rows k o c.index.result.now c.requires.0 (mod-lt c.args.place (omega arith)) below
+    c.index.ensures in
+    entry_at rows k o c.index.result.now c.index-2.result.now c.requires.0 (row_within rows k o c.requires.0 below)
+    c.index.ensures spot c.index-2.ensures
     ∙ ap (λ n. get_or (row_entries rows) n c.index-2.result.now) apart

@@ -14,13 +14,16 @@ returns-clause-lacking g c =
     let fetches = old.fetches.wanted.items in
     let state = c.args.state.now in
     let all = c.may_leave_out.ensures.0 c.if-may_leave_out.false in
-    subst (FetchesTheMissing wanted state) (sym (c.retain_missing.ensures.kept ∙ ap (λ ks. filter (is_missing ks state) fetches) c.fetches.ensures))
-    (asks_lacking old.passed wanted fetches (old.complete all.0) state (subst (λ v. old.passed ≤ v) c.last_finalized-finalized.ensures all.1))
+    subst (FetchesTheMissing wanted state)
+    (sym (c.retain_missing.ensures.kept ∙ ap (λ ks. filter (is_missing ks state) fetches) c.fetches.ensures))
+    (asks_lacking old.passed wanted fetches (old.complete all.0) state
+    (subst (λ v. old.passed ≤ v) c.last_finalized-finalized.ensures all.1))
 
 pub returns-clause-due : goal.returns-clause-due
 returns-clause-due g c = λ now none.
     subst (λ fetches. due_at now fetches ≡ None) (sym c.retain_missing.ensures.kept)
-    (none_due (λ fetch. nat_le fetch.moment now) (is_missing c.fetches.result.now.keys c.args.state.now) c.args.self.now.fetches.wanted.items none)
+    (none_due (λ fetch. nat_le fetch.moment now) (is_missing c.fetches.result.now.keys c.args.state.now)
+    c.args.self.now.fetches.wanted.items none)
 
 pub invariant_of-self : goal.invariant_of-self
 invariant_of-self g c =
@@ -29,17 +32,21 @@ invariant_of-self g c =
     let fetches = old.fetches.wanted.items in
     let state = c.args.state.now in
     let all = c.may_leave_out.ensures.0 c.if-may_leave_out.false in
-    let left = subst (FetchesTheMissing wanted state) (sym (c.retain_missing.ensures.kept ∙ ap (λ ks. filter (is_missing ks state) fetches) c.fetches.ensures))
-    (asks_lacking old.passed wanted fetches (old.complete all.0) state (subst (λ v. old.passed ≤ v) c.last_finalized-finalized.ensures all.1)) in
+    let left = subst (FetchesTheMissing wanted state)
+    (sym (c.retain_missing.ensures.kept ∙ ap (λ ks. filter (is_missing ks state) fetches) c.fetches.ensures))
+    (asks_lacking old.passed wanted fetches (old.complete all.0) state
+    (subst (λ v. old.passed ≤ v) c.last_finalized-finalized.ensures all.1)) in
     record {
-      complete = λ up. subst (λ v. FetchesTheOutstanding v wanted c.retain_missing.new.self.wanted.items) (sym c.last_finalized-finalized.ensures) left.wanted_all;
+      complete = λ up. subst (λ v. FetchesTheOutstanding v wanted c.retain_missing.new.self.wanted.items)
+          (sym c.last_finalized-finalized.ensures) left.wanted_all;
     }
 
 pub returns-clause-kept : goal.returns-clause-kept
 returns-clause-kept g c =
     let old = c.args.self.now in
     record {
-      fetches_now = c.retain_missing.ensures.kept ∙ ap (λ ks. filter (is_missing ks c.args.state.now) old.fetches.wanted.items) c.fetches.ensures;
+      fetches_now = c.retain_missing.ensures.kept
+          ∙ ap (λ ks. filter (is_missing ks c.args.state.now) old.fetches.wanted.items) c.fetches.ensures;
       peers = c.retain_missing.ensures.same.0;
       retry = c.retain_missing.ensures.same.1;
       resolver = refl;

@@ -13,6 +13,7 @@ invariant_of-result c = record {
   complete = λ up v is high.
       let views = c.args.resolver.open_fetches in
       let before = c.args.fetches.wanted.items in
-      subst (λ xs. is_fetch_open Nullification v xs ≡ true) (sym (c.in_ok-open_all.ensures.opened ∙ ap (λ ks. wanting ks before) c.fetches.ensures))
+      subst (λ xs. is_fetch_open Nullification v xs ≡ true)
+      (sym (c.in_ok-open_all.ensures.opened ∙ ap (λ ks. wanting ks before) c.fetches.ensures))
       (asks_wanting views before v (ap (λ b. b || is_fetch_open Nullification v before) is));
 }

@@ -18,9 +18,12 @@ returns-clause-kept g c = λ given kept.
       lawful = c.next.ensures.continues given kept.lawful;
       stored = λ lives.
           subst (IsBeginningOf g.S.CertificateScheme.certificate_bytes old.member old.stored)
-          (ap (λ queued. journal_of (given ++ queued)) c.next.ensures.front ∙ ap journal_of (sym (append_assoc given out c.next.new.self.queue.items)))
+          (ap (λ queued. journal_of (given ++ queued)) c.next.ensures.front
+          ∙ ap journal_of (sym (append_assoc given out c.next.new.self.queue.items)))
           (kept.stored lives);
-      emitted = λ lives. subst AllAreReturned (ap (λ queued. given ++ queued) c.next.ensures.front ∙ sym (append_assoc given out c.next.new.self.queue.items)) (kept.emitted lives);
+      emitted = λ lives. subst AllAreReturned
+          (ap (λ queued. given ++ queued) c.next.ensures.front
+          ∙ sym (append_assoc given out c.next.new.self.queue.items)) (kept.emitted lives);
       told = subst (λ t. IfSome old.member.facts.life (λ x. t ≡ x.finalized)) (sym c.next.ensures.told) kept.told;
       reaching = kept.reaching;
     }
@@ -36,13 +39,19 @@ returns-clause-traced g c = λ term_length i earlier given all is.
       kept = returns-clause-kept g c given is.kept;
       done = is.done;
       signed = is.signed;
-      finals = subst (λ outs. WereAccepted all (finals_in outs)) (ap (λ queued. given ++ queued) c.next.ensures.front ∙ sym (append_assoc given out c.next.new.self.queue.items)) is.finals;
+      finals = subst (λ outs. WereAccepted all (finals_in outs))
+          (ap (λ queued. given ++ queued) c.next.ensures.front
+          ∙ sym (append_assoc given out c.next.new.self.queue.items)) is.finals;
       stops = λ lives.
-          subst (MayStopAfterEach g.D.PartialEq.eq g.L.Elector.elect g.S.CertificateScheme.certificate_bytes term_length i earlier all)
-          (ap (λ queued. given ++ queued) c.next.ensures.front ∙ sym (append_assoc given out c.next.new.self.queue.items)) (is.stops lives);
+          subst (MayStopAfterEach g.D.PartialEq.eq g.L.Elector.elect g.S.CertificateScheme.certificate_bytes term_length
+          i earlier all)
+          (ap (λ queued. given ++ queued) c.next.ensures.front
+          ∙ sym (append_assoc given out c.next.new.self.queue.items)) (is.stops lives);
       amid = λ lives.
-          subst (λ outs. MayStopAmid g.D.PartialEq.eq g.L.Elector.elect g.S.CertificateScheme.certificate_bytes term_length i earlier all outs old.member old.stored)
-          (ap (λ queued. given ++ queued) c.next.ensures.front ∙ sym (append_assoc given out c.next.new.self.queue.items)) (is.amid lives);
+          subst (λ outs. MayStopAmid g.D.PartialEq.eq g.L.Elector.elect g.S.CertificateScheme.certificate_bytes
+          term_length i earlier all outs old.member old.stored)
+          (ap (λ queued. given ++ queued) c.next.ensures.front
+          ∙ sym (append_assoc given out c.next.new.self.queue.items)) (is.amid lives);
     }
 
 pub returns-clause-signed : goal.returns-clause-signed
@@ -50,5 +59,6 @@ returns-clause-signed g c i key given is = record {
   signs = is.signs;
   recorded = is.recorded;
   stored = subst (λ outs. AreSigned g.S.Scheme.IsSignature i key (votes_of_entries (stored_in outs)))
-      (ap (λ queued. given ++ queued) c.next.ensures.front ∙ sym (append_assoc given (option_to_list c.next.result) c.next.new.self.queue.items)) is.stored;
+      (ap (λ queued. given ++ queued) c.next.ensures.front
+      ∙ sym (append_assoc given (option_to_list c.next.result) c.next.new.self.queue.items)) is.stored;
 }

@@ -25,8 +25,10 @@ returns-clause-continues g c =
     (pushed bytes_of old new refl refl refl refl c.push.ensures.continues c.args.work)
     (kept_as_it_was bytes_of old new refl refl refl refl c.push.ensures.continues))
     (by_result c.push.result c.push.ensures.queued c.push.ensures.kept
-    (λ is. traced_pushed g.D.PartialEq.eq g.L.Elector.elect g.S.CertificateScheme.certificate_bytes old new refl refl (pushed bytes_of old new refl refl refl refl c.push.ensures.continues c.args.work is) refl c.args.work is)
-    (λ is. traced_stayed g.D.PartialEq.eq g.L.Elector.elect g.S.CertificateScheme.certificate_bytes old new refl refl (kept_as_it_was bytes_of old new refl refl refl refl c.push.ensures.continues is) refl is))
+    (λ is. traced_pushed g.D.PartialEq.eq g.L.Elector.elect g.S.CertificateScheme.certificate_bytes old new refl refl
+    (pushed bytes_of old new refl refl refl refl c.push.ensures.continues c.args.work is) refl c.args.work is)
+    (λ is. traced_stayed g.D.PartialEq.eq g.L.Elector.elect g.S.CertificateScheme.certificate_bytes old new refl refl
+    (kept_as_it_was bytes_of old new refl refl refl refl c.push.ensures.continues is) refl is))
     (returns-clause-signed g c)
     (by_result c.push.result c.push.ensures.queued c.push.ensures.kept
     (become_tells (output.Work c.args.work ∷ []) old.outbox.repeat old.outbox new.outbox refl)

@@ -24,8 +24,11 @@ returns-clause-continues g c =
     (repeated bytes_of old new refl refl refl refl c.repeat.ensures.continues c.args.view)
     (kept_as_it_was bytes_of old new refl refl refl refl c.repeat.ensures.continues))
     (by_answer c.repeat.result c.repeat.ensures.queued c.repeat.ensures.kept
-    (λ sent is. traced_repeated g.D.PartialEq.eq g.L.Elector.elect g.S.CertificateScheme.certificate_bytes old new refl refl (repeated bytes_of old new refl refl refl refl c.repeat.ensures.continues c.args.view sent is) refl c.args.view sent is)
-    (λ is. traced_stayed g.D.PartialEq.eq g.L.Elector.elect g.S.CertificateScheme.certificate_bytes old new refl refl (kept_as_it_was bytes_of old new refl refl refl refl c.repeat.ensures.continues is) refl is))
+    (λ sent is. traced_repeated g.D.PartialEq.eq g.L.Elector.elect g.S.CertificateScheme.certificate_bytes old new refl
+    refl (repeated bytes_of old new refl refl refl refl c.repeat.ensures.continues c.args.view sent is) refl
+    c.args.view sent is)
+    (λ is. traced_stayed g.D.PartialEq.eq g.L.Elector.elect g.S.CertificateScheme.certificate_bytes old new refl refl
+    (kept_as_it_was bytes_of old new refl refl refl refl c.repeat.ensures.continues is) refl is))
     (returns-clause-signed g c)
     (by_answer c.repeat.result c.repeat.ensures.queued c.repeat.ensures.kept
     (repeated_tells bytes_of old new c.args.view)

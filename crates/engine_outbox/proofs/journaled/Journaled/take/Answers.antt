@@ -32,10 +32,13 @@ returns-clause-signed g c =
     let old = c.args.self.now in
     let left = c.call-reply.new.self in
     let tells = final_by c.finalized_by-finalized.result c.call-reply.result in
-    let is_reported : IsTold tells old.outbox c.tell.new.self = subst (λ f. IsTold f old.outbox c.tell.new.self) c.final_by.ensures c.tell.ensures.told in
-    called_signed g.S.Scheme.IsSignature old (record old { member = left; outbox = c.tell.new.self }) (signed_reply c.call-reply.result) c.call-reply.ensures.votes
+    let is_reported : IsTold tells old.outbox c.tell.new.self =
+    subst (λ f. IsTold f old.outbox c.tell.new.self) c.final_by.ensures c.tell.ensures.told in
+    called_signed g.S.Scheme.IsSignature old (record old { member = left; outbox = c.tell.new.self })
+    (signed_reply c.call-reply.result) c.call-reply.ensures.votes
     (λ i key. call_signs same elect i key old.member.facts _ _ left.facts c.call-reply.ensures.answered)
-    (λ i key. call_signed same elect g.S.Scheme.IsSignature i key bytes_of old.member.facts left.facts _ c.call-reply.result c.call-reply.ensures.answered c.call-reply.ensures.exact c.call-reply.ensures.signed)
+    (λ i key. call_signed same elect g.S.Scheme.IsSignature i key bytes_of old.member.facts left.facts _
+    c.call-reply.result c.call-reply.ensures.answered c.call-reply.ensures.exact c.call-reply.ensures.signed)
     tells is_reported
 
 pub returns-clause-continues : goal.returns-clause-continues
@@ -50,24 +53,30 @@ returns-clause-continues g c =
     let tells = final_by c.finalized_by-finalized.result answer in
     let more = taken_by call answer ++ votes_in answer in
     let finals : finals_by more ≡ option_to_list tells =
-    final_events call answer c.finalized_by-finalized.result (ap finals_by c.call_with_certificate.ensures.hands ∙ c.finalized_by-finalized.ensures) in
-    let is_reported : IsTold tells old.outbox c.tell.new.self = subst (λ f. IsTold f old.outbox c.tell.new.self) c.final_by.ensures c.tell.ensures.told in
+    final_events call answer c.finalized_by-finalized.result
+    (ap finals_by c.call_with_certificate.ensures.hands ∙ c.finalized_by-finalized.ensures) in
+    let is_reported : IsTold tells old.outbox c.tell.new.self =
+    subst (λ f. IsTold f old.outbox c.tell.new.self) c.final_by.ensures c.tell.ensures.told in
     let rising : ReportsRising (finals_by more) old.outbox c.tell.new.self =
-    subst (λ ps. ReportsRising ps old.outbox c.tell.new.self) (sym finals) (told_tells tells old.outbox c.tell.new.self is_reported) in
+    subst (λ ps. ReportsRising ps old.outbox c.tell.new.self) (sym finals)
+    (told_tells tells old.outbox c.tell.new.self is_reported) in
     let new = record old { member = c.call-reply.new.self; outbox = c.tell.new.self } in
     let keeps = called bytes_of old new refl refl refl c.call-reply.ensures.grown (signed_reply answer)
     c.call-reply.ensures.votes c.call-reply.ensures.stored c.tell.ensures.continues tells is_reported
-    (λ last. told_by_call same elect bytes_of old.member.facts c.call-reply.new.self.facts call answer c.call-reply.ensures.answered
+    (λ last. told_by_call same elect bytes_of old.member.facts c.call-reply.new.self.facts call answer
+    c.call-reply.ensures.answered
     old.outbox.told c.tell.new.self.told last rising.told) in
     record {
       kept = keeps;
       more = more;
       on_this = call_on (Some on) call answer
-          (subst (All (IsActionOn (Some on))) (sym c.call_with_certificate.ensures.hands) (All-cons (IsActionOn (Some on)) (Accepts on) [] refl (All-nil (IsActionOn (Some on)))));
+          (subst (All (IsActionOn (Some on))) (sym c.call_with_certificate.ensures.hands)
+          (All-cons (IsActionOn (Some on)) (Accepts on) [] refl (All-nil (IsActionOn (Some on)))));
       done = c.call-reply.ensures.continues;
       traced = traced_call same elect bytes_of old new more refl refl keeps c.call-reply.ensures.continues
           c.record-record.result.now c.record-record.ensures.entries c.record-record.ensures.votes
-          (call_grows same elect old.member.facts c.call-reply.new.self.facts _ _ c.call-reply.ensures.answered) c.call-reply.ensures.stored
+          (call_grows same elect old.member.facts c.call-reply.new.self.facts _ _ c.call-reply.ensures.answered)
+          c.call-reply.ensures.stored
           (signed_reply answer) c.call-reply.ensures.votes (reply_signed call answer) tells is_reported rising;
       signed = returns-clause-signed g c;
       told = rising;
@@ -78,13 +87,15 @@ returns-clause-continues g c =
 pub returns-clause-answered : goal.returns-clause-answered
 returns-clause-answered g c =
     let bytes_of = g.S.CertificateScheme.certificate_bytes in
-    subst (λ a. IsCall g.D.PartialEq.eq g.L.Elector.elect c.args.self.now.member.facts a (told bytes_of c.call-reply.result) c.call-reply.new.self.facts)
+    subst (λ a. IsCall g.D.PartialEq.eq g.L.Elector.elect c.args.self.now.member.facts a
+    (told bytes_of c.call-reply.result) c.call-reply.new.self.facts)
     c.call_with_certificate.ensures.asked c.call-reply.ensures.answered
 
 pub returns-clause-refused : goal.returns-clause-refused
 returns-clause-refused g c refused =
     let bytes_of = g.S.CertificateScheme.certificate_bytes in
-    refused_left g.D.PartialEq.eq g.L.Elector.elect c.args.self.now.member.facts c.call-reply.new.self.facts (asked bytes_of c.call_with_certificate.result) (told bytes_of c.call-reply.result)
+    refused_left g.D.PartialEq.eq g.L.Elector.elect c.args.self.now.member.facts c.call-reply.new.self.facts
+    (asked bytes_of c.call_with_certificate.result) (told bytes_of c.call-reply.result)
     c.call-reply.ensures.answered refused
 
 pub returns-clause-no_work : goal.returns-clause-no_work

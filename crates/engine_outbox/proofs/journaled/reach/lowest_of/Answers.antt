@@ -11,5 +11,6 @@ loop-entry-preserved g c =
     let entries = c.args.entries.now in
     let i = c.loop-entry.entry-index in
     ap (λ v. lowest_of v (entries_of bytes_of (drop (i + 1) entries))) c.earlier_of-lowest.ensures
-    ∙ lowest_next bytes_of entries i c.entry-item.result c.loop-entry.lowest c.view.result c.entry-item.is c.loop-entry-test.true c.view.ensures
+    ∙ lowest_next bytes_of entries i c.entry-item.result c.loop-entry.lowest c.view.result c.entry-item.is
+    c.loop-entry-test.true c.view.ensures
     ∙ c.loop-entry.invariant

@@ -10,4 +10,5 @@ returns-clause-behind g c = λ given lawful. beginning [] given c.args.self.now.
 pub returns-clause-rising : goal.returns-clause-rising
 returns-clause-rising g c = λ given lawful.
     let queued = c.args.self.now.queue.items in
-    rising_first (finals_in given) (finals_in queued) (subst RiseByView (finalized_in-append given queued) lawful.rising)
+    rising_first (finals_in given) (finals_in queued)
+    (subst RiseByView (finalized_in-append given queued) lawful.rising)

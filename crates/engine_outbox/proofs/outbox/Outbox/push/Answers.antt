@@ -9,4 +9,5 @@ returns-clause-continues g c = λ given lawful.
     (stayed_lawful given c.args.self.now c.queue_work.new.self lawful)
 
 pub returns-clause-grown : goal.returns-clause-grown
-returns-clause-grown g c = by_result c.queue_work.result c.queue_work.ensures.queued c.queue_work.ensures.kept become_more (stayed_more c.args.self.now c.queue_work.new.self)
+returns-clause-grown g c = by_result c.queue_work.result c.queue_work.ensures.queued c.queue_work.ensures.kept
+    become_more (stayed_more c.args.self.now c.queue_work.new.self)

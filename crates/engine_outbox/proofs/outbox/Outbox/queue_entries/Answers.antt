@@ -12,7 +12,8 @@ returns-in-Ok-clause-queued g c = (
     queue = c.in-Ok.ensures.queued.queue ∙ ap (λ batch. c.args.self.now.queue.items ++ batch) c.in_ok-batch.ensures;
     repeat_is =
         c.in-Ok.ensures.queued.repeat_is
-        ∙ ap (λ newest. option_map_or Some newest c.args.self.now.repeat) (c.in_ok-newest.ensures ∙ ap (newest_from None) c.deref.ensures.value)
+        ∙ ap (λ newest. option_map_or Some newest c.args.self.now.repeat)
+        (c.in_ok-newest.ensures ∙ ap (newest_from None) c.deref.ensures.value)
         ∙ sym (newest_or c.args.self.now.repeat c.in_ok-entries.entries.items);
     told_is = c.in-Ok.ensures.queued.told_is;
   },

@@ -11,4 +11,5 @@ returns-clause-continues g c = λ given lawful.
 pub returns-clause-grown : goal.returns-clause-grown
 returns-clause-grown g c =
     by_answer c.queue_repeat.result c.queue_repeat.ensures.queued c.queue_repeat.ensures.kept
-    (repeated_more c.args.view c.args.self.now.repeat c.args.self.now c.queue_repeat.new.self) (stayed_more c.args.self.now c.queue_repeat.new.self)
+    (repeated_more c.args.view c.args.self.now.repeat c.args.self.now c.queue_repeat.new.self)
+    (stayed_more c.args.self.now c.queue_repeat.new.self)

@@ -5,6 +5,7 @@ use Rattle.engine_planner.proofs.plan.Plan.certify_all.Given as goal
 
 abbrev pub invariant-loop-proposal : goal.invariant-loop-proposal
 invariant-loop-proposal g l = record {
-  steps : l.self.steps.items ++ certifying (drop l.proposal-index l.proposals) ≡ l.initial.self.steps.items ++ certifying l.proposals;
+  steps : l.self.steps.items ++ certifying (drop l.proposal-index l.proposals) ≡ l.initial.self.steps.items
+      ++ certifying l.proposals;
   same : l.self ≡ record (l.initial.self) { steps = l.self.steps };
 }

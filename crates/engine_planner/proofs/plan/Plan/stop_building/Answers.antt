@@ -5,4 +5,5 @@ use Rattle.engine_planner.proofs.plan.Plan.stop_building.Goals as goal
 pub returns : goal.returns
 returns g c =
     on_ok c.push_stop.result c.push_stop.ensures
-    (stopped c.args.view c.is_asked-is_reported.result c.args.self.now c.end_building.new.self c.push_stop.new.self c.is_asked-is_reported.ensures c.end_building.ensures)
+    (stopped c.args.view c.is_asked-is_reported.result c.args.self.now c.end_building.new.self c.push_stop.new.self
+    c.is_asked-is_reported.ensures c.end_building.ensures)

@@ -10,4 +10,5 @@ loop-building-preserved g c =
     let loop = c.loop-building in
     ap (slice_set loop.builds loop.building-index) c.told_by.ensures
     ∙ ap (λ building. slice_set loop.builds loop.building-index (told_by c.args.view building)) (sym c.building-item.is)
-    ∙ map_over_more (told_by c.args.view) c.args.builds.now loop.builds loop.building-index c.building-item.result (omega arith) loop.invariant c.building-item.is
+    ∙ map_over_more (told_by c.args.view) c.args.builds.now loop.builds loop.building-index c.building-item.result
+    (omega arith) loop.invariant c.building-item.is

@@ -4,4 +4,5 @@ use Rattle.engine_planner.specs.Blocks.{told_by}
 use Rattle.engine_planner.proofs.plan.builds.mark_reported.Given as goal
 
 abbrev pub invariant-loop-building : goal.invariant-loop-building
-invariant-loop-building g l = l.builds ≡ map (told_by l.view) (take l.building-index l.initial.builds) ++ drop l.building-index l.initial.builds
+invariant-loop-building g l = l.builds ≡ map (told_by l.view) (take l.building-index l.initial.builds) ++ drop
+    l.building-index l.initial.builds

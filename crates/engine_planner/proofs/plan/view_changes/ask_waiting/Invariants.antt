@@ -4,4 +4,5 @@ use Rattle.engine_planner.specs.ViewChanges.{asking_by}
 use Rattle.engine_planner.proofs.plan.view_changes.ask_waiting.Given as goal
 
 abbrev pub invariant-loop-building : goal.invariant-loop-building
-invariant-loop-building g l = l.steps.items ++ asking_by l.view (drop l.building-index l.builds) ≡ l.initial.steps.items ++ asking_by l.view l.builds
+invariant-loop-building g l = l.steps.items ++ asking_by l.view (drop l.building-index l.builds) ≡ l.initial.steps.items
+    ++ asking_by l.view l.builds

@@ -15,7 +15,8 @@ loop-member-preserved g c =
       | in_default w ↦
           let same = ap (λ s. s.items) w.signatures-is in
           let own = ap (signed_by c.loop-member.member) w.in_default.is in
-          let none = append-nil (signatures_on g.D.PartialEq.eq c.args.subject.now c.loop-member.member c.args.slots.now) in
+          let none =
+          append-nil (signatures_on g.D.PartialEq.eq c.args.subject.now c.loop-member.member c.args.slots.now) in
           cc (more, same, own, none, c.loop-member.invariant, c.in_ok-signature.ensures)
     ]
 

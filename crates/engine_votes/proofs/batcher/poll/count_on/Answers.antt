@@ -10,13 +10,22 @@ loop-member-preserved g c =
     let subject = c.args.subject.now in
     let slots = c.args.slots.now in
     elim c.if-is_on.branch [
-      | then-is_on w ↦ let more = more_yes same subject c.loop-member.member slots (sym c.is_on.ensures ∙ w.if-is_on.true) in
-          record { counted = cc (more, w.count-is, c.loop-member.invariant.counted); few = omega (arith, w.count-is, c.loop-member.invariant.few) }
-      | else-is_on w ↦ let more = ap length (more_no same subject c.loop-member.member slots (sym c.is_on.ensures ∙ w.if-is_on.false)) in
-          record { counted = cc (more, w.count-is, c.loop-member.invariant.counted); few = omega (arith, w.count-is, c.loop-member.invariant.few) }
+      | then-is_on w ↦ let more = more_yes same subject c.loop-member.member slots
+          (sym c.is_on.ensures ∙ w.if-is_on.true) in
+          record {
+            counted = cc (more, w.count-is, c.loop-member.invariant.counted);
+            few = omega (arith, w.count-is, c.loop-member.invariant.few);
+          }
+      | else-is_on w ↦ let more =
+          ap length (more_no same subject c.loop-member.member slots (sym c.is_on.ensures ∙ w.if-is_on.false)) in
+          record {
+            counted = cc (more, w.count-is, c.loop-member.invariant.counted);
+            few = omega (arith, w.count-is, c.loop-member.invariant.few);
+          }
     ]
 
 pub returns : goal.returns
 returns g c =
     let end : c.loop-member.member ≡ c.args.members = omega arith in
-    c.loop-member.invariant.counted ∙ ap (λ n. length (signatures_on g.D.PartialEq.eq c.args.subject.now n c.args.slots.now)) end
+    c.loop-member.invariant.counted
+    ∙ ap (λ n. length (signatures_on g.D.PartialEq.eq c.args.subject.now n c.args.slots.now)) end

@@ -1,4 +1,5 @@
--- How the contract of `poll_engine` follows where the engine gives something out, where it has nothing more to do, and where it fails.
+-- How the contract of `poll_engine` follows where the engine gives something out, where it has nothing more to do, and
+-- where it fails.
 use Rattle.std.proofs.Common.{List, [], Some, None, Ok, Err, ap, inr, refl, sym, subst, ◌∙◌}
 use Rattle.std.specs.Prelude.{◌++◌, IsOk, OnOk, option_to_list}
 use Rattle.std.proofs.lemmas.Bool.{false≢true}
@@ -28,26 +29,37 @@ returns-in-Ok-Some c =
         record {
           answer = Ok (Some c.in-Ok-Some.output);
           outcome = c.give_out.ensures.given;
-          front = λ lives. subst (λ answer. ReturnsFirst c.args.self.now.engine.core.outbox.queue.items answer c.args.self.now.engine c.give_out.new.self.engine) (c.in-Ok-Some.is ∙ ap Ok c.in-Ok-Some.field-0-is)
+          front = λ lives. subst (λ answer. ReturnsFirst c.args.self.now.engine.core.outbox.queue.items answer
+              c.args.self.now.engine c.give_out.new.self.engine) (c.in-Ok-Some.is ∙ ap Ok c.in-Ok-Some.field-0-is)
               (rw rest.0 (c.poll.ensures.front lives));
-          settles = λ empty. subst (λ answer. OnOk answer (HasSettled c.args.now c.give_out.new.self.engine)) (c.in-Ok-Some.is ∙ ap Ok c.in-Ok-Some.field-0-is) (rw rest.0 (c.poll.ensures.settles empty));
-          stays = λ lives empty at. subst (λ answer. StaysAtRest answer c.args.self.now.engine c.give_out.new.self.engine) (c.in-Ok-Some.is ∙ ap Ok c.in-Ok-Some.field-0-is) (rw rest.0 (c.poll.ensures.stays lives empty at));
-          settled = λ before kept is. subst (λ answer. OnOk answer (SettledAsStored c.give_out.new.self.engine)) (c.in-Ok-Some.is ∙ ap Ok c.in-Ok-Some.field-0-is) (rw rest.0 (c.poll.ensures.settled before kept is));
-          given = all_given c.in-Ok-Some.output c.args.self.now.stored c.give_out.result c.args.self.now c.give_out.new.self going
+          settles = λ empty. subst (λ answer. OnOk answer (HasSettled c.args.now c.give_out.new.self.engine))
+              (c.in-Ok-Some.is ∙ ap Ok c.in-Ok-Some.field-0-is) (rw rest.0 (c.poll.ensures.settles empty));
+          stays = λ lives empty at. subst (λ answer.
+              StaysAtRest answer c.args.self.now.engine c.give_out.new.self.engine)
+              (c.in-Ok-Some.is ∙ ap Ok c.in-Ok-Some.field-0-is) (rw rest.0 (c.poll.ensures.stays lives empty at));
+          settled = λ before kept is. subst (λ answer. OnOk answer (SettledAsStored c.give_out.new.self.engine))
+              (c.in-Ok-Some.is ∙ ap Ok c.in-Ok-Some.field-0-is) (rw rest.0 (c.poll.ensures.settled before kept is));
+          given = all_given c.in-Ok-Some.output c.args.self.now.stored c.give_out.result c.args.self.now
+              c.give_out.new.self going
               (rw rest.0 given) c.give_out.ensures.given;
-          told = tells_no_more c.in-Ok-Some.output c.args.self.now.stored c.give_out.result c.args.self.now c.give_out.new.self
+          told = tells_no_more c.in-Ok-Some.output c.args.self.now.stored c.give_out.result c.args.self.now
+              c.give_out.new.self
               (rw rest.0 (rw c.in-Ok-Some.field-0-is at c.in-Ok-Some.ensures.told)) c.give_out.ensures.given;
-          traced = traced_given c.in-Ok-Some.output c.args.self.now.stored c.give_out.result c.args.self.now c.give_out.new.self
+          traced = traced_given c.in-Ok-Some.output c.args.self.now.stored c.give_out.result c.args.self.now
+              c.give_out.new.self
               (rw rest.0 (rw c.in-Ok-Some.field-0-is at c.in-Ok-Some.ensures.traced)) c.give_out.ensures.given;
           does = rw rest.0 c.in-Ok-Some.ensures.does;
           votes = rw rest.0 c.in-Ok-Some.ensures.votes;
           held = rw rest.0 c.in-Ok-Some.ensures.held;
           bounded = rw rest.0 c.in-Ok-Some.ensures.bounded;
-          due_work = λ _. has_told c.in-Ok-Some.output c.args.self.now.stored c.give_out.result c.args.self.now c.give_out.new.self
+          due_work = λ _. has_told c.in-Ok-Some.output c.args.self.now.stored c.give_out.result c.args.self.now
+              c.give_out.new.self
               (rw rest.0 (rw c.in-Ok-Some.field-0-is at c.in-Ok-Some.ensures.due_work)) c.give_out.ensures.given;
-          works = λ _. works_given c.in-Ok-Some.output c.args.self.now.stored c.give_out.result c.args.self.now c.give_out.new.self
+          works = λ _. works_given c.in-Ok-Some.output c.args.self.now.stored c.give_out.result c.args.self.now
+              c.give_out.new.self
               (rw rest.0 (rw c.in-Ok-Some.field-0-is at c.in-Ok-Some.ensures.works)) c.give_out.ensures.given;
-          provenance = λ _. comes_given c.args.now c.in-Ok-Some.output c.args.self.now.stored c.give_out.result c.args.self.now c.give_out.new.self
+          provenance = λ _. comes_given c.args.now c.in-Ok-Some.output c.args.self.now.stored c.give_out.result
+              c.args.self.now c.give_out.new.self
               (rw rest.0 (rw c.in-Ok-Some.field-0-is at c.in-Ok-Some.ensures.provenance)) c.give_out.ensures.given;
           fetch_heights = λ _. rw rest.0 c.in-Ok-Some.ensures.fetch_heights;
           near = λ _. rw rest.0 c.in-Ok-Some.ensures.near;
@@ -81,25 +93,37 @@ returns-in-Ok-None c =
               admitted = λ before. (rw none at c.in-Ok-None.ensures.admitted settled before) refl;
             },
           );
-          front = λ lives. subst (λ answer. ReturnsFirst c.args.self.now.engine.core.outbox.queue.items answer c.args.self.now.engine c.poll.new.self) (c.in-Ok-None.is ∙ ap Ok c.in-Ok-None.field-0-is) (c.poll.ensures.front lives);
-          settles = λ empty. subst (λ answer. OnOk answer (HasSettled c.args.now c.poll.new.self)) (c.in-Ok-None.is ∙ ap Ok c.in-Ok-None.field-0-is) (c.poll.ensures.settles empty);
-          stays = λ lives empty at. subst (λ answer. StaysAtRest answer c.args.self.now.engine c.poll.new.self) (c.in-Ok-None.is ∙ ap Ok c.in-Ok-None.field-0-is) (c.poll.ensures.stays lives empty at);
-          settled = λ before kept is. subst (λ answer. OnOk answer (SettledAsStored c.poll.new.self)) (c.in-Ok-None.is ∙ ap Ok c.in-Ok-None.field-0-is) (c.poll.ensures.settled before kept is);
-          given = λ before all alive. subst (λ last. IsJournaled certificate_bytes (before ++ option_to_list last) c.poll.new.self.core)
+          front = λ lives. subst (λ answer. ReturnsFirst c.args.self.now.engine.core.outbox.queue.items answer
+              c.args.self.now.engine c.poll.new.self) (c.in-Ok-None.is ∙ ap Ok c.in-Ok-None.field-0-is)
+              (c.poll.ensures.front lives);
+          settles = λ empty. subst (λ answer. OnOk answer (HasSettled c.args.now c.poll.new.self))
+              (c.in-Ok-None.is ∙ ap Ok c.in-Ok-None.field-0-is) (c.poll.ensures.settles empty);
+          stays = λ lives empty at. subst (λ answer. StaysAtRest answer c.args.self.now.engine c.poll.new.self)
+              (c.in-Ok-None.is ∙ ap Ok c.in-Ok-None.field-0-is) (c.poll.ensures.stays lives empty at);
+          settled = λ before kept is. subst (λ answer. OnOk answer (SettledAsStored c.poll.new.self))
+              (c.in-Ok-None.is ∙ ap Ok c.in-Ok-None.field-0-is) (c.poll.ensures.settled before kept is);
+          given = λ before all alive.
+              subst (λ last. IsJournaled certificate_bytes (before ++ option_to_list last) c.poll.new.self.core)
               (sym c.requires.last) (given before (all going));
-          told = λ alive. subst (λ last. ReportsNoMore (option_to_list last) c.args.self.now.engine.core.outbox c.poll.new.self.core.outbox)
+          told = λ alive. subst (λ last. ReportsNoMore (option_to_list last) c.args.self.now.engine.core.outbox
+              c.poll.new.self.core.outbox)
               (sym c.requires.last) (rw none at c.in-Ok-None.ensures.told);
-          traced = λ alive. subst (λ last. EmitsOn same_host_payload host_leader certificate_bytes (IsOrder bytes_in_digest) None (option_to_list last) c.args.self.now.engine.core c.poll.new.self.core)
+          traced = λ alive. subst (λ last. EmitsOn same_host_payload host_leader certificate_bytes
+              (IsOrder bytes_in_digest) None (option_to_list last) c.args.self.now.engine.core c.poll.new.self.core)
               (sym c.requires.last) (rw none at c.in-Ok-None.ensures.traced);
           does = c.in-Ok-None.ensures.does;
           votes = c.in-Ok-None.ensures.votes;
           held = c.in-Ok-None.ensures.held;
           bounded = c.in-Ok-None.ensures.bounded;
-          due_work = λ _ alive. subst (λ last. (before : List HostOutput) → HasReportedAll before c.args.self.now.engine → HasReportedAll (before ++ option_to_list last) c.poll.new.self)
+          due_work = λ _ alive. subst (λ last. (before : List HostOutput) → HasReportedAll before c.args.self.now.engine
+              → HasReportedAll (before ++ option_to_list last) c.poll.new.self)
               (sym c.requires.last) (rw none at c.in-Ok-None.ensures.due_work);
-          works = λ _ alive. subst (λ last. AreAmong (work_ahead c.args.self.now.engine) (work_in (option_to_list last) ++ work_ahead c.poll.new.self))
+          works = λ _ alive. subst (λ last. AreAmong (work_ahead c.args.self.now.engine)
+              (work_in (option_to_list last) ++ work_ahead c.poll.new.self))
               (sym c.requires.last) (rw none at c.in-Ok-None.ensures.works);
-          provenance = λ _ alive. subst (λ last. IsCaused same_host_payload host_leader bytes_in_digest certificate_bytes c.args.now (forgettable c.poll.new.self.core.member.facts) (work_in (option_to_list last)) (held_by c.poll.new.self)
+          provenance = λ _ alive. subst (λ last.
+              IsCaused same_host_payload host_leader bytes_in_digest certificate_bytes c.args.now
+              (forgettable c.poll.new.self.core.member.facts) (work_in (option_to_list last)) (held_by c.poll.new.self)
               c.args.self.now.engine c.poll.new.self)
               (sym c.requires.last) (rw none at c.in-Ok-None.ensures.provenance);
           fetch_heights = λ _. c.in-Ok-None.ensures.fetch_heights;
@@ -126,18 +150,27 @@ returns-in-Err c =
           answer = Err c.in-Err.fault;
           outcome = (
             c.in-Err.ensures.error,
-            record { status_is = told.status ∙ c.number_of_fault-in-Err.ensures; nothing = told.nothing.0; last = c.requires.last },
+            record {
+              status_is = told.status ∙ c.number_of_fault-in-Err.ensures;
+              nothing = told.nothing.0;
+              last = c.requires.last;
+            },
             failed,
           );
-          front = λ lives. subst (λ answer. ReturnsFirst c.args.self.now.engine.core.outbox.queue.items answer c.args.self.now.engine c.poll.new.self) c.in-Err.is (c.poll.ensures.front lives);
+          front = λ lives. subst (λ answer. ReturnsFirst c.args.self.now.engine.core.outbox.queue.items answer
+              c.args.self.now.engine c.poll.new.self) c.in-Err.is (c.poll.ensures.front lives);
           settles = λ empty. tt;
-          stays = λ lives empty at. subst (λ answer. StaysAtRest answer c.args.self.now.engine c.poll.new.self) c.in-Err.is (c.poll.ensures.stays lives empty at);
+          stays = λ lives empty at. subst (λ answer. StaysAtRest answer c.args.self.now.engine c.poll.new.self)
+              c.in-Err.is (c.poll.ensures.stays lives empty at);
           settled = λ before kept is. tt;
-          given = λ before all alive. subst (λ last. IsJournaled certificate_bytes (before ++ option_to_list last) c.poll.new.self.core)
+          given = λ before all alive.
+              subst (λ last. IsJournaled certificate_bytes (before ++ option_to_list last) c.poll.new.self.core)
               (sym c.requires.last) (c.in-Err.ensures.given before (all going));
-          told = λ alive. subst (λ last. ReportsNoMore (option_to_list last) c.args.self.now.engine.core.outbox c.poll.new.self.core.outbox)
+          told = λ alive. subst (λ last. ReportsNoMore (option_to_list last) c.args.self.now.engine.core.outbox
+              c.poll.new.self.core.outbox)
               (sym c.requires.last) c.in-Err.ensures.told;
-          traced = λ alive. subst (λ last. EmitsOn same_host_payload host_leader certificate_bytes (IsOrder bytes_in_digest) None (option_to_list last) c.args.self.now.engine.core c.poll.new.self.core)
+          traced = λ alive. subst (λ last. EmitsOn same_host_payload host_leader certificate_bytes
+              (IsOrder bytes_in_digest) None (option_to_list last) c.args.self.now.engine.core c.poll.new.self.core)
               (sym c.requires.last) c.in-Err.ensures.traced;
           does = c.in-Err.ensures.does;
           votes = c.in-Err.ensures.votes;
@@ -155,7 +188,8 @@ returns-in-Err c =
           refused = λ had.
               let only = c.poll.ensures.refused had in (
                 record {
-                  status_is = told.status ∙ c.number_of_fault-in-Err.ensures ∙ ap fault_status (same_error c.in-Err.is only.0);
+                  status_is = told.status ∙ c.number_of_fault-in-Err.ensures
+                      ∙ ap fault_status (same_error c.in-Err.is only.0);
                   nothing = told.nothing.0;
                   last = c.requires.last;
                 },

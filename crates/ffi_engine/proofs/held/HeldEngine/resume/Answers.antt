@@ -1,4 +1,5 @@
--- How the contract of `resume` follows: the resumed engine has returned nothing, and one that is refused is so for what was read.
+-- How the contract of `resume` follows: the resumed engine has returned nothing, and one that is refused is so for what
+-- was read.
 use Rattle.std.proofs.Common.{refl, sym, subst}
 use Rattle.simplex_codec.specs.Digests.{bytes_in_digest}
 use Rattle.ffi_scheme.specs.HostLeaders.{host_terms}
@@ -10,7 +11,8 @@ use Rattle.ffi_engine.proofs.held.HeldEngine.resume.Goals as goal
 
 pub returns-in-Err-clause-refused : goal.returns-in-Err-clause-refused
 returns-in-Err-clause-refused c =
-    member_refused c.args.flat.now c.args.leaders.now c.args.certificate.now c.args.options.now c.args.now c.args.stored.now c.args.journal.now c.in-Err.error
+    member_refused c.args.flat.now c.args.leaders.now c.args.certificate.now c.args.options.now c.args.now
+    c.args.stored.now c.args.journal.now c.in-Err.error
     c.in-Err.ensures.refused
 
 pub returns-in-Ok-resume-clause-resumed : goal.returns-in-Ok-resume-clause-resumed
@@ -26,8 +28,10 @@ returns-in-Ok-resume-clause-resumed c =
       continues = rw c.new.ensures.engine c.in-Ok-resume.ensures.continues;
       votes = rw c.new.ensures.engine c.in-Ok-resume.ensures.votes;
       begun_by = rw c.new.ensures.engine
-          (subst (λ options. HasStartedWith bytes_in_digest host_keys (host_keys from.start.settings.scheme) (host_signer from.start.settings.scheme)
-          (host_terms from.start.settings.elector).term_length (with_a_retry options) c.in-Ok-resume.engine) c.options_in-options.ensures c.in-Ok-resume.ensures.begun);
+          (subst (λ options. HasStartedWith bytes_in_digest host_keys (host_keys from.start.settings.scheme)
+          (host_signer from.start.settings.scheme)
+          (host_terms from.start.settings.elector).term_length (with_a_retry options) c.in-Ok-resume.engine)
+          c.options_in-options.ensures c.in-Ok-resume.ensures.begun);
       nothing = record {
         kept = λ _. rw c.new.ensures.engine c.in-Ok-resume.ensures.kept;
         traced = rw c.new.ensures.engine c.in-Ok-resume.ensures.traced;
@@ -47,9 +51,11 @@ returns-in-Ok-resume-clause-resumed c =
 pub returns-in-Err-resume-clause-refused : goal.returns-in-Err-resume-clause-refused
 returns-in-Err-resume-clause-refused c =
     let from = c.in-Ok.from in
-    subst (IsEngineNotResumed c.args.flat.now c.args.leaders.now c.args.certificate.now c.args.options.now c.args.now c.args.stored.now c.args.journal.now)
+    subst (IsEngineNotResumed c.args.flat.now c.args.leaders.now c.args.certificate.now c.args.options.now c.args.now
+    c.args.stored.now c.args.journal.now)
     (sym c.engine_not_started.ensures)
-    (engine_refused c.args.flat.now c.args.leaders.now c.args.certificate.now c.args.options.now c.args.now c.args.stored.now c.args.journal.now
+    (engine_refused c.args.flat.now c.args.leaders.now c.args.certificate.now c.args.options.now c.args.now
+    c.args.stored.now c.args.journal.now
     c.in-Err-resume.error (record {
       start = from.start;
       stored = from.stored;

@@ -1,4 +1,5 @@
--- How the contract of `start` follows: the engine that begins has given nothing out, and one that is refused had settings of a member.
+-- How the contract of `start` follows: the engine that begins has given nothing out, and one that is refused had
+-- settings of a member.
 use Rattle.std.proofs.Common.{refl, sym, subst}
 use Rattle.simplex_codec.specs.Digests.{bytes_in_digest}
 use Rattle.ffi_scheme.specs.HostLeaders.{host_terms}
@@ -17,8 +18,10 @@ returns-in-Ok-start-clause-begun c = record {
   votes = rw c.new.ensures.engine c.in-Ok-start.ensures.votes;
   begins = rw c.new.ensures.engine c.in-Ok-start.ensures.begins;
   begun_by = rw c.new.ensures.engine
-      (subst (λ options. HasStartedWith bytes_in_digest host_keys (host_keys c.in-Ok.start.settings.scheme) (host_signer c.in-Ok.start.settings.scheme)
-      (host_terms c.in-Ok.start.settings.elector).term_length (with_a_retry options) c.in-Ok-start.engine) c.options_in.ensures c.in-Ok-start.ensures.begun);
+      (subst (λ options. HasStartedWith bytes_in_digest host_keys (host_keys c.in-Ok.start.settings.scheme)
+      (host_signer c.in-Ok.start.settings.scheme)
+      (host_terms c.in-Ok.start.settings.elector).term_length (with_a_retry options) c.in-Ok-start.engine)
+      c.options_in.ensures c.in-Ok-start.ensures.begun);
   nothing = record {
     kept = λ _. rw c.new.ensures.engine c.in-Ok-start.ensures.kept;
     traced = rw c.new.ensures.engine c.in-Ok-start.ensures.traced;
@@ -37,8 +40,10 @@ returns-in-Ok-start-clause-begun c = record {
 
 pub returns-in-Err-start-clause-refused : goal.returns-in-Err-start-clause-refused
 returns-in-Err-start-clause-refused c =
-    subst (IsEngineNotStarted c.args.flat.now c.args.leaders.now c.args.certificate.now c.args.options.now c.args.now) (sym c.engine_not_started.ensures)
-    (start_refused c.args.flat.now c.args.leaders.now c.args.certificate.now c.args.options.now c.args.now c.in-Err-start.error (record {
+    subst (IsEngineNotStarted c.args.flat.now c.args.leaders.now c.args.certificate.now c.args.options.now c.args.now)
+    (sym c.engine_not_started.ensures)
+    (start_refused c.args.flat.now c.args.leaders.now c.args.certificate.now c.args.options.now c.args.now
+    c.in-Err-start.error (record {
       start = c.in-Ok.start;
       by = c.in-Ok.ensures.made;
       error = c.in-Err-start.error;

@@ -1,4 +1,5 @@
--- How the contract of `resume` follows: its input is read from the journal, and fewer entries than were closed are lost ones.
+-- How the contract of `resume` follows: its input is read from the journal, and fewer entries than were closed are lost
+-- ones.
 use Rattle.std.proofs.Common.{inr}
 use Rattle.ffi_member.proofs.Items.{fewer_than_closed}
 use Rattle.ffi_member.proofs.held.Held.resume.Goals as goal
@@ -21,7 +22,8 @@ returns-in-EntriesLost-clause-refused c =
     let from = c.in_ok-from.from in record {
       entries = from.entries.items;
       read = c.in_ok-from.ensures.from.read;
-      fewer = inr (fewer_than_closed _ from.stored _ c.in_ok-from.ensures.from.stored_so (rw c.in-EntriesLost.is at c.in-Err.ensures.refused));
+      fewer = inr (fewer_than_closed _ from.stored _ c.in_ok-from.ensures.from.stored_so
+          (rw c.in-EntriesLost.is at c.in-Err.ensures.refused));
     }
 
 pub returns-clause-refused : goal.returns-clause-refused

@@ -25,6 +25,7 @@ returns-in-Ok c =
             told = refl;
           },
         ),
-        rw (highest_of_verdict c.args.flat.now c.in-Ok.it.proposal c.requires.kind c.in-Ok.ensures.proposal) c.certified.ensures,
+        rw (highest_of_verdict c.args.flat.now c.in-Ok.it.proposal c.requires.kind c.in-Ok.ensures.proposal)
+            c.certified.ensures,
       ),
     )

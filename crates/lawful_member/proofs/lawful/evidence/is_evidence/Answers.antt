@@ -4,4 +4,5 @@ use Rattle.lawful_member.specs.Evidence.{signed_vote_in}
 use Rattle.lawful_member.proofs.lawful.evidence.is_evidence.Goals as goal
 
 pub returns-clause-broken : goal.returns-clause-broken
-returns-clause-broken g c = λ yes. evidence_shows (signed_vote_in c.args.first.now) (signed_vote_in c.args.second.now) (c.contradict.ensures.0 yes)
+returns-clause-broken g c = λ yes. evidence_shows (signed_vote_in c.args.first.now) (signed_vote_in c.args.second.now)
+    (c.contradict.ensures.0 yes)

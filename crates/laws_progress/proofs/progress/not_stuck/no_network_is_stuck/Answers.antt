@@ -7,4 +7,5 @@ pub returns-clause-meet : goal.returns-clause-meet
 returns-clause-meet g c = networks_meet _ g.D.PartialEq.eq g.met.D.Digest.equal_is_same g.L.Elector.elect
 
 pub returns-clause-continues : goal.returns-clause-continues
-returns-clause-continues g c = no_network_is_stuck _ g.D.PartialEq.eq g.met.D.Digest.equal_is_same g.met.D.Digest.same_is_equal g.L.Elector.elect
+returns-clause-continues g c = no_network_is_stuck _ g.D.PartialEq.eq g.met.D.Digest.equal_is_same
+    g.met.D.Digest.same_is_equal g.L.Elector.elect

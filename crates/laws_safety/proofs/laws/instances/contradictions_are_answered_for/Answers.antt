@@ -1,4 +1,5 @@
--- How the contract of `contradictions_are_answered_for` follows: the network of four, and who of it signed what, are computed.
+-- How the contract of `contradictions_are_answered_for` follows: the network of four, and who of it signed what, are
+-- computed.
 use Rattle.std.proofs.Common.{refl, inl, inr, arith}
 use Rattle.laws_safety.proofs.networks.Scripts.{overrun_network, overrun_nullified, overrun_finalized, misled_by_final, known_accept, known_nullified, known_finalized}
 use Rattle.laws_safety.proofs.laws.instances.contradictions_are_answered_for.Goals as goal

@@ -1,4 +1,5 @@
--- How the contract of `skipped_views_are_agreed_on` follows: the network of five, and who of it signed what, are computed.
+-- How the contract of `skipped_views_are_agreed_on` follows: the network of five, and who of it signed what, are
+-- computed.
 use Rattle.std.proofs.Common.{refl}
 use Rattle.laws_safety.proofs.networks.Scripts.{five_network, five_notarize_one, five_nullify_two, five_finalize_three}
 use Rattle.laws_safety.proofs.laws.instances.skipped_views_are_agreed_on.Goals as goal

@@ -1,4 +1,5 @@
--- How the contract of `views_ahead_are_agreed_on` follows: the network of four, and who of it signed what, are computed.
+-- How the contract of `views_ahead_are_agreed_on` follows: the network of four, and who of it signed what, are
+-- computed.
 use Rattle.std.proofs.Common.{refl}
 use Rattle.laws_safety.proofs.networks.AheadNetwork.{ahead_network, ahead_finalized}
 use Rattle.laws_safety.proofs.laws.instances.views_ahead_are_agreed_on.Goals as goal

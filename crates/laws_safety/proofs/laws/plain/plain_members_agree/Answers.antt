@@ -1,4 +1,5 @@
--- How the contract of `plain_members_agree` follows: the network of plain members, and what is finalized in it, are computed.
+-- How the contract of `plain_members_agree` follows: the network of plain members, and what is finalized in it, are
+-- computed.
 use Rattle.std.proofs.Common.{refl}
 use Rattle.laws_safety.proofs.networks.PlainNetwork.{elector, payload, four_members, plain_network, plain_finalized}
 use Rattle.laws_safety.proofs.laws.plain.plain_members_agree.Goals as goal

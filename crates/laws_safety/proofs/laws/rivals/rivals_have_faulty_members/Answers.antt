@@ -1,4 +1,5 @@
--- How the contract of `rivals_have_faulty_members` follows: the network of four, and who of it signed both proposals, are computed.
+-- How the contract of `rivals_have_faulty_members` follows: the network of four, and who of it signed both proposals,
+-- are computed.
 use Rattle.std.proofs.Common.{refl, inl, inr, arith}
 use Rattle.simplex_types.specs.declared.types.messages.Subject.TheVariants.{Notarize}
 use Rattle.laws_safety.specs.DividedNetwork.{rival}
@@ -20,11 +21,15 @@ pub returns-clause-evidence : goal.returns-clause-evidence
 returns-clause-evidence c = (refl, are_two)
 
 pub returns-clause-known : goal.returns-clause-known
-returns-clause-known c =
-    (known_two_accept, certified_so known_of_two_proposals (Notarize one) refl, certified_so known_of_two_proposals (Notarize rival) refl)
+returns-clause-known c = (
+  known_two_accept,
+  certified_so known_of_two_proposals (Notarize one) refl,
+  certified_so known_of_two_proposals (Notarize rival) refl,
+)
 
 pub returns-clause-suspects : goal.returns-clause-suspects
-returns-clause-suspects c = inr (inr (inl (((0, omega arith, refl), (1, omega arith, refl), (refl, are_two)), inl (tt, tt))))
+returns-clause-suspects c =
+    inr (inr (inl (((0, omega arith, refl), (1, omega arith, refl), (refl, are_two)), inl (tt, tt))))
 
 pub returns-clause-guilty : goal.returns-clause-guilty
 returns-clause-guilty c = ((0, omega arith, refl), (1, omega arith, refl), (refl, are_two))

@@ -1,4 +1,5 @@
--- How the contract of `skipped_finalizations_have_faulty_members` follows: the network of four, and who of it skipped the finalized view, are
+-- How the contract of `skipped_finalizations_have_faulty_members` follows: the network of four, and who of it skipped
+-- the finalized view, are
 -- computed.
 use Rattle.std.proofs.Common.{refl, inl, inr, arith}
 use Rattle.simplex_types.specs.declared.types.messages.Subject.TheVariants.{Notarize, Finalize}
@@ -23,8 +24,11 @@ pub returns-clause-evidence : goal.returns-clause-evidence
 returns-clause-evidence c = (refl, refl, refl)
 
 pub returns-clause-known : goal.returns-clause-known
-returns-clause-known c =
-    (known_skipped_accept, certified_so known_of_skipped (Notarize past_two) refl, certified_so known_of_skipped (Finalize two) refl)
+returns-clause-known c = (
+  known_skipped_accept,
+  certified_so known_of_skipped (Notarize past_two) refl,
+  certified_so known_of_skipped (Finalize two) refl,
+)
 
 pub returns-clause-suspects : goal.returns-clause-suspects
 returns-clause-suspects c = inr (inr (inl (((3, omega arith, refl), (2, omega arith, refl), inl refl), inl (tt, tt))))

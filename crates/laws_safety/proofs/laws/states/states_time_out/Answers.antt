@@ -1,4 +1,5 @@
--- How the contract of `states_time_out` follows: a view that is certified or decided to be finalized is left, unless a replay settled it.
+-- How the contract of `states_time_out` follows: a view that is certified or decided to be finalized is left, unless a
+-- replay settled it.
 use Rattle.laws_safety.proofs.lives.LeftByEntries.{recovered_states_time_out}
 use Rattle.laws_safety.proofs.lives.LeftViews.{used_states_time_out}
 use Rattle.laws_safety.proofs.laws.states.states_time_out.Goals as goal

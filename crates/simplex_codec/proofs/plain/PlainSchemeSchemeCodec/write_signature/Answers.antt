@@ -1,4 +1,5 @@
--- How the contract of `write_signature` follows: a key and a subject are read back of the bytes that they were written as.
+-- How the contract of `write_signature` follows: a key and a subject are read back of the bytes that they were written
+-- as.
 use Rattle.std.proofs.Common.{arith}
 use Rattle.simplex_codec.proofs.PlainLaw.{signature_back}
 use Rattle.simplex_codec.proofs.plain.PlainSchemeSchemeCodec.write_signature.Goals as goal

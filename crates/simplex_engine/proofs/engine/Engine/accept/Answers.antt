@@ -14,27 +14,32 @@ use Rattle.engine_planner.specs.Causes.{Quorum, reply_causes}
 use Rattle.engine_planner.proofs.Causes.{among_last}
 use Rattle.engine_planner.proofs.PlannedWork.{among_more}
 use Rattle.simplex_engine.specs.Provenance.{pending_causes}
-use Rattle.simplex_engine.proofs.Provenance.{comes_called, comes_still, hand_asked, handed_plain}
+use Rattle.simplex_engine.proofs.Provenance.{comes_called, comes_still, hand_asked}
+use Rattle.simplex_engine.proofs.NoMissingCertificates.{handed_plain}
 use Rattle.simplex_engine.proofs.ReplyWork.{on_ok_all}
 use Rattle.simplex_engine.proofs.engine.Engine.accept.Goals as goal
 
 pub returns-in_err-reply-clause-continues : goal.returns-in_err-reply-clause-continues
 returns-in_err-reply-clause-continues g c =
-    subst (λ facts. Continues g.D.PartialEq.eq g.L.Elector.elect g.S.CertificateScheme.certificate_bytes g.S.Scheme.IsSignature (Some (certificate_subject facts)) c.args.self.now.core c.submit.new.self)
+    subst (λ facts. Continues g.D.PartialEq.eq g.L.Elector.elect g.S.CertificateScheme.certificate_bytes
+    g.S.Scheme.IsSignature (Some (certificate_subject facts)) c.args.self.now.core c.submit.new.self)
     c.in_ok-copy.ensures.same c.submit.ensures.continues
 
 pub returns-clause-continues : goal.returns-clause-continues
 returns-clause-continues g c =
     let bytes_of = g.S.CertificateScheme.certificate_bytes in
     let taken = Some (certificate_subject (certificate_facts bytes_of c.args.certificate.now)) in
-    subst (Continues g.D.PartialEq.eq g.L.Elector.elect bytes_of g.S.Scheme.IsSignature taken c.args.self.now.core) (sym c.follow_certificate.ensures.core)
-    (subst (λ facts. Continues g.D.PartialEq.eq g.L.Elector.elect bytes_of g.S.Scheme.IsSignature (Some (certificate_subject facts)) c.args.self.now.core c.submit.new.self) c.in_ok-copy.ensures.same
+    subst (Continues g.D.PartialEq.eq g.L.Elector.elect bytes_of g.S.Scheme.IsSignature taken c.args.self.now.core)
+    (sym c.follow_certificate.ensures.core)
+    (subst (λ facts. Continues g.D.PartialEq.eq g.L.Elector.elect bytes_of g.S.Scheme.IsSignature
+    (Some (certificate_subject facts)) c.args.self.now.core c.submit.new.self) c.in_ok-copy.ensures.same
     c.submit.ensures.continues)
 
 pub returns-clause-dropped : goal.returns-clause-dropped
 returns-clause-dropped g c =
     IfOk-weaker c.follow_certificate.result _ _ (λ is_of_use told no.
-    ap (λ core. core.member.facts) c.follow_certificate.ensures.core ∙ c.in_ok-reply.ensures.refused (not-false _ (sym told ∙ no)))
+    ap (λ core. core.member.facts) c.follow_certificate.ensures.core
+    ∙ c.in_ok-reply.ensures.refused (not-false _ (sym told ∙ no)))
     c.follow_certificate.ensures.of_use
 
 pub returns-clause-acted : goal.returns-clause-acted
@@ -45,7 +50,8 @@ returns-clause-acted g c = λ admitted.
     let answer = told bytes_of c.in_ok-reply.reply in
     IfOk-weaker c.follow_certificate.result _ _ (λ is_of_use says. record {
       answer = answer;
-      answered = handed_as same elect c.args.self.now.core.member.facts answer c.args.now c.in_ok-copy.ensures.same c.follow_certificate.ensures.core c.in_ok-reply.ensures.answered;
+      answered = handed_as same elect c.args.self.now.core.member.facts answer c.args.now c.in_ok-copy.ensures.same
+          c.follow_certificate.ensures.core c.in_ok-reply.ensures.answered;
       told = says;
     }) c.follow_certificate.ensures.of_use
 
@@ -58,8 +64,11 @@ returns-clause-due_work g c =
     let answer = told bytes_of c.in_ok-reply.reply in
     on_ok_both c.follow_certificate.result c.follow_certificate.ensures.seen c.follow_certificate.ensures.planned
     (tells_handed c.args.self.now c.follow_certificate.new.self handed c.args.now answer
-    (handed_as same elect c.args.self.now.core.member.facts answer c.args.now c.in_ok-copy.ensures.same c.follow_certificate.ensures.core c.in_ok-reply.ensures.answered)
-    (subst (Continues same elect bytes_of g.S.Scheme.IsSignature (Some (certificate_subject (certificate_facts bytes_of c.in_ok-copy.copy))) c.args.self.now.core) (sym c.follow_certificate.ensures.core)
+    (handed_as same elect c.args.self.now.core.member.facts answer c.args.now c.in_ok-copy.ensures.same
+    c.follow_certificate.ensures.core c.in_ok-reply.ensures.answered)
+    (subst (Continues same elect bytes_of g.S.Scheme.IsSignature
+    (Some (certificate_subject (certificate_facts bytes_of c.in_ok-copy.copy))) c.args.self.now.core)
+    (sym c.follow_certificate.ensures.core)
     c.submit.ensures.continues))
 
 pub returns-then-not-admits-clause-due_work : goal.returns-then-not-admits-clause-due_work
@@ -67,7 +76,10 @@ returns-then-not-admits-clause-due_work g c = tells_still c.args.self.now
 
 pub returns-then-not-admits-clause-provenance : goal.returns-then-not-admits-clause-provenance
 returns-then-not-admits-clause-provenance g c =
-    comes_still refl refl (λ kind view. refl) (among_last (Quorum (certificate_subject (certificate_facts g.S.CertificateScheme.certificate_bytes c.args.certificate.now)) ∷ []) (pending_causes c.args.self.now))
+    comes_still refl refl (λ kind view. refl)
+    (among_last (Quorum (certificate_subject
+    (certificate_facts g.S.CertificateScheme.certificate_bytes c.args.certificate.now)) ∷ [])
+    (pending_causes c.args.self.now))
 
 pub returns-clause-provenance : goal.returns-clause-provenance
 returns-clause-provenance g c =
@@ -77,10 +89,16 @@ returns-clause-provenance g c =
     let handed = certificate_facts bytes_of c.args.certificate.now in
     let came = Quorum (certificate_subject handed) ∷ [] in
     let answered =
-    handed_as same elect c.args.self.now.core.member.facts (told bytes_of c.in_ok-reply.reply) c.args.now c.in_ok-copy.ensures.same c.follow_certificate.ensures.core c.in_ok-reply.ensures.answered
+    handed_as same elect c.args.self.now.core.member.facts (told bytes_of c.in_ok-reply.reply) c.args.now
+    c.in_ok-copy.ensures.same c.follow_certificate.ensures.core c.in_ok-reply.ensures.answered
     in
-    let plain = handed_plain same elect bytes_of c.args.self.now.core.member.facts c.follow_certificate.new.self.core.member.facts c.args.now handed c.in_ok-reply.reply answered in
-    on_ok_all c.follow_certificate.result c.follow_certificate.ensures.causes (c.follow_certificate.ensures.asks plain) (c.follow_certificate.ensures.works plain)
-    (λ causes asks works. comes_called (certificate_call handed c.args.now) c.in_ok-reply.reply (λ kind view. refl) (inr (inr (handed, refl, among_more came (pending_causes c.args.self.now)))) answered
-    (hand_asked c.args.self.now c.follow_certificate.new.self came (reply_causes c.args.now c.in_ok-reply.reply (certificate_call handed c.args.now))
-    (ap (λ core. work_in core.outbox.queue.items) c.follow_certificate.ensures.core ∙ c.submit.ensures.no_work) causes) asks works)
+    let plain = handed_plain same elect bytes_of c.args.self.now.core.member.facts
+    c.follow_certificate.new.self.core.member.facts c.args.now handed c.in_ok-reply.reply answered in
+    on_ok_all c.follow_certificate.result c.follow_certificate.ensures.causes (c.follow_certificate.ensures.asks plain)
+    (c.follow_certificate.ensures.works plain)
+    (λ causes asks works. comes_called (certificate_call handed c.args.now) c.in_ok-reply.reply (λ kind view. refl)
+    (inr (inr (handed, refl, among_more came (pending_causes c.args.self.now)))) answered
+    (hand_asked c.args.self.now c.follow_certificate.new.self came
+    (reply_causes c.args.now c.in_ok-reply.reply (certificate_call handed c.args.now))
+    (ap (λ core. work_in core.outbox.queue.items) c.follow_certificate.ensures.core ∙ c.submit.ensures.no_work) causes)
+    asks works)

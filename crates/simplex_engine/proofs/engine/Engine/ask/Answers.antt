@@ -20,9 +20,12 @@ returns g c =
     let bytes_of = g.S.CertificateScheme.certificate_bytes in
     let before = c.args.self.now.core.member.facts in
     let answer = told bytes_of c.call-reply.result in
-    let goes = subst (Continues same elect bytes_of g.S.Scheme.IsSignature None c.args.self.now.core) (sym c.follow.ensures.core) (c.call-reply.ensures.quiet c.call.ensures.plain) in
-    let answered = subst (λ core. IsCall same elect before (call_of c.args.task c.args.now) answer core.member.facts) (sym c.follow.ensures.core)
-    (subst (λ call. IsCall same elect before call answer c.call-reply.new.self.member.facts) c.call.ensures.asked c.call-reply.ensures.answered) in
+    let goes = subst (Continues same elect bytes_of g.S.Scheme.IsSignature None c.args.self.now.core)
+    (sym c.follow.ensures.core) (c.call-reply.ensures.quiet c.call.ensures.plain) in
+    let answered = subst (λ core. IsCall same elect before (call_of c.args.task c.args.now) answer core.member.facts)
+    (sym c.follow.ensures.core)
+    (subst (λ call. IsCall same elect before call answer c.call-reply.new.self.member.facts) c.call.ensures.asked
+    c.call-reply.ensures.answered) in
     record {
       continues = goes;
       batcher = c.follow.ensures.batcher;
@@ -31,11 +34,17 @@ returns g c =
         answered = answered;
         told = of_use;
       }) c.follow.ensures.of_use;
-      done = on_ok c.follow.result c.follow.ensures.followed (λ followed. record { reply = c.call-reply.result; answered = answered; followed = followed });
+      done = on_ok c.follow.result c.follow.ensures.followed
+          (λ followed. record { reply = c.call-reply.result; answered = answered; followed = followed });
       due_work = on_ok_both c.follow.result c.follow.ensures.seen c.follow.ensures.planned
           (tells_called c.args.self.now c.follow.new.self c.args.task c.args.now answer answered goes);
-      provenance = on_ok_all c.follow.result c.follow.ensures.causes c.follow.ensures.asks c.follow.ensures.followed (λ causes asks followed came none meant. comes_called (call_of c.args.task c.args.now) c.call-reply.result none meant answered
-          (hand_asked c.args.self.now c.follow.new.self came (reply_causes c.args.now c.call-reply.result (call_of c.args.task c.args.now))
-          (ap (λ core. work_in core.outbox.queue.items) c.follow.ensures.core ∙ ap (λ outbox. work_in outbox.queue.items) c.call-reply.ensures.outbox) causes) asks
-          (planned_ahead c.follow.new.self (planned_reply g.D.Digest.bytes bytes_of c.args.now c.args.task c.call-reply.result followed.seen c.follow.new.self.plan followed.followed)));
+      provenance = on_ok_all c.follow.result c.follow.ensures.causes c.follow.ensures.asks c.follow.ensures.followed
+          (λ causes asks followed came none meant.
+          comes_called (call_of c.args.task c.args.now) c.call-reply.result none meant answered
+          (hand_asked c.args.self.now c.follow.new.self came
+          (reply_causes c.args.now c.call-reply.result (call_of c.args.task c.args.now))
+          (ap (λ core. work_in core.outbox.queue.items) c.follow.ensures.core
+          ∙ ap (λ outbox. work_in outbox.queue.items) c.call-reply.ensures.outbox) causes) asks
+          (planned_ahead c.follow.new.self (planned_reply g.D.Digest.bytes bytes_of c.args.now c.args.task
+          c.call-reply.result followed.seen c.follow.new.self.plan followed.followed)));
     }

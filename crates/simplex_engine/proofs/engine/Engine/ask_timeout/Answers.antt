@@ -18,7 +18,8 @@ use Rattle.simplex_engine.proofs.engine.Engine.ask_timeout.Goals as goal
 pub returns-in_err-follow-clause-alone : goal.returns-in_err-follow-clause-alone
 returns-in_err-follow-clause-alone g c =
     alone_with c.args.self.now c.follow.new.self
-    (subst (Continues g.D.PartialEq.eq g.L.Elector.elect g.S.CertificateScheme.certificate_bytes g.S.Scheme.IsSignature None c.args.self.now.core) (sym c.follow.ensures.core)
+    (subst (Continues g.D.PartialEq.eq g.L.Elector.elect g.S.CertificateScheme.certificate_bytes g.S.Scheme.IsSignature
+    None c.args.self.now.core) (sym c.follow.ensures.core)
     (c.call-reply.ensures.quiet c.call.ensures.plain)) c.follow.ensures.batcher
 
 pub returns : goal.returns
@@ -31,9 +32,11 @@ returns g c =
     let asked = call_of task.NextTimeout c.args.now in
     let answer = told bytes_of c.call-reply.result in
     let left = c.follow.new.self in
-    let goes = subst (Continues same elect bytes_of g.S.Scheme.IsSignature None c.args.self.now.core) (sym c.follow.ensures.core) (c.call-reply.ensures.quiet c.call.ensures.plain) in
+    let goes = subst (Continues same elect bytes_of g.S.Scheme.IsSignature None c.args.self.now.core)
+    (sym c.follow.ensures.core) (c.call-reply.ensures.quiet c.call.ensures.plain) in
     let answered = subst (λ core. IsCall same elect before asked answer core.member.facts) (sym c.follow.ensures.core)
-    (subst (λ call. IsCall same elect before call answer c.call-reply.new.self.member.facts) c.call.ensures.asked c.call-reply.ensures.answered) in
+    (subst (λ call. IsCall same elect before call answer c.call-reply.new.self.member.facts) c.call.ensures.asked
+    c.call-reply.ensures.answered) in
     let follows = c.in_ok-follow.ensures.followed in
     record {
       alone = alone_with c.args.self.now left goes c.follow.ensures.batcher;
@@ -41,11 +44,17 @@ returns g c =
         answer = answer;
         answered = answered;
         awaited = awaited c.args.now left.plan.timeout answer (sym c.is_later-is_later.ensures ∙ is)
-            (stores bytes bytes_of c.args.now task.NextTimeout c.call-reply.result follows.seen left.plan follows.followed);
+            (stores bytes bytes_of c.args.now task.NextTimeout c.call-reply.result follows.seen left.plan
+            follows.followed);
       };
-      due_work = tells_called c.args.self.now left task.NextTimeout c.args.now answer answered goes c.in_ok-follow.ensures.seen c.in_ok-follow.ensures.planned;
-      provenance = comes_called asked c.call-reply.result (λ kind view. refl) (inl (task.NextTimeout, refl, among_none _, tt)) answered
+      due_work = tells_called c.args.self.now left task.NextTimeout c.args.now answer answered goes
+          c.in_ok-follow.ensures.seen c.in_ok-follow.ensures.planned;
+      provenance = comes_called asked c.call-reply.result (λ kind view. refl)
+          (inl (task.NextTimeout, refl, among_none _, tt)) answered
           (hand_asked c.args.self.now left [] (reply_causes c.args.now c.call-reply.result asked)
-          (ap (λ core. work_in core.outbox.queue.items) c.follow.ensures.core ∙ ap (λ outbox. work_in outbox.queue.items) c.call-reply.ensures.outbox) c.in_ok-follow.ensures.causes) c.in_ok-follow.ensures.asks
-          (planned_ahead left (planned_reply bytes bytes_of c.args.now task.NextTimeout c.call-reply.result follows.seen left.plan follows.followed));
+          (ap (λ core. work_in core.outbox.queue.items) c.follow.ensures.core
+          ∙ ap (λ outbox. work_in outbox.queue.items) c.call-reply.ensures.outbox) c.in_ok-follow.ensures.causes)
+          c.in_ok-follow.ensures.asks
+          (planned_ahead left (planned_reply bytes bytes_of c.args.now task.NextTimeout c.call-reply.result follows.seen
+          left.plan follows.followed));
     }

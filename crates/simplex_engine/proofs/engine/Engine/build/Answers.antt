@@ -19,10 +19,13 @@ returns-then-not-is_building g c =
     record {
       continues = stays c.args.self.now.core;
       batcher = refl;
-      acted = subst (λ is_asked. IsBlockTaken g.D.PartialEq.eq g.L.Elector.elect is_asked c.args.context.now.round.view c.args.payload c.args.now facts facts false)
+      acted = subst (λ is_asked. IsBlockTaken g.D.PartialEq.eq g.L.Elector.elect is_asked c.args.context.now.round.view
+          c.args.payload c.args.now facts facts false)
           (sym c.if-not-is_building.true ∙ c.is_building.ensures) (refl, refl);
       due_work = tells_still c.args.self.now;
-      provenance = comes_still refl refl (λ kind view. refl) (among_last (Message (task.Proposed c.args.context.now.round.view c.args.payload) ∷ []) (pending_causes c.args.self.now));
+      provenance = comes_still refl refl (λ kind view. refl)
+          (among_last (Message (task.Proposed c.args.context.now.round.view c.args.payload) ∷ [])
+          (pending_causes c.args.self.now));
     }
 
 pub returns : goal.returns
@@ -34,8 +37,11 @@ returns g c =
       continues = c.ask.ensures.continues;
       batcher = c.ask.ensures.batcher;
       acted = IfOk-weaker c.ask.result _ _ (λ is_of_use done.
-          subst (λ is_asked. IsBlockTaken g.D.PartialEq.eq g.L.Elector.elect is_asked c.args.context.now.round.view c.args.payload c.args.now before after is_of_use)
+          subst (λ is_asked. IsBlockTaken g.D.PartialEq.eq g.L.Elector.elect is_asked c.args.context.now.round.view
+          c.args.payload c.args.now before after is_of_use)
           (sym c.if-not-is_building.false ∙ c.is_building.ensures) done) c.ask.ensures.acted;
       due_work = c.ask.ensures.due_work;
-      provenance = on_ok c.ask.result c.ask.ensures.provenance (λ provenance. provenance (Message asked ∷ []) (λ kind view. refl) (inl (asked, refl, among_more (Message asked ∷ []) (pending_causes c.args.self.now), tt)));
+      provenance = on_ok c.ask.result c.ask.ensures.provenance
+          (λ provenance. provenance (Message asked ∷ []) (λ kind view. refl)
+          (inl (asked, refl, among_more (Message asked ∷ []) (pending_causes c.args.self.now), tt)));
     }

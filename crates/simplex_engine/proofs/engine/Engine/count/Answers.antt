@@ -11,7 +11,8 @@ use Rattle.simplex_engine.proofs.BuildBounds.{early_anyway}
 use Rattle.engine_planner.proofs.Causes.{among_last}
 use Rattle.simplex_engine.specs.declared.input.Input.TheVariants as input
 use Rattle.simplex_engine.specs.Provenance.{pending_causes, input_causes}
-use Rattle.simplex_engine.proofs.Provenance.{comes_still, vote_lacks_none}
+use Rattle.simplex_engine.proofs.Provenance.{comes_still}
+use Rattle.simplex_engine.proofs.NoMissingCertificates.{vote_lacks_none}
 use Rattle.simplex_engine.proofs.engine.Engine.count.Goals as goal
 
 pub returns-then-not-admits_votes : goal.returns-then-not-admits_votes
@@ -27,10 +28,22 @@ returns-then-not-admits_votes g c =
       unadmitted = λ no. (refl, refl);
       bounded = bounded_same keys_of engine.core engine.core engine.batcher refl;
       acted = λ is. absurd (false≢true
-          (sym c.if-not-admits_votes.true ∙ c.admits_votes.ensures ∙ ap (λ round. is_so (λ x. admits_votes x round) engine.core.member.facts) c.round_of.ensures.round ∙ is));
-      due_work = record { stays = λ work told. told; works = among_still (work_ahead engine); near = λ near. near; seen = λ come. come; early = λ come. early_anyway engine engine (among_still engine.plan.early.proposals.items); constants = refl };
+          (sym c.if-not-admits_votes.true ∙ c.admits_votes.ensures
+          ∙ ap (λ round. is_so (λ x. admits_votes x round) engine.core.member.facts) c.round_of.ensures.round
+          ∙ is));
+      due_work = record {
+        stays = λ work told. told;
+        works = among_still (work_ahead engine);
+        near = λ near. near;
+        seen = λ come. come;
+        early = λ come. early_anyway engine engine
+            (among_still engine.plan.early.proposals.items);
+        constants = refl;
+      };
       ignored = refl;
-      provenance = comes_still refl refl (vote_lacks_none g.S.CertificateScheme.certificate_bytes engine.batcher c.args.vote) (among_last (input_causes g.S.CertificateScheme.certificate_bytes engine.batcher (input.Vote c.args.vote)) (pending_causes engine));
+      provenance = comes_still refl refl (vote_lacks_none g.S.CertificateScheme.certificate_bytes engine.batcher
+          c.args.vote) (among_last (input_causes g.S.CertificateScheme.certificate_bytes engine.batcher
+          (input.Vote c.args.vote)) (pending_causes engine));
     }
 
 pub returns : goal.returns

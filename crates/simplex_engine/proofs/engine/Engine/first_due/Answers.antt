@@ -6,5 +6,6 @@ pub returns-in-Some : goal.returns-in-Some
 returns-in-Some g c = λ none. record {
   state = c.in-Some.state.now;
   alive = sym c.in-Some.ensures.life;
-  nothing_due = λ view low. c.first_due.ensures.none none view (subst (λ from. from ≤ view) (sym c.last_finalized.ensures) low);
+  nothing_due = λ view low. c.first_due.ensures.none none view
+      (subst (λ from. from ≤ view) (sym c.last_finalized.ensures) low);
 }

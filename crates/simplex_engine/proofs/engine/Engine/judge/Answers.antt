@@ -19,7 +19,8 @@ returns-then-not-awaits_verdict g c = record {
   unadmitted = λ _. (refl, refl);
   acted = λ is. absurd (false≢true (sym c.if-not-awaits_verdict.true ∙ c.awaits_verdict.ensures ∙ is));
   due_work = tells_still c.args.self.now;
-  provenance = comes_still refl refl (λ kind view. refl) (among_last (Message (task.Certified c.args.view c.args.is_success) ∷ []) (pending_causes c.args.self.now));
+  provenance = comes_still refl refl (λ kind view. refl)
+      (among_last (Message (task.Certified c.args.view c.args.is_success) ∷ []) (pending_causes c.args.self.now));
 }
 
 pub returns : goal.returns
@@ -31,5 +32,12 @@ returns g c =
       unadmitted = λ no. absurd (false≢true (sym no ∙ sym c.awaits_verdict.ensures ∙ c.if-not-awaits_verdict.false));
       acted = λ _. c.ask.ensures.acted;
       due_work = c.ask.ensures.due_work;
-      provenance = on_ok c.ask.result c.ask.ensures.provenance (λ provenance. provenance (Message asked ∷ []) (λ kind view. refl) (inl (asked, refl, among_more (Message asked ∷ []) (pending_causes c.args.self.now), sym c.awaits_verdict.ensures ∙ c.if-not-awaits_verdict.false)));
+      provenance = on_ok c.ask.result c.ask.ensures.provenance
+          (λ provenance. provenance (Message asked ∷ []) (λ kind view. refl)
+          (inl (
+            asked,
+            refl,
+            among_more (Message asked ∷ []) (pending_causes c.args.self.now),
+            sym c.awaits_verdict.ensures ∙ c.if-not-awaits_verdict.false,
+          )));
     }

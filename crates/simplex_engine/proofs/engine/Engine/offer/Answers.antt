@@ -26,24 +26,31 @@ returns-then-admits_proposal g c = record {
   continues = c.ask.ensures.continues;
   batcher = c.ask.ensures.batcher;
   unadmitted = λ no. absurd (false≢true (sym no ∙ sym c.admits_proposal.ensures ∙ c.if-admits_proposal.true));
-  acted = λ _. subst (λ view. IfOk c.ask.result (HasDoneTask g.D.PartialEq.eq g.L.Elector.elect (SetProposal view c.args.proposal) c.args.now
+  acted = λ _. subst (λ view. IfOk c.ask.result
+      (HasDoneTask g.D.PartialEq.eq g.L.Elector.elect (SetProposal view c.args.proposal) c.args.now
       c.args.self.now.core.member.facts c.ask.new.self.core.member.facts)) c.view.ensures c.ask.ensures.acted;
   offered = on_ok c.ask.result c.ask.ensures.done (λ done.
-      subst (λ is. IsOffered g.D.PartialEq.eq g.L.Elector.elect g.D.Digest.bytes g.S.CertificateScheme.certificate_bytes c.args.now is c.args.from c.args.proposal c.args.self.now c.ask.new.self) (sym (sym c.admits_proposal.ensures ∙ c.if-admits_proposal.true))
-      (subst (λ view. IsTaskDone g.D.PartialEq.eq g.L.Elector.elect g.D.Digest.bytes g.S.CertificateScheme.certificate_bytes c.args.now (SetProposal view c.args.proposal) c.args.self.now c.ask.new.self) c.view.ensures done));
+      subst (λ is. IsOffered g.D.PartialEq.eq g.L.Elector.elect g.D.Digest.bytes g.S.CertificateScheme.certificate_bytes
+      c.args.now is c.args.from c.args.proposal c.args.self.now c.ask.new.self)
+      (sym (sym c.admits_proposal.ensures ∙ c.if-admits_proposal.true))
+      (subst (λ view. IsTaskDone g.D.PartialEq.eq g.L.Elector.elect g.D.Digest.bytes
+      g.S.CertificateScheme.certificate_bytes c.args.now (SetProposal view c.args.proposal) c.args.self.now
+      c.ask.new.self) c.view.ensures done));
   due_work = c.ask.ensures.due_work;
-  provenance = on_ok c.ask.result c.ask.ensures.provenance (λ provenance. provenance (Arrival c.args.from c.args.proposal ∷ []) (λ kind view. refl) (inr (inl (
-    c.args.from,
-    c.args.proposal,
-    ap (λ view. call.SetProposal view c.args.proposal) c.view.ensures,
-    among_more (Arrival c.args.from c.args.proposal ∷ []) (pending_causes c.args.self.now),
-    sym c.admits_proposal.ensures ∙ c.if-admits_proposal.true,
-  ))));
+  provenance = on_ok c.ask.result c.ask.ensures.provenance
+      (λ provenance. provenance (Arrival c.args.from c.args.proposal ∷ []) (λ kind view. refl) (inr (inl (
+        c.args.from,
+        c.args.proposal,
+        ap (λ view. call.SetProposal view c.args.proposal) c.view.ensures,
+        among_more (Arrival c.args.from c.args.proposal ∷ []) (pending_causes c.args.self.now),
+        sym c.admits_proposal.ensures ∙ c.if-admits_proposal.true,
+      ))));
 }
 
 pub returns-in_err-store_early-clause-continues : goal.returns-in_err-store_early-clause-continues
 returns-in_err-store_early-clause-continues g c =
-    subst (Continues g.D.PartialEq.eq g.L.Elector.elect g.S.CertificateScheme.certificate_bytes g.S.Scheme.IsSignature None c.args.self.now.core)
+    subst (Continues g.D.PartialEq.eq g.L.Elector.elect g.S.CertificateScheme.certificate_bytes g.S.Scheme.IsSignature
+    None c.args.self.now.core)
     (sym (ap (λ engine. engine.core) c.store_early.ensures.same)) (stays c.args.self.now.core)
 
 pub returns-in_err-store_early-clause-batcher : goal.returns-in_err-store_early-clause-batcher
@@ -53,21 +60,30 @@ pub returns : goal.returns
 returns g c =
     let old = c.args.self.now.plan.early.proposals.items in
     let kept = subst (AreAmong old) (sym c.in_ok-store_early.ensures.kept.kept)
-    (cond_both (stores_early c.args.self.now c.args.proposal) _ _ (AreAmong old) (λ _. among_more old _) (λ _. among_still old)) in
+    (cond_both (stores_early c.args.self.now c.args.proposal) _ _ (AreAmong old) (λ _. among_more old _)
+    (λ _. among_still old)) in
     record {
-      continues = subst (Continues g.D.PartialEq.eq g.L.Elector.elect g.S.CertificateScheme.certificate_bytes g.S.Scheme.IsSignature None c.args.self.now.core)
+      continues = subst (Continues g.D.PartialEq.eq g.L.Elector.elect g.S.CertificateScheme.certificate_bytes
+          g.S.Scheme.IsSignature None c.args.self.now.core)
           (sym (ap (λ engine. engine.core) c.store_early.ensures.same)) (stays c.args.self.now.core);
       batcher = ap (λ engine. engine.batcher) c.store_early.ensures.same;
       unadmitted = λ _. (refl, c.in_ok-store_early.ensures.kept);
       acted = λ is. absurd (false≢true (sym c.if-admits_proposal.false ∙ c.admits_proposal.ensures ∙ is));
-      offered = subst (λ is. IsOffered g.D.PartialEq.eq g.L.Elector.elect g.D.Digest.bytes g.S.CertificateScheme.certificate_bytes c.args.now is c.args.from c.args.proposal c.args.self.now c.store_early.new.self)
+      offered = subst (λ is. IsOffered g.D.PartialEq.eq g.L.Elector.elect g.D.Digest.bytes
+          g.S.CertificateScheme.certificate_bytes c.args.now is c.args.from c.args.proposal c.args.self.now
+          c.store_early.new.self)
           (sym (sym c.admits_proposal.ensures ∙ c.if-admits_proposal.false)) c.in_ok-store_early.ensures.kept;
-      due_work = tells_planned c.args.self.now c.store_early.new.self (ap (λ engine. engine.core) c.store_early.ensures.same)
-          (plans_kept c.args.self.now.plan c.store_early.new.self.plan (ap (λ engine. engine.plan) c.store_early.ensures.same) kept);
+      due_work = tells_planned c.args.self.now c.store_early.new.self
+          (ap (λ engine. engine.core) c.store_early.ensures.same)
+          (plans_kept c.args.self.now.plan c.store_early.new.self.plan
+          (ap (λ engine. engine.plan) c.store_early.ensures.same) kept);
       provenance = comes_same (ap (λ engine. engine.core.member.facts) c.store_early.ensures.same)
-          (hand_with c.args.self.now c.store_early.new.self (Arrival c.args.from c.args.proposal ∷ []) (ap (λ engine. work_in engine.core.outbox.queue.items) c.store_early.ensures.same)
-          (kept_early c.args.from c.args.proposal c.args.self.now c.store_early.new.self c.in_ok-store_early.ensures.kept))
+          (hand_with c.args.self.now c.store_early.new.self (Arrival c.args.from c.args.proposal ∷ [])
+          (ap (λ engine. work_in engine.core.outbox.queue.items) c.store_early.ensures.same)
+          (kept_early c.args.from c.args.proposal c.args.self.now c.store_early.new.self
+          c.in_ok-store_early.ensures.kept))
           (asks_beside (Arrival c.args.from c.args.proposal ∷ []) (λ kind view. refl)
-          (keeps_asking (λ kind view. is_final c.store_early.new.self.core.member.facts view) (ap (λ engine. engine.plan.repair.resolver) c.store_early.ensures.same)
+          (keeps_asking (λ kind view. is_final c.store_early.new.self.core.member.facts view)
+          (ap (λ engine. engine.plan.repair.resolver) c.store_early.ensures.same)
           (λ kind view asked un. ap (λ engine. asks engine.plan kind view) c.store_early.ensures.same ∙ asked)));
     }

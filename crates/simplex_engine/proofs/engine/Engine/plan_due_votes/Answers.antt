@@ -19,19 +19,22 @@ pub returns-in-None-clause-planned : goal.returns-in-None-clause-planned
 returns-in-None-clause-planned g c = keeps_still
 
 pub returns-in_ok-touch-in-Some-clause-causes : goal.returns-in_ok-touch-in-Some-clause-causes
-returns-in_ok-touch-in-Some-clause-causes g c = planned_alone {old = watching c.args.self.now.plan} refl c.in_ok-touch-in-Some.ensures
+returns-in_ok-touch-in-Some-clause-causes g c =
+    planned_alone {old = watching c.args.self.now.plan} refl c.in_ok-touch-in-Some.ensures
 
 pub returns-in-None-clause-causes : goal.returns-in-None-clause-causes
 returns-in-None-clause-causes g c = among_still (planned_causes c.args.self.now.plan)
 
 pub returns-in_err-touch-in-Some-clause-causes : goal.returns-in_err-touch-in-Some-clause-causes
-returns-in_err-touch-in-Some-clause-causes g c = fails _ _ c.from_residual-in_err-touch-in-Some.result c.from_residual-in_err-touch-in-Some.ensures.1
+returns-in_err-touch-in-Some-clause-causes g c =
+    fails _ _ c.from_residual-in_err-touch-in-Some.result c.from_residual-in_err-touch-in-Some.ensures.1
 
 pub returns-in_ok-touch-in-Some-clause-asks : goal.returns-in_ok-touch-in-Some-clause-asks
 returns-in_ok-touch-in-Some-clause-asks g c = as_watched (asks_behind never c.in_ok-touch-in-Some.ensures)
 
 pub returns-in_err-touch-in-Some-clause-asks : goal.returns-in_err-touch-in-Some-clause-asks
-returns-in_err-touch-in-Some-clause-asks g c = fails _ _ c.from_residual-in_err-touch-in-Some.result c.from_residual-in_err-touch-in-Some.ensures.1
+returns-in_err-touch-in-Some-clause-asks g c =
+    fails _ _ c.from_residual-in_err-touch-in-Some.result c.from_residual-in_err-touch-in-Some.ensures.1
 
 pub returns-in-None-clause-asks : goal.returns-in-None-clause-asks
 returns-in-None-clause-asks g c = asks_where_same never refl

@@ -14,17 +14,23 @@ pub returns-then-not-branch : goal.returns-then-not-branch
 returns-then-not-branch g c = record {
   alone = alone_further c.loop.invariant.alone c.step.ensures.alone;
   due_work = tells_further c.loop.invariant.due_work c.in_ok-step.ensures.due_work;
-  provenance = comes_on c.loop.invariant.provenance c.in_ok-step.ensures.due_work.risen c.in_ok-step.ensures.due_work.works c.in_ok-step.ensures.provenance;
+  provenance = comes_on c.loop.invariant.provenance c.in_ok-step.ensures.due_work.risen
+      c.in_ok-step.ensures.due_work.works c.in_ok-step.ensures.provenance;
 }
 
 pub loop-init : goal.loop-init
-loop-init g c = record { alone = alone_still c.args.self.now; due_work = tells_still c.args.self.now; provenance = comes_still refl refl (λ kind view. refl) (among_still (pending_causes c.args.self.now)) }
+loop-init g c = record {
+  alone = alone_still c.args.self.now;
+  due_work = tells_still c.args.self.now;
+  provenance = comes_still refl refl (λ kind view. refl) (among_still (pending_causes c.args.self.now));
+}
 
 pub loop-preserved : goal.loop-preserved
 loop-preserved g c = record {
   alone = alone_further c.loop.invariant.alone c.step.ensures.alone;
   due_work = tells_further c.loop.invariant.due_work c.in_ok-step.ensures.due_work;
-  provenance = comes_on c.loop.invariant.provenance c.in_ok-step.ensures.due_work.risen c.in_ok-step.ensures.due_work.works c.in_ok-step.ensures.provenance;
+  provenance = comes_on c.loop.invariant.provenance c.in_ok-step.ensures.due_work.risen
+      c.in_ok-step.ensures.due_work.works c.in_ok-step.ensures.provenance;
 }
 
 pub returns : goal.returns

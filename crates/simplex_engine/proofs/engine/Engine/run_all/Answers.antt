@@ -17,18 +17,25 @@ returns-then-branch g c = record {
   idle = c.in_ok-run_and_ask.ensures.idle c.if-branch.true;
   ahead = c.in_ok-run_and_ask.ensures.ahead c.if-branch.true;
   due_work = tells_further c.loop.invariant.due_work c.in_ok-run_and_ask.ensures.due_work;
-  provenance = comes_on c.loop.invariant.provenance c.in_ok-run_and_ask.ensures.due_work.risen c.in_ok-run_and_ask.ensures.due_work.works c.in_ok-run_and_ask.ensures.provenance;
+  provenance = comes_on c.loop.invariant.provenance c.in_ok-run_and_ask.ensures.due_work.risen
+      c.in_ok-run_and_ask.ensures.due_work.works c.in_ok-run_and_ask.ensures.provenance;
 }
 
 pub loop-init : goal.loop-init
-loop-init g c = record { alone = alone_still c.args.self.now; due_work = tells_still c.args.self.now; provenance = comes_still refl refl (λ kind view. refl) (among_still (pending_causes c.args.self.now)) }
+loop-init g c = record {
+  alone = alone_still c.args.self.now;
+  due_work = tells_still c.args.self.now;
+  provenance = comes_still refl refl (λ kind view. refl) (among_still (pending_causes c.args.self.now));
+}
 
 pub loop-preserved : goal.loop-preserved
 loop-preserved g c = record {
   alone = alone_further c.loop.invariant.alone c.run_and_ask.ensures.alone;
   due_work = tells_further c.loop.invariant.due_work c.in_ok-run_and_ask.ensures.due_work;
-  provenance = comes_on c.loop.invariant.provenance c.in_ok-run_and_ask.ensures.due_work.risen c.in_ok-run_and_ask.ensures.due_work.works c.in_ok-run_and_ask.ensures.provenance;
+  provenance = comes_on c.loop.invariant.provenance c.in_ok-run_and_ask.ensures.due_work.risen
+      c.in_ok-run_and_ask.ensures.due_work.works c.in_ok-run_and_ask.ensures.provenance;
 }
 
 pub returns : goal.returns
-returns g c = record { alone = c.loop.invariant.alone; quiet = tt; idle = tt; ahead = tt; due_work = tt; provenance = tt }
+returns g c =
+    record { alone = c.loop.invariant.alone; quiet = tt; idle = tt; ahead = tt; due_work = tt; provenance = tt }

@@ -29,7 +29,8 @@ returns-then-not-branch g c = record {
   idle = λ is. absurd (false≢true is);
   ahead = λ is. absurd (false≢true is);
   due_work = tells_further c.in_ok-run.ensures.due_work c.in_ok-ask_for_work.ensures.due_work;
-  provenance = comes_on c.in_ok-run.ensures.provenance c.in_ok-ask_for_work.ensures.due_work.risen c.in_ok-ask_for_work.ensures.due_work.works c.in_ok-ask_for_work.ensures.provenance;
+  provenance = comes_on c.in_ok-run.ensures.provenance c.in_ok-ask_for_work.ensures.due_work.risen
+      c.in_ok-ask_for_work.ensures.due_work.works c.in_ok-ask_for_work.ensures.provenance;
 }
 
 pub returns-then-not-is_idle : goal.returns-then-not-is_idle
@@ -39,7 +40,8 @@ returns-then-not-is_idle g c = record {
   idle = λ is. absurd (false≢true is);
   ahead = λ is. absurd (false≢true is);
   due_work = tells_further c.in_ok-run.ensures.due_work c.in_ok-ask_for_work.ensures.due_work;
-  provenance = comes_on c.in_ok-run.ensures.provenance c.in_ok-ask_for_work.ensures.due_work.risen c.in_ok-ask_for_work.ensures.due_work.works c.in_ok-ask_for_work.ensures.provenance;
+  provenance = comes_on c.in_ok-run.ensures.provenance c.in_ok-ask_for_work.ensures.due_work.risen
+      c.in_ok-ask_for_work.ensures.due_work.works c.in_ok-ask_for_work.ensures.provenance;
 }
 
 pub returns-then-not-builds_ahead : goal.returns-then-not-builds_ahead
@@ -49,7 +51,8 @@ returns-then-not-builds_ahead g c = record {
   idle = λ is. absurd (false≢true is);
   ahead = λ is. absurd (false≢true is);
   due_work = tells_further c.in_ok-run.ensures.due_work c.in_ok-ask_for_work.ensures.due_work;
-  provenance = comes_on c.in_ok-run.ensures.provenance c.in_ok-ask_for_work.ensures.due_work.risen c.in_ok-ask_for_work.ensures.due_work.works c.in_ok-ask_for_work.ensures.provenance;
+  provenance = comes_on c.in_ok-run.ensures.provenance c.in_ok-ask_for_work.ensures.due_work.risen
+      c.in_ok-ask_for_work.ensures.due_work.works c.in_ok-ask_for_work.ensures.provenance;
 }
 
 pub returns : goal.returns
@@ -62,20 +65,32 @@ returns g c =
     let is = c.plan_due_votes.ensures in
     record {
       alone = alone_further c.run.ensures.alone (alone_further c.ask_for_work.ensures.alone
-          (alone_with asked left (subst (Continues same elect g.S.CertificateScheme.certificate_bytes g.S.Scheme.IsSignature None asked.core) (sym is.core) (stays asked.core)) is.batcher));
+          (alone_with asked left (subst (Continues same elect g.S.CertificateScheme.certificate_bytes
+          g.S.Scheme.IsSignature None asked.core) (sym is.core) (stays asked.core)) is.batcher));
       quiet = IfOk-weaker c.plan_due_votes.result _ _ (λ nothing holds none. record {
         before = before;
-        quiet = subst (λ plan. IsQuiet same elect c.args.now plan.timeout before left.core.member.facts) (sym (holds none).1)
-            (subst (λ core. IsQuiet same elect c.args.now asked.plan.timeout before core.member.facts) (sym is.core) (c.in_ok-ask_for_work.ensures.quiet c.if-not-branch.false));
+        quiet = subst (λ plan. IsQuiet same elect c.args.now plan.timeout before left.core.member.facts)
+            (sym (holds none).1)
+            (subst (λ core. IsQuiet same elect c.args.now asked.plan.timeout before core.member.facts) (sym is.core)
+            (c.in_ok-ask_for_work.ensures.quiet c.if-not-branch.false));
         own = (holds none).0;
       }) is.nothing;
-      idle = IfOk-weaker c.plan_due_votes.result _ _ (λ nothing holds none. subst (IsIdle c.args.now) (sym (holds none).1) (c.is_idle.ensures.0 c.if-not-is_idle.false)) is.nothing;
-      ahead = IfOk-weaker c.plan_due_votes.result _ _ (λ nothing holds none. subst (BuildsAhead left.core) (sym (holds none).1)
-          (subst (λ core. BuildsAhead core asked.plan) (sym is.core) (c.builds_ahead.ensures c.if-not-builds_ahead.false))) is.nothing;
+      idle = IfOk-weaker c.plan_due_votes.result _ _
+          (λ nothing holds none. subst (IsIdle c.args.now) (sym (holds none).1)
+          (c.is_idle.ensures.0 c.if-not-is_idle.false)) is.nothing;
+      ahead = IfOk-weaker c.plan_due_votes.result _ _
+          (λ nothing holds none. subst (BuildsAhead left.core) (sym (holds none).1)
+          (subst (λ core. BuildsAhead core asked.plan) (sym is.core)
+          (c.builds_ahead.ensures c.if-not-builds_ahead.false))) is.nothing;
       due_work = on_ok c.plan_due_votes.result is.planned
-          (λ planned. tells_further c.in_ok-run.ensures.due_work (tells_further c.in_ok-ask_for_work.ensures.due_work (tells_planned asked left is.core planned)));
+          (λ planned. tells_further c.in_ok-run.ensures.due_work
+          (tells_further c.in_ok-ask_for_work.ensures.due_work (tells_planned asked left is.core planned)));
       provenance = on_ok_all c.plan_due_votes.result is.planned is.causes is.asks
-          (λ planned causes asks. comes_on (comes_on c.in_ok-run.ensures.provenance c.in_ok-ask_for_work.ensures.due_work.risen c.in_ok-ask_for_work.ensures.due_work.works c.in_ok-ask_for_work.ensures.provenance)
+          (λ planned causes asks. comes_on (comes_on c.in_ok-run.ensures.provenance
+          c.in_ok-ask_for_work.ensures.due_work.risen c.in_ok-ask_for_work.ensures.due_work.works
+          c.in_ok-ask_for_work.ensures.provenance)
           (risen_facts (ap (λ core. core.member.facts) is.core)) (tells_planned asked left is.core planned).works
-          (comes_same (ap (λ core. core.member.facts) is.core) (hand_alone asked left (ap (λ core. work_in core.outbox.queue.items) is.core) causes) (asks_over _ asks)));
+          (comes_same (ap (λ core. core.member.facts) is.core)
+          (hand_alone asked left (ap (λ core. work_in core.outbox.queue.items) is.core) causes)
+          (asks_over _ asks)));
     }

@@ -23,7 +23,8 @@ pub returns-in_err-drop_unretained-clause-idle : goal.returns-in_err-drop_unreta
 returns-in_err-drop_unretained-clause-idle g c = c.drop_unretained.ensures.idle
 
 pub returns-in_err-store-clause-alone : goal.returns-in_err-store-clause-alone
-returns-in_err-store-clause-alone g c = forgets_then c.drop_unretained.ensures.alone c.store.ensures.continues c.store.ensures.member refl
+returns-in_err-store-clause-alone g c = forgets_then c.drop_unretained.ensures.alone c.store.ensures.continues
+    c.store.ensures.member refl
 
 pub returns-in_err-store-clause-member : goal.returns-in_err-store-clause-member
 returns-in_err-store-clause-member g c = c.store.ensures.member ∙ c.drop_unretained.ensures.member
@@ -47,18 +48,28 @@ returns g c =
       builds = c.drop_unretained.ensures.builds;
       timeout = c.in_ok-drop_unretained.ensures.timeout;
       whole = c.in_ok-store.ensures.whole;
-      lowest = subst (λ m. IfSome m.facts.life (λ x. HoldsFrom (min_active x) c.drop_unretained.new.self.batcher)) (sym c.store.ensures.member) c.in_ok-drop_unretained.ensures.lowest;
-      lacking = subst (λ m. IfSome m.facts.life (λ x. FetchesTheMissing repair.resolver.open_fetches x repair.fetches.wanted.items)) (sym c.store.ensures.member)
+      lowest = subst (λ m. IfSome m.facts.life (λ x. HoldsFrom (min_active x) c.drop_unretained.new.self.batcher))
+          (sym c.store.ensures.member) c.in_ok-drop_unretained.ensures.lowest;
+      lacking = subst (λ m. IfSome m.facts.life
+          (λ x. FetchesTheMissing repair.resolver.open_fetches x repair.fetches.wanted.items))
+          (sym c.store.ensures.member)
           c.in_ok-drop_unretained.ensures.lacking;
       due_work = tells_further c.in_ok-drop_unretained.ensures.due_work
-          (tells_beside c.drop_unretained.new.self (record (c.drop_unretained.new.self) { core = c.store.new.self }) (ap (λ m. m.facts.outstanding_work) c.store.ensures.member)
+          (tells_beside c.drop_unretained.new.self (record (c.drop_unretained.new.self) { core = c.store.new.self })
+          (ap (λ m. m.facts.outstanding_work) c.store.ensures.member)
           (ap (λ m. m.facts.life) c.store.ensures.member)
           c.store.ensures.continues refl);
-      provenance = λ now. comes_then (subst (λ came. IsCaused g.D.PartialEq.eq g.L.Elector.elect g.D.Digest.bytes g.S.CertificateScheme.certificate_bytes now came [] (held_by c.drop_unretained.new.self) c.args.self.now c.drop_unretained.new.self)
+      provenance = λ now. comes_then (subst (λ came.
+          IsCaused g.D.PartialEq.eq g.L.Elector.elect g.D.Digest.bytes g.S.CertificateScheme.certificate_bytes now came
+          [] (held_by c.drop_unretained.new.self) c.args.self.now c.drop_unretained.new.self)
           (ap (λ m. forgettable m.facts) (sym c.store.ensures.member)) (c.in_ok-drop_unretained.ensures.provenance now))
-          (λ kind view un. subst (λ m. option_map_or (λ x. holds repair.resolver.open_fetches x kind view) m.facts.life true ≡ false) c.store.ensures.member un)
+          (λ kind view un. subst (λ m. option_map_or (λ x. holds repair.resolver.open_fetches x kind view) m.facts.life
+          true ≡ false) c.store.ensures.member un)
           (risen_facts (ap (λ m. m.facts) c.store.ensures.member))
-          (tells_beside c.drop_unretained.new.self (record (c.drop_unretained.new.self) { core = c.store.new.self }) (ap (λ m. m.facts.outstanding_work) c.store.ensures.member)
-          (ap (λ m. m.facts.life) c.store.ensures.member) c.store.ensures.continues refl).works (comes_still (ap (λ m. m.facts) c.store.ensures.member) refl (λ kind view. refl)
-          (hand_alone c.drop_unretained.new.self (record (c.drop_unretained.new.self) { core = c.store.new.self }) c.store.ensures.no_work (among_still (planned_causes c.drop_unretained.new.self.plan))));
+          (tells_beside c.drop_unretained.new.self (record (c.drop_unretained.new.self) { core = c.store.new.self })
+          (ap (λ m. m.facts.outstanding_work) c.store.ensures.member)
+          (ap (λ m. m.facts.life) c.store.ensures.member) c.store.ensures.continues refl).works
+          (comes_still (ap (λ m. m.facts) c.store.ensures.member) refl (λ kind view. refl)
+          (hand_alone c.drop_unretained.new.self (record (c.drop_unretained.new.self) { core = c.store.new.self })
+          c.store.ensures.no_work (among_still (planned_causes c.drop_unretained.new.self.plan))));
     }

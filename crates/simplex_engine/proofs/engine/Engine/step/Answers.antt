@@ -21,17 +21,22 @@ returns-in-Some g c = record {
   done = on_ok c.take_step.result c.take_step.ensures.done (λ done. record {
     next = Some c.in-Some.step;
     left = c.next.new.self;
-    is_next = subst (λ next. HasTaken c.args.now next c.args.self.now.plan c.next.new.self) c.in-Some.is c.in_ok-step.ensures;
+    is_next = subst (λ next. HasTaken c.args.now next c.args.self.now.plan c.next.new.self) c.in-Some.is
+        c.in_ok-step.ensures;
     taken = done;
   });
   alone = record { continues = c.take_step.ensures.alone.continues; batcher = c.take_step.ensures.alone.batcher };
-  due_work = tells_taken c.take_step.result c.in-Some.step c.args.self.now (record c.args.self.now { plan = c.next.new.self }) c.take_step.new.self refl
-      (subst (λ taken. IsPlanned [] (λ view. false) (work_planned c.args.self.now.plan.steps.items) (beside_of c.args.self.now.plan)
+  due_work = tells_taken c.take_step.result c.in-Some.step c.args.self.now
+      (record c.args.self.now { plan = c.next.new.self }) c.take_step.new.self refl
+      (subst (λ taken. IsPlanned [] (λ view. false) (work_planned c.args.self.now.plan.steps.items)
+      (beside_of c.args.self.now.plan)
       (work_planned (option_to_list taken ++ c.next.new.self.steps.items)) (beside_of c.next.new.self)) c.in-Some.is
-      (taken_keeps c.args.now c.in_ok-step.field-0 c.args.self.now.plan c.next.new.self c.in_ok-step.ensures)) c.take_step.ensures.due_work;
+      (taken_keeps c.args.now c.in_ok-step.field-0 c.args.self.now.plan c.next.new.self c.in_ok-step.ensures))
+      c.take_step.ensures.due_work;
   provenance = on_ok c.take_step.result c.take_step.ensures.provenance (comes_taken c.in-Some.step refl
       (taken_hand c.in-Some.step c.args.self.now (record c.args.self.now { plan = c.next.new.self }) refl
-      (subst (λ taken. AreAmong (of_steps (option_to_list taken) ++ planned_causes c.next.new.self) (planned_causes c.args.self.now.plan)) c.in-Some.is
+      (subst (λ taken. AreAmong (of_steps (option_to_list taken) ++ planned_causes c.next.new.self)
+      (planned_causes c.args.self.now.plan)) c.in-Some.is
       (taken_alone c.args.now c.in_ok-step.field-0 c.args.self.now.plan c.next.new.self c.in_ok-step.ensures)))
       (subst (λ taken. AsksOn (option_to_list taken) c.args.self.now.plan c.next.new.self) c.in-Some.is
       (taken_asks c.args.now c.in_ok-step.field-0 c.args.self.now.plan c.next.new.self c.in_ok-step.ensures)));
@@ -42,16 +47,19 @@ returns-in-None g c = record {
   done = record {
     next = None;
     left = c.next.new.self;
-    is_next = subst (λ next. HasTaken c.args.now next c.args.self.now.plan c.next.new.self) c.in-None.is c.in_ok-step.ensures;
+    is_next = subst (λ next. HasTaken c.args.now next c.args.self.now.plan c.next.new.self) c.in-None.is
+        c.in_ok-step.ensures;
     taken = refl;
   };
   alone = record { continues = stays c.args.self.now.core; batcher = refl };
   due_work = tells_planned c.args.self.now (record c.args.self.now { plan = c.next.new.self }) refl
-      (subst (λ taken. IsPlanned [] (λ view. false) (work_planned c.args.self.now.plan.steps.items) (beside_of c.args.self.now.plan)
+      (subst (λ taken. IsPlanned [] (λ view. false) (work_planned c.args.self.now.plan.steps.items)
+      (beside_of c.args.self.now.plan)
       (work_planned (option_to_list taken ++ c.next.new.self.steps.items)) (beside_of c.next.new.self)) c.in-None.is
       (taken_keeps c.args.now c.in_ok-step.field-0 c.args.self.now.plan c.next.new.self c.in_ok-step.ensures));
   provenance = comes_same refl (hand_alone c.args.self.now (record c.args.self.now { plan = c.next.new.self }) refl
-      (subst (λ taken. AreAmong (of_steps (option_to_list taken) ++ planned_causes c.next.new.self) (planned_causes c.args.self.now.plan)) c.in-None.is
+      (subst (λ taken. AreAmong (of_steps (option_to_list taken) ++ planned_causes c.next.new.self)
+      (planned_causes c.args.self.now.plan)) c.in-None.is
       (taken_alone c.args.now c.in_ok-step.field-0 c.args.self.now.plan c.next.new.self c.in_ok-step.ensures)))
       (asks_none (subst (λ taken. AsksOn (option_to_list taken) c.args.self.now.plan c.next.new.self) c.in-None.is
       (taken_asks c.args.now c.in_ok-step.field-0 c.args.self.now.plan c.next.new.self c.in_ok-step.ensures)));

@@ -21,15 +21,18 @@ returns-clause-alone g c = record { continues = c.store.ensures.continues; batch
 pub returns-clause-short : goal.returns-clause-short
 returns-clause-short g c = λ given kept is.
     subst (λ long. IsShort long c.store.new.self.member.facts) c.long_record.ensures
-    (c.is_record_too_long.ensures.short (is_not c.is_record_too_long.result is) (c.store.ensures.continues.kept given kept).reaching c.in_ok-store.ensures.whole)
+    (c.is_record_too_long.ensures.short (is_not c.is_record_too_long.result is)
+    (c.store.ensures.continues.kept given kept).reaching c.in_ok-store.ensures.whole)
 
 pub returns-clause-due_work : goal.returns-clause-due_work
 returns-clause-due_work g c =
-    tells_beside c.args.self.now (record c.args.self.now { core = c.store.new.self }) (ap (λ m. m.facts.outstanding_work) c.store.ensures.member)
+    tells_beside c.args.self.now (record c.args.self.now { core = c.store.new.self })
+    (ap (λ m. m.facts.outstanding_work) c.store.ensures.member)
     (ap (λ m. m.facts.life) c.store.ensures.member)
     c.store.ensures.continues refl
 
 pub returns-clause-provenance : goal.returns-clause-provenance
 returns-clause-provenance g c now =
     comes_still (ap (λ m. m.facts) c.store.ensures.member) refl (λ kind view. refl)
-    (hand_alone c.args.self.now (record c.args.self.now { core = c.store.new.self }) c.store.ensures.no_work (among_still (planned_causes c.args.self.now.plan)))
+    (hand_alone c.args.self.now (record c.args.self.now { core = c.store.new.self }) c.store.ensures.no_work
+    (among_still (planned_causes c.args.self.now.plan)))

@@ -17,13 +17,18 @@ returns-clause-plan g c =
     record {
       options_now = c.new-2.ensures.options.0;
       alone = c.new-2.ensures.options.1;
-      views = subst (λ (views : Views). IfSome c.args.member.now.facts.life (λ x. (views.current ≡ x.current) × (views.last_finalized ≡ x.finalized)))
+      views = subst (λ (views : Views). IfSome c.args.member.now.facts.life
+          (λ x. (views.current ≡ x.current) × (views.last_finalized ≡ x.finalized)))
           (sym c.new-2.ensures.views) c.views_of.ensures;
-      repair = is_repair_of bytes term_length c.args.member.now.facts.entries c.args.company.now.peers c.args.options.retry resolver c.in_ok-repair.repair
+      repair = is_repair_of bytes term_length c.args.member.now.facts.entries c.args.company.now.peers
+          c.args.options.retry resolver c.in_ok-repair.repair
           c.new-2.result.repair c.new-2.ensures.repair
-          (subst (λ entries. HasReceivedCalls term_length (Replayed ∷ calls_of bytes (reverse entries)) resolver) c.record.ensures.entries c.in_ok-resolver.ensures.told)
-          c.in_ok-repair.ensures.resolver (c.in_ok-repair.ensures.fetches ∙ ap (wanting resolver.open_fetches) c.new-fetches.ensures.none)
-          (c.in_ok-repair.ensures.same.0 ∙ c.new-fetches.ensures.parts.0) (c.in_ok-repair.ensures.same.1 ∙ c.new-fetches.ensures.parts.1)
+          (subst (λ entries. HasReceivedCalls term_length (Replayed ∷ calls_of bytes (reverse entries)) resolver)
+          c.record.ensures.entries c.in_ok-resolver.ensures.told)
+          c.in_ok-repair.ensures.resolver
+          (c.in_ok-repair.ensures.fetches ∙ ap (wanting resolver.open_fetches) c.new-fetches.ensures.none)
+          (c.in_ok-repair.ensures.same.0 ∙ c.new-fetches.ensures.parts.0)
+          (c.in_ok-repair.ensures.same.1 ∙ c.new-fetches.ensures.parts.1)
           c.in_ok-repair.ensures.begun.1;
       nothing = c.new-2.ensures.nothing;
       due = c.new-2.ensures.due;

@@ -6,4 +6,5 @@ use Rattle.simplex_member.proofs.member.restart.copy_of.Given as goal
 abbrev pub invariant-loop-artifact : goal.invariant-loop-artifact
 invariant-loop-artifact g l =
     let bytes_of = g.S.CertificateScheme.certificate_bytes in
-    entries_of bytes_of l.copy.items ++ entries_of bytes_of (drop l.artifact-index l.artifacts) ≡ entries_of bytes_of l.artifacts
+    entries_of bytes_of l.copy.items ++ entries_of bytes_of (drop l.artifact-index l.artifacts) ≡ entries_of bytes_of
+    l.artifacts

@@ -7,4 +7,5 @@ pub returns-in-Ok : goal.returns-in-Ok
 returns-in-Ok c =
     let at = c.in-Some.ensures.0 in
     reported c.apply.result _ _ _ _ _ _ _ _ at.above (same_verdict _ c.args.success _ _ at c.in-Some.ensures.1)
-    c.in-Ok.ensures.accepted.0 c.in-Ok.ensures.effects (c.apply.ensures.state ∙ c.in-Ok.ensures.after) c.apply.ensures.answer c.apply.ensures.applied
+    c.in-Ok.ensures.accepted.0 c.in-Ok.ensures.effects (c.apply.ensures.state ∙ c.in-Ok.ensures.after)
+    c.apply.ensures.answer c.apply.ensures.applied

@@ -10,4 +10,5 @@ returns-then-entries-closed-clause-answer g c =
 pub returns-in-Some-clause-answer : goal.returns-in-Some-clause-answer
 returns-in-Some-clause-answer g c =
     ap not c.is_vote.ensures
-    ∙ last_open g.S.CertificateScheme.certificate_bytes c.args.closed c.args.entries.now c.in-Some.last.now (search rules) (sym c.in-Some.ensures.value)
+    ∙ last_open g.S.CertificateScheme.certificate_bytes c.args.closed c.args.entries.now c.in-Some.last.now
+    (search rules) (sym c.in-Some.ensures.value)

@@ -5,12 +5,16 @@ use Rattle.simplex_record.proofs.record.recovery.add.Goals as goal
 
 pub returns-in-Ok-add_notarization-clause-after : goal.returns-in-Ok-add_notarization-clause-after
 returns-in-Ok-add_notarization-clause-after g c =
-    rw c.in-Notarization.is (c.in-Ok-add_notarization.ensures.after ∙ ap (after_add_notarization g.D.PartialEq.eq g.L.Elector.elect c.args.state.now) c.in-Ok.ensures.same)
+    rw c.in-Notarization.is (c.in-Ok-add_notarization.ensures.after
+    ∙ ap (after_add_notarization g.D.PartialEq.eq g.L.Elector.elect c.args.state.now) c.in-Ok.ensures.same)
 
 pub returns-in-Ok-add_nullification-clause-after : goal.returns-in-Ok-add_nullification-clause-after
 returns-in-Ok-add_nullification-clause-after g c =
-    rw c.in-Nullification.is (c.in-Ok-add_nullification.ensures.after ∙ ap (λ n. after_add_nullification g.L.Elector.elect c.args.state.now n c.args.now) c.in-Ok-clone.ensures.same)
+    rw c.in-Nullification.is (c.in-Ok-add_nullification.ensures.after
+    ∙ ap (λ n. after_add_nullification g.L.Elector.elect c.args.state.now n c.args.now) c.in-Ok-clone.ensures.same)
 
 pub returns-in-Ok-add_finalization-clause-after : goal.returns-in-Ok-add_finalization-clause-after
 returns-in-Ok-add_finalization-clause-after g c =
-    rw c.in-Finalization.is (c.in-Ok-add_finalization.ensures.after ∙ ap (λ f. after_add_finalization g.D.PartialEq.eq g.L.Elector.elect c.args.state.now f c.args.now) c.in-Ok-clone-2.ensures.same)
+    rw c.in-Finalization.is (c.in-Ok-add_finalization.ensures.after
+    ∙ ap (λ f. after_add_finalization g.D.PartialEq.eq g.L.Elector.elect c.args.state.now f c.args.now)
+    c.in-Ok-clone-2.ensures.same)

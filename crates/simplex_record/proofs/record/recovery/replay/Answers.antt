@@ -4,4 +4,5 @@ use Rattle.simplex_record.proofs.record.recovery.replay.Goals as goal
 
 pub returns-clause-after : goal.returns-clause-after
 returns-clause-after g c =
-    rw (← replayed_entry g.S.CertificateScheme.certificate_bytes g.D.PartialEq.eq g.L.Elector.elect c.args.state.now c.args.artifact.now) c.replay.ensures.after
+    rw (← replayed_entry g.S.CertificateScheme.certificate_bytes g.D.PartialEq.eq g.L.Elector.elect c.args.state.now
+    c.args.artifact.now) c.replay.ensures.after

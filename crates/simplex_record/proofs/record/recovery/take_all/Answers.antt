@@ -13,4 +13,5 @@ loop-artifact-preserved g c =
     let a = c.artifact-item.result in
     rw c.in_ok-take_kept.ensures.after
     (taking_next bytes_of same elect c.args.state.now entries c.args.now c.loop-artifact.state a (drop (i + 1) entries)
-    (taking_at bytes_of same elect c.args.state.now entries c.args.now c.loop-artifact.state i a c.artifact-item.is c.loop-artifact-test.true c.loop-artifact.invariant))
+    (taking_at bytes_of same elect c.args.state.now entries c.args.now c.loop-artifact.state i a c.artifact-item.is
+    c.loop-artifact-test.true c.loop-artifact.invariant))

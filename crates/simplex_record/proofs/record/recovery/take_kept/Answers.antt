@@ -15,7 +15,8 @@ returns-then-lt-clause-after g c =
     let e = artifact_facts bytes_of c.args.artifact.now in
     let x = c.args.state.now in
     let low : nat_lt (entry_view e) (min_active x) ≡ true =
-    rw (← view_of_entry bytes_of c.args.artifact.now, ← c.view.ensures, ← c.min_active.ensures) (sym (is_lt-nat_cmp c.view.result c.min_active.result) ∙ sym c.lt.ensures ∙ c.if-lt.true) in
+    rw (← view_of_entry bytes_of c.args.artifact.now, ← c.view.ensures, ← c.min_active.ensures)
+    (sym (is_lt-nat_cmp c.view.result c.min_active.result) ∙ sym c.lt.ensures ∙ c.if-lt.true) in
     sym (low_taken g.D.PartialEq.eq g.L.Elector.elect x c.args.now e low)
 
 pub returns-clause-after : goal.returns-clause-after
@@ -24,5 +25,7 @@ returns-clause-after g c =
     let e = artifact_facts bytes_of c.args.artifact.now in
     let x = c.args.state.now in
     let kept : nat_lt (entry_view e) (min_active x) ≡ false =
-    rw (← view_of_entry bytes_of c.args.artifact.now, ← c.view.ensures, ← c.min_active.ensures) (sym (is_lt-nat_cmp c.view.result c.min_active.result) ∙ sym c.lt.ensures ∙ c.if-lt.false) in
-    subst (λ (y : StateFacts _ _ _). OnOk c.take.result (c.take.new.state ≡ y)) (sym (kept_taken g.D.PartialEq.eq g.L.Elector.elect x c.args.now e kept)) c.take.ensures.after
+    rw (← view_of_entry bytes_of c.args.artifact.now, ← c.view.ensures, ← c.min_active.ensures)
+    (sym (is_lt-nat_cmp c.view.result c.min_active.result) ∙ sym c.lt.ensures ∙ c.if-lt.false) in
+    subst (λ (y : StateFacts _ _ _). OnOk c.take.result (c.take.new.state ≡ y))
+    (sym (kept_taken g.D.PartialEq.eq g.L.Elector.elect x c.args.now e kept)) c.take.ensures.after

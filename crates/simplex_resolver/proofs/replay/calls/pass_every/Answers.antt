@@ -1,4 +1,5 @@
--- How the contract of `pass_every` follows: the facts are those after the calls of the entries so far, and none of these fails the resolver.
+-- How the contract of `pass_every` follows: the facts are those after the calls of the entries so far, and none of
+-- these fails the resolver.
 use Rattle.std.proofs.Common.{take, refl, ap, sym, ◌∙◌, subst}
 use Rattle.simplex_types.specs.Certificates.{artifact_facts}
 use Rattle.simplex_resolver.specs.RecordCalls.{newest_first, entry_calls, calls_of, all_after}
@@ -11,12 +12,14 @@ use Rattle.simplex_resolver.proofs.replay.calls.pass_every.Goals as goal
 pub hand-requires-clause-resumption : goal.hand-requires-clause-resumption
 hand-requires-clause-resumption g c =
     ap (λ x. x.is_failed) c.loop-place.invariant.after
-    ∙ all_go_on c.args.state.now (calls_of g.D.Digest.bytes (newest_first g.S.CertificateScheme.certificate_bytes (take c.loop-place.place c.args.entries.now)))
+    ∙ all_go_on c.args.state.now (calls_of g.D.Digest.bytes
+    (newest_first g.S.CertificateScheme.certificate_bytes (take c.loop-place.place c.args.entries.now)))
     ∙ c.requires.resumption
 
 pub hand-requires-clause-sound : goal.hand-requires-clause-sound
 hand-requires-clause-sound g c =
-    sound_at g.S.CertificateScheme.certificate_bytes c.args.entries.now c.loop-place.place c.index-entries-place.result c.index-entries-place.is c.loop-place-test.true c.requires.sound
+    sound_at g.S.CertificateScheme.certificate_bytes c.args.entries.now c.loop-place.place c.index-entries-place.result
+    c.index-entries-place.is c.loop-place-test.true c.requires.sound
 
 pub loop-place-init : goal.loop-place-init
 loop-place-init g c = record {
@@ -32,10 +35,14 @@ loop-place-preserved g c =
     let before = newest_first bytes_of (take c.loop-place.place c.args.entries.now) in
     let entry = artifact_facts bytes_of c.index-entries-place.result in
     record {
-      noted = subst (AreNoted bytes_of c.note.new.self) (sym (taken_at bytes_of c.args.entries.now c.loop-place.place c.index-entries-place.result c.index-entries-place.is c.loop-place-test.true)) c.note.ensures;
+      noted = subst (AreNoted bytes_of c.note.new.self)
+          (sym (taken_at bytes_of c.args.entries.now c.loop-place.place c.index-entries-place.result
+          c.index-entries-place.is c.loop-place-test.true)) c.note.ensures;
       after =
           c.in_ok-hand.ensures.after
           ∙ ap (λ y. all_after y (entry_calls payload_bytes before entry)) c.loop-place.invariant.after
           ∙ sym (all_after-append x (entry_calls payload_bytes before entry) (calls_of payload_bytes before))
-          ∙ ap (λ es. all_after x (calls_of payload_bytes es)) (sym (newest_at bytes_of c.args.entries.now c.loop-place.place c.index-entries-place.result c.index-entries-place.is c.loop-place-test.true));
+          ∙ ap (λ es. all_after x (calls_of payload_bytes es))
+          (sym (newest_at bytes_of c.args.entries.now c.loop-place.place c.index-entries-place.result
+          c.index-entries-place.is c.loop-place-test.true));
     }

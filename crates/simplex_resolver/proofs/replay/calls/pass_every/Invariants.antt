@@ -7,5 +7,6 @@ use Rattle.simplex_resolver.proofs.replay.calls.pass_every.Given as goal
 abbrev pub invariant-loop-place : goal.invariant-loop-place
 invariant-loop-place g l = record {
   noted : AreNoted g.S.CertificateScheme.certificate_bytes l.places (take l.place l.entries);
-  after : l.state ≡ all_after l.fn.state (calls_of g.D.Digest.bytes (newest_first g.S.CertificateScheme.certificate_bytes (take l.place l.entries)));
+  after : l.state ≡ all_after l.fn.state
+      (calls_of g.D.Digest.bytes (newest_first g.S.CertificateScheme.certificate_bytes (take l.place l.entries)));
 }

@@ -1,4 +1,5 @@
--- How the contract of `check_entries` follows: the entries so far break no rule and their notarizations are noted, which decides of the next one.
+-- How the contract of `check_entries` follows: the entries so far break no rule and their notarizations are noted,
+-- which decides of the next one.
 use Rattle.std.proofs.Common.{take, refl, ap, sym, ◌∙◌, subst}
 use Rattle.std.specs.Option.{option_or}
 use Rattle.std.proofs.lemmas.Result.{err_from_is_err_and}
@@ -23,7 +24,9 @@ loop-place-preserved g c =
     let x = c.index-entries-place.result in
     let before = newest_first bytes_of (take c.loop-place.place xs) in
     record {
-      noted = subst (AreNoted bytes_of c.note.new.self) (sym (taken_at bytes_of xs c.loop-place.place x c.index-entries-place.is c.loop-place-test.true)) c.note.ensures;
+      noted = subst (AreNoted bytes_of c.note.new.self)
+          (sym (taken_at bytes_of xs c.loop-place.place x c.index-entries-place.is c.loop-place-test.true))
+          c.note.ensures;
       sound =
           ap record_error (newest_at bytes_of xs c.loop-place.place x c.index-entries-place.is c.loop-place-test.true)
           ∙ ap (λ o. option_or o (entry_error before (artifact_facts bytes_of x))) c.loop-place.invariant.sound
@@ -33,5 +36,7 @@ loop-place-preserved g c =
 pub returns-in_err-check_entry-clause-broken : goal.returns-in_err-check_entry-clause-broken
 returns-in_err-check_entry-clause-broken g c =
     let p = err_from_is_err_and c.from_residual.result c.from_residual.ensures.1 in
-    rw (p.1, p.2) (broken_at g.S.CertificateScheme.certificate_bytes c.args.entries.now c.loop-place.place c.index-entries-place.result
-    c.index-entries-place.is c.loop-place-test.true c.in_err-check_entry.field-0.0 c.loop-place.invariant.sound c.in_err-check_entry.ensures.broken)
+    rw (p.1, p.2) (broken_at g.S.CertificateScheme.certificate_bytes c.args.entries.now c.loop-place.place
+    c.index-entries-place.result
+    c.index-entries-place.is c.loop-place-test.true c.in_err-check_entry.field-0.0 c.loop-place.invariant.sound
+    c.in_err-check_entry.ensures.broken)

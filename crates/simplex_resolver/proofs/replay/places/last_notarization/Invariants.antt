@@ -7,5 +7,7 @@ abbrev pub invariant-loop-artifact : goal.invariant-loop-artifact
 invariant-loop-artifact g l = record {
   can_next : (goal.iterator-loop-artifact g).can_next l.artifact-iterator;
   finite : (goal.iterator-loop-artifact g).is_finite l.artifact-iterator;
-  rest : newest_notarization l.view (newest_first g.S.CertificateScheme.certificate_bytes l.fn.entries) ≡ newest_notarization l.view (newest_first g.S.CertificateScheme.certificate_bytes l.artifact-iterator.iter.rest.now);
+  rest : newest_notarization l.view (newest_first g.S.CertificateScheme.certificate_bytes l.fn.entries)
+      ≡ newest_notarization l.view
+      (newest_first g.S.CertificateScheme.certificate_bytes l.artifact-iterator.iter.rest.now);
 }

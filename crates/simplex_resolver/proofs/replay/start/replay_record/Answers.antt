@@ -1,4 +1,5 @@
--- How the contract of `replay_record` follows: the facts are those after the record's calls from none, and the last scan fetches what is needed.
+-- How the contract of `replay_record` follows: the facts are those after the record's calls from none, and the last
+-- scan fetches what is needed.
 use Rattle.std.proofs.Common.{ap, sym, ◌∙◌}
 use Rattle.simplex_resolver.specs.Steps.{Replayed, effects}
 use Rattle.simplex_resolver.specs.Repair.{is_outstanding}
@@ -16,18 +17,24 @@ pub returns-in-Ok-clause-effects : goal.returns-in-Ok-clause-effects
 returns-in-Ok-clause-effects g c =
     let calls = calls_of g.D.Digest.bytes (newest_first g.S.CertificateScheme.certificate_bytes c.args.entries.now) in
     c.in-Ok.ensures.effects
-    ∙ ap (λ x. effects x Replayed) (ap (λ x. all_after x calls) c.new-state.ensures ∙ sym (from_empty c.args.term_length calls))
+    ∙ ap (λ x. effects x Replayed)
+    (ap (λ x. all_after x calls) c.new-state.ensures ∙ sym (from_empty c.args.term_length calls))
 
 pub returns-in-Ok-clause-named : goal.returns-in-Ok-clause-named
-returns-in-Ok-clause-named g c =
-    (tt, calls_name_views g.D.Digest.bytes (newest_first g.S.CertificateScheme.certificate_bytes c.args.entries.now) c.in_ok-check_entries.ensures.kept)
+returns-in-Ok-clause-named g c = (
+  tt,
+  calls_name_views g.D.Digest.bytes (newest_first g.S.CertificateScheme.certificate_bytes c.args.entries.now)
+      c.in_ok-check_entries.ensures.kept,
+)
 
 pub returns-in-Ok-clause-wanted : goal.returns-in-Ok-clause-wanted
 returns-in-Ok-clause-wanted g c v =
     let entries = newest_first g.S.CertificateScheme.certificate_bytes c.args.entries.now in
     let calls = calls_of g.D.Digest.bytes entries in
     ap (λ es. is_outstanding es v) (
-    c.in-Ok.ensures.effects ∙ ap (λ x. effects x Replayed) (ap (λ x. all_after x calls) c.new-state.ensures ∙ sym (from_empty c.args.term_length calls))
+    c.in-Ok.ensures.effects ∙ ap (λ x. effects x Replayed)
+    (ap (λ x. all_after x calls) c.new-state.ensures ∙ sym (from_empty c.args.term_length calls))
     )
     ∙ end_fetches_wanted c.args.term_length calls c.get-positive.ensures.positive
-    (calls_name_views g.D.Digest.bytes entries c.in_ok-check_entries.ensures.kept) (calls_go_on g.D.Digest.bytes entries) v
+    (calls_name_views g.D.Digest.bytes entries c.in_ok-check_entries.ensures.kept)
+    (calls_go_on g.D.Digest.bytes entries) v

@@ -1,4 +1,5 @@
--- How the contract of `repair` follows: the outstanding views after any calls are those that it needs, and a certificate that is recorded again
+-- How the contract of `repair` follows: the outstanding views after any calls are those that it needs, and a
+-- certificate that is recorded again
 -- changes nothing.
 use Rattle.simplex_resolver.proofs.RepairLaw.{outstanding_is_wanted}
 use Rattle.simplex_resolver.proofs.Again.{recorded_again}

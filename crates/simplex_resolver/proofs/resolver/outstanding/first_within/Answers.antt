@@ -7,4 +7,6 @@ use Rattle.simplex_resolver.proofs.resolver.outstanding.first_within.Goals as go
 pub returns : goal.returns
 returns c =
     c.copied.ensures ∙ first_is c.next.result c.range.result c.next.new.self c.next.ensures.steps
-    ∙ ap (λ vs. slice_get vs 0) (c.range.ensures.between c.new.ensures.exhausted ∙ rw (c.new.ensures.start, c.new.ensures.end) (filter_agree _ _ (within c.args.start c.args.end) c.args.views.now.keys))
+    ∙ ap (λ vs. slice_get vs 0) (c.range.ensures.between c.new.ensures.exhausted
+    ∙ rw (c.new.ensures.start, c.new.ensures.end)
+    (filter_agree _ _ (within c.args.start c.args.end) c.args.views.now.keys))

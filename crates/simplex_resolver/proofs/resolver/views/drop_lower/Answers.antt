@@ -7,4 +7,5 @@ pub returns-in_default : goal.returns-in_default
 returns-in_default c v = let none = c.in_default.ensures in grind (arith, nat_tests, none)
 
 pub returns : goal.returns
-returns c v = let each = c.drop_range.ensures v in let last = c.in-Some.ensures in let zero = c.zero.ensures in grind (arith, nat_tests, each, last, zero)
+returns c v = let each = c.drop_range.ensures v in let last = c.in-Some.ensures in let zero = c.zero.ensures in
+    grind (arith, nat_tests, each, last, zero)

@@ -5,15 +5,20 @@ use Rattle.simplex_types.proofs.types.encoding.put_subject.Goals as goal
 
 pub returns-in_ok-put_u8-in-Notarize : goal.returns-in_ok-put_u8-in-Notarize
 returns-in_ok-put_u8-in-Notarize g c =
-    rw c.in-Notarize.is (behind_kind c.put_proposal.result c.args.out.now.items c.put_u8.new.self.items c.put_proposal.new.out.items
-    (proposal_bytes g.D.Digest.bytes c.in-Notarize.proposal) 0 c.in_ok-put_u8-in-Notarize.ensures.ok c.put_proposal.ensures)
+    rw c.in-Notarize.is
+    (behind_kind c.put_proposal.result c.args.out.now.items c.put_u8.new.self.items c.put_proposal.new.out.items
+    (proposal_bytes g.D.Digest.bytes c.in-Notarize.proposal) 0 c.in_ok-put_u8-in-Notarize.ensures.ok
+    c.put_proposal.ensures)
 
 pub returns-in_ok-put_u8-in-Nullify : goal.returns-in_ok-put_u8-in-Nullify
 returns-in_ok-put_u8-in-Nullify g c =
-    rw c.in-Nullify.is (behind_kind c.put_round.result c.args.out.now.items c.put_u8-in-Nullify.new.self.items c.put_round.new.out.items
+    rw c.in-Nullify.is (behind_kind c.put_round.result c.args.out.now.items c.put_u8-in-Nullify.new.self.items
+    c.put_round.new.out.items
     (round_bytes c.in-Nullify.round) 1 c.in_ok-put_u8-in-Nullify.ensures.ok c.put_round.ensures)
 
 pub returns-in_ok-put_u8-in-Finalize : goal.returns-in_ok-put_u8-in-Finalize
 returns-in_ok-put_u8-in-Finalize g c =
-    rw c.in-Finalize.is (behind_kind c.put_proposal-in-Finalize.result c.args.out.now.items c.put_u8-in-Finalize.new.self.items c.put_proposal-in-Finalize.new.out.items
-    (proposal_bytes g.D.Digest.bytes c.in-Finalize.proposal) 2 c.in_ok-put_u8-in-Finalize.ensures.ok c.put_proposal-in-Finalize.ensures)
+    rw c.in-Finalize.is (behind_kind c.put_proposal-in-Finalize.result c.args.out.now.items
+    c.put_u8-in-Finalize.new.self.items c.put_proposal-in-Finalize.new.out.items
+    (proposal_bytes g.D.Digest.bytes c.in-Finalize.proposal) 2 c.in_ok-put_u8-in-Finalize.ensures.ok
+    c.put_proposal-in-Finalize.ensures)

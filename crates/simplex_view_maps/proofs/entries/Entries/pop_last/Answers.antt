@@ -10,5 +10,7 @@ returns g c =
     let long = same_length rows in
     let some : c.self.inside.start < c.self.inside.end = omega (arith, c.self.invariant.0, c.if-self.false) in
     let within : c.self.inside.end ≤ length (unboxed rows) = omega (arith, long, c.self.invariant.1) in
-    let read = unboxed_at rows (c.self.inside.end - 1) c.index-entry.result.now (omega (arith, some, c.self.invariant.1)) c.index-entry.ensures.entry in
-    sym c.self.view_is ∙ rw c.deref.ensures (last_of_range (unboxed rows) c.self.inside.start c.self.inside.end (opened c.index-entry.result.now) some within read)
+    let read = unboxed_at rows (c.self.inside.end - 1) c.index-entry.result.now
+    (omega (arith, some, c.self.invariant.1)) c.index-entry.ensures.entry in
+    sym c.self.view_is ∙ rw c.deref.ensures (last_of_range (unboxed rows) c.self.inside.start c.self.inside.end
+    (opened c.index-entry.result.now) some within read)

@@ -12,13 +12,19 @@ pub returns-in_err-get : goal.returns-in_err-get
 returns-in_err-get g c =
     let length = c.self.inside.term_length in
     let v = c.args.view in
-    let found : map.get c.self.inside.terms (term_start length v) ≡ None = rw c.term_start-start.ensures at (sym c.get.ensures ∙ ap option_copied c.in_err-get.was) in
-    rw (← c.self.view_is, c.from_residual.ensures) (last_none ∙ ap last_entry (no_part length _ c.self.invariant (λ u. covers length u v) (λ key. ltb key (v + 1)) v (up_to_covers length v) found))
+    let found : map.get c.self.inside.terms (term_start length v) ≡ None =
+    rw c.term_start-start.ensures at (sym c.get.ensures ∙ ap option_copied c.in_err-get.was) in
+    rw (← c.self.view_is, c.from_residual.ensures)
+    (last_none ∙ ap last_entry (no_part length _ c.self.invariant (λ u. covers length u v) (λ key. ltb key (v + 1))
+    v (up_to_covers length v) found))
 
 pub returns : goal.returns
 returns g c =
     let length = c.self.inside.term_length in
     let v = c.args.view in
     let views = c.in_ok-get.field-0.now in
-    let found : map.get c.self.inside.terms (term_start length v) ≡ Some views = rw c.term_start-start.ensures at (sym c.get.ensures ∙ ap option_copied c.in_ok-get.was) in
-    rw (← c.self.view_is) (c.last_at.ensures ∙ ap last_entry (part_of length _ c.self.invariant (λ u. covers length u v) (λ key. ltb key (v + 1)) v (up_to_covers length v) views found))
+    let found : map.get c.self.inside.terms (term_start length v) ≡ Some views =
+    rw c.term_start-start.ensures at (sym c.get.ensures ∙ ap option_copied c.in_ok-get.was) in
+    rw (← c.self.view_is) (c.last_at.ensures
+    ∙ ap last_entry (part_of length _ c.self.invariant (λ u. covers length u v) (λ key. ltb key (v + 1)) v
+    (up_to_covers length v) views found))

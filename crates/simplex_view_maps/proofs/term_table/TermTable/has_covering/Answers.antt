@@ -8,4 +8,5 @@ use Rattle.simplex_view_maps.proofs.term_table.TermTable.has_covering.Goals as g
 pub returns : goal.returns
 returns g c =
     let m = c.args.self.now in
-    c.is_some.ensures ∙ some_mapped _ c.covering.result ∙ ap is_some c.covering.ensures ∙ any_last m.by_view (λ u. covers m.term_length u c.args.view)
+    c.is_some.ensures ∙ some_mapped _ c.covering.result ∙ ap is_some c.covering.ensures
+    ∙ any_last m.by_view (λ u. covers m.term_length u c.args.view)

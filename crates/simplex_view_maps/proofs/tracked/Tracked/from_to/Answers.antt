@@ -1,4 +1,5 @@
--- How the contract of `from_to` follows: the end of the last view bounds the entries up to it, as its place would those below.
+-- How the contract of `from_to` follows: the end of the last view bounds the entries up to it, as its place would those
+-- below.
 use Rattle.std.proofs.Common.{◌∙◌, ◌+◌}
 use Rattle.simplex_view_maps.proofs.Maps.{entries_of_made, place_within, places_rise, between_read}
 use Rattle.simplex_view_maps.proofs.Unboxed.{same_length}
@@ -6,10 +7,14 @@ use Rattle.simplex_view_maps.proofs.tracked.Tracked.from_to.Goals as goal
 
 pub within-requires : goal.within-requires
 within-requires g c =
-    let within = place_within _ _ _ _ (entries_of_made _ _ c.self.view_is c.self.invariant) c.end_of.ensures in
-    (places_rise c.args.self.now c.args.from (c.args.last + 1) _ _ c.requires c.find-start.ensures.place c.end_of.ensures, rw same_length within)
+    let within = place_within _ _ _ _ (entries_of_made _ _ c.self.view_is c.self.invariant) c.end_of.ensures in (
+      places_rise c.args.self.now c.args.from (c.args.last + 1) _ _ c.requires c.find-start.ensures.place
+          c.end_of.ensures,
+      rw same_length within,
+    )
 
 pub returns : goal.returns
 returns g c =
     let same = entries_of_made _ _ c.self.view_is c.self.invariant in
-    c.within.ensures ∙ between_read c.args.self.now c.args.from (c.args.last + 1) _ _ _ c.requires same c.find-start.ensures.place c.end_of.ensures
+    c.within.ensures ∙ between_read c.args.self.now c.args.from (c.args.last + 1) _ _ _ c.requires same
+    c.find-start.ensures.place c.end_of.ensures

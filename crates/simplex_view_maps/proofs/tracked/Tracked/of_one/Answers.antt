@@ -11,4 +11,5 @@ pub returns-clause-made : goal.returns-clause-made
 returns-clause-made g c =
     let empty = made_empty _ (ap unboxed c.in-Ok.ensures) in
     let none = ap (λ m. map.get m c.args.view) empty ∙ map.get-empty nat_cmp c.args.view in
-    put_new _ _ _ _ _ none c.in_ok-insert.ensures.standing c.in_ok-insert.ensures.after ∙ ap (λ m. map.insert m c.args.view c.args.value) empty
+    put_new _ _ _ _ _ none c.in_ok-insert.ensures.standing c.in_ok-insert.ensures.after
+    ∙ ap (λ m. map.insert m c.args.view c.args.value) empty

@@ -10,4 +10,5 @@ within-requires g c =
     (omega arith, rw same_length within)
 
 pub returns : goal.returns
-returns g c = c.within.ensures ∙ below_read _ _ _ _ (entries_of_made _ _ c.self.view_is c.self.invariant) c.end_of.ensures
+returns g c = c.within.ensures ∙ below_read _ _ _ _ (entries_of_made _ _ c.self.view_is c.self.invariant)
+    c.end_of.ensures

@@ -8,7 +8,8 @@ use Rattle.simplex_voter.proofs.voter.ranges.end_certifications.Given as goal
 abbrev pub invariant-loop-entry : goal.invariant-loop-entry
 invariant-loop-entry g l = record {
   in_range : l.next ≤ l.view + 1;
-  ended : (q : ℕ) → map.get l.rounds q ≡ (if nat_lt q l.next then option_map without_token (map.get l.fn.rounds q) else map.get l.fn.rounds q);
+  ended : (q : ℕ) → map.get l.rounds
+      q ≡ (if nat_lt q l.next then option_map without_token (map.get l.fn.rounds q) else map.get l.fn.rounds q);
 }
 
 abbrev pub decreases-loop-entry : goal.decreases-loop-entry

@@ -8,10 +8,13 @@ pub loop-entry-init : goal.loop-entry-init
 loop-entry-init g c = refl
 
 pub returns-then-was_refused_above : goal.returns-then-was_refused_above
-returns-then-was_refused_above g c = any_found (λ e. is_refused_above c.args.rounds.now c.args.above e.0) _ _ c.loop-entry.invariant _ _ c.in-Some.ensures c.if-was_refused_above.ensures
+returns-then-was_refused_above g c = any_found (λ e. is_refused_above c.args.rounds.now c.args.above e.0) _ _
+    c.loop-entry.invariant _ _ c.in-Some.ensures c.if-was_refused_above.ensures
 
 pub loop-entry-preserved : goal.loop-entry-preserved
-loop-entry-preserved g c = any_next (λ e. is_refused_above c.args.rounds.now c.args.above e.0) _ _ c.loop-entry.invariant _ _ c.in-Some.ensures c.if-was_refused_above.ensures
+loop-entry-preserved g c = any_next (λ e. is_refused_above c.args.rounds.now c.args.above e.0) _ _
+    c.loop-entry.invariant _ _ c.in-Some.ensures c.if-was_refused_above.ensures
 
 pub returns : goal.returns
-returns g c = any_end (λ e. is_refused_above c.args.rounds.now c.args.above e.0) _ _ c.loop-entry.invariant c.in_default.ensures.0
+returns g c = any_end (λ e. is_refused_above c.args.rounds.now c.args.above e.0) _ _ c.loop-entry.invariant
+    c.in_default.ensures.0

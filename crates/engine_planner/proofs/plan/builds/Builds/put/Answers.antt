@@ -12,7 +12,8 @@ invariant_of-self g c =
     record {
       once = subst (λ blocks. one_a_view blocks ≡ true) (sym c.push.ensures.items)
           (cond_both (is_ok c.push.result) _ _ (λ blocks. one_a_view blocks ≡ true)
-          (λ _. subst (λ blocks. one_a_view (blocks ++ record { context = c.args.context; is_reported = c.args.is_reported } ∷ []) ≡ true) (sym left)
+          (λ _. subst (λ blocks. one_a_view
+          (blocks ++ record { context = c.args.context; is_reported = c.args.is_reported } ∷ []) ≡ true) (sym left)
           (put_once old (record { context = c.args.context; is_reported = c.args.is_reported }) c.args.self.now.once))
           (λ _. c.end.new.self.once));
     }

@@ -12,5 +12,6 @@ invariant_of-self g c =
     (ap length c.mark_reported.ensures ∙ length-map all (told_by c.args.view) ∙ c.deref_mut.ensures.len) in
     record {
       once = subst (λ blocks. one_a_view blocks ≡ true) (sym (same ∙ c.mark_reported.ensures))
-          (told_once c.args.view all (subst (λ blocks. one_a_view blocks ≡ true) (sym c.deref_mut.ensures.value) c.args.self.now.once));
+          (told_once c.args.view all
+          (subst (λ blocks. one_a_view blocks ≡ true) (sym c.deref_mut.ensures.value) c.args.self.now.once));
     }

@@ -5,5 +5,6 @@ use Rattle.example_engine.proofs.scheme.codec.SealSchemeSchemeCodec.write_signat
 
 pub returns-clause-written : goal.returns-clause-written
 returns-clause-written c =
-    appended c.args.out.now.items c.put_u32.new.self.items (to_be_bytes w32 c.args.signature.now.key.number) (to_be_bytes w64 c.args.signature.now.sum)
+    appended c.args.out.now.items c.put_u32.new.self.items (to_be_bytes w32 c.args.signature.now.key.number)
+    (to_be_bytes w64 c.args.signature.now.sum)
     c.put_u64.result c.put_u64.new.self.items c.in_ok-put_u32.ensures.ok c.put_u64.ensures.ok

@@ -10,4 +10,5 @@ returns-clause-votes g c = rw (← c.self.view_is) c.prune_record.ensures.votes
 
 pub returns-clause-continues : goal.returns-clause-continues
 returns-clause-continues g c term_length i all done =
-    rw c.prune_record.ensures.pruned (prune_done g.D.PartialEq.eq g.L.Elector.elect term_length i c.self.inside.member.facts all (rw c.self.view_is done))
+    rw c.prune_record.ensures.pruned (prune_done g.D.PartialEq.eq g.L.Elector.elect term_length i
+    c.self.inside.member.facts all (rw c.self.view_is done))

@@ -21,7 +21,9 @@ returns-in-Ok-clause-continues g c m same_stored same_entries term_length i all 
     let elect = g.L.Elector.elect in
     let start = start_facts me participants terms early bytes_of c.args.start in
     let again : Restart _ _ _ _ _ _ = record { drop = 0; prune = false; start = c.args.start } in
-    let restarted = resumed_restart same elect start c.args.stored (entries_of bytes_of c.args.entries.items) m c.in-Ok.member.facts same_stored same_entries c.in-Ok.ensures.resumed in
-    restart_done same elect term_length i m c.in-Ok.member.facts (whole_restart start) (Ok tt) all (floor_in c.args.start.floor) restarted
+    let restarted = resumed_restart same elect start c.args.stored (entries_of bytes_of c.args.entries.items) m
+    c.in-Ok.member.facts same_stored same_entries c.in-Ok.ensures.resumed in
+    restart_done same elect term_length i m c.in-Ok.member.facts (whole_restart start) (Ok tt) all
+    (floor_in c.args.start.floor) restarted
     (begins_as me participants terms early bytes_of term_length i c.args.start holds)
     (restart_shown me participants terms early bytes_of again (Ok tt)) done

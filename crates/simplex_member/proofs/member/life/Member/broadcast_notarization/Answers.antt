@@ -1,4 +1,5 @@
--- How the contract of `broadcast_notarization` follows: the state hands the notarization out once, and nothing is recorded.
+-- How the contract of `broadcast_notarization` follows: the state hands the notarization out once, and nothing is
+-- recorded.
 use Rattle.std.proofs.Common.{ap, false, option_map, refl, sym, ◌∙◌}
 use Rattle.std.proofs.lemmas.List.{append-nil}
 use Rattle.std.proofs.lemmas.Result.{IfOk-weaker}
@@ -16,7 +17,9 @@ invariant_of-self g c =
     let i = c.self.inside in
     let x = c.deref_mut.result.now in
     let p = c.broadcast_notarization-made in
-    λ alive. part_goes_on g.D.PartialEq.eq g.L.Elector.elect x i.outstanding_work.open_now (BroadcastNotarization c.args.view) p.result p.new.state p.ensures.after p.ensures.refused kept.0 kept.1 (sym c.is_lost-self-inside.ensures ∙ alive)
+    λ alive. part_goes_on g.D.PartialEq.eq g.L.Elector.elect x i.outstanding_work.open_now
+    (BroadcastNotarization c.args.view) p.result p.new.state p.ensures.after p.ensures.refused kept.0 kept.1
+    (sym c.is_lost-self-inside.ensures ∙ alive)
 
 pub returns-clause-made : goal.returns-clause-made
 returns-clause-made g c =
@@ -24,9 +27,26 @@ returns-clause-made g c =
     let i = c.self.inside in
     let x = c.deref_mut.result.now in
     let p = c.broadcast_notarization-made in
-    let m : MemberFacts _ _ _ = record { life = living false x; outstanding_work = open_while false i.outstanding_work.open_now; entries = entries_of g.S.CertificateScheme.certificate_bytes i.artifacts.items; closed = i.closed; is_pruned = i.is_pruned; retention = i.retention; least_retention = i.least_retention } in
-    rw (← c.self.view_is, c.if-self.false, c.is_lost-self-inside.ensures, ended_so p.result c.map_err.result c.map_err.ensures.cases, ← c.deref_mut.ensures.value)
-    (part_made g.D.PartialEq.eq g.L.Elector.elect m (BroadcastNotarization c.args.view) (λ certificate. Returned (option_map (certificate_facts g.S.CertificateScheme.certificate_bytes) certificate)) x refl refl p.result p.new.state i.outstanding_work.open_now (entries_of g.S.CertificateScheme.certificate_bytes i.artifacts.items)
+    let m : MemberFacts _ _ _ = record {
+      life = living false x;
+      outstanding_work = open_while false i.outstanding_work.open_now;
+      entries = entries_of g.S.CertificateScheme.certificate_bytes i.artifacts.items;
+      closed = i.closed;
+      is_pruned = i.is_pruned;
+      retention = i.retention;
+      least_retention = i.least_retention;
+    } in
+    rw (
+      ← c.self.view_is,
+      c.if-self.false,
+      c.is_lost-self-inside.ensures,
+      ended_so p.result c.map_err.result c.map_err.ensures.cases,
+      ← c.deref_mut.ensures.value,
+    )
+    (part_made g.D.PartialEq.eq g.L.Elector.elect m (BroadcastNotarization c.args.view)
+    (λ certificate. Returned (option_map (certificate_facts g.S.CertificateScheme.certificate_bytes) certificate)) x
+    refl refl p.result p.new.state i.outstanding_work.open_now
+    (entries_of g.S.CertificateScheme.certificate_bytes i.artifacts.items)
     (record {
       due = so_ok p.result (rw kept.0 refl);
       answer = IfOk-weaker p.result _ _ (λ certificate is. ap Returned is) p.ensures.answer;
@@ -39,15 +59,26 @@ returns-clause-made g c =
     }))
 
 pub returns-clause-answered : goal.returns-clause-answered
-returns-clause-answered g c = told_answered g.D.PartialEq.eq g.L.Elector.elect c.args.self.now.facts (BroadcastNotarization c.args.view) (λ certificate. Returned (option_map (certificate_facts g.S.CertificateScheme.certificate_bytes) certificate)) (λ t A is. is) c.map_err.result _ (returns-clause-made g c)
+returns-clause-answered g c = told_answered g.D.PartialEq.eq g.L.Elector.elect c.args.self.now.facts
+    (BroadcastNotarization c.args.view) (λ certificate.
+    Returned (option_map (certificate_facts g.S.CertificateScheme.certificate_bytes) certificate)) (λ t A is. is)
+    c.map_err.result _ (returns-clause-made g c)
 
 pub returns-clause-kept : goal.returns-clause-kept
-returns-clause-kept g c = told_kept g.D.PartialEq.eq g.L.Elector.elect c.args.self.now.facts (BroadcastNotarization c.args.view) (λ certificate. Returned (option_map (certificate_facts g.S.CertificateScheme.certificate_bytes) certificate)) c.map_err.result _ (returns-clause-made g c)
+returns-clause-kept g c = told_kept g.D.PartialEq.eq g.L.Elector.elect c.args.self.now.facts
+    (BroadcastNotarization c.args.view) (λ certificate.
+    Returned (option_map (certificate_facts g.S.CertificateScheme.certificate_bytes) certificate)) c.map_err.result _
+    (returns-clause-made g c)
 
 pub returns-clause-none_left : goal.returns-clause-none_left
 returns-clause-none_left g c =
-    λ was. IfOk-weaker c.map_err.result _ _ (λ certificate is. notarization_handed_once g.D.PartialEq.eq g.L.Elector.elect c.args.self.now.facts _ c.args.view (certificate_facts g.S.CertificateScheme.certificate_bytes) certificate was is) (returns-clause-answered g c)
+    λ was. IfOk-weaker c.map_err.result _ _ (λ certificate is.
+    notarization_handed_once g.D.PartialEq.eq g.L.Elector.elect c.args.self.now.facts _ c.args.view
+    (certificate_facts g.S.CertificateScheme.certificate_bytes) certificate was is) (returns-clause-answered g c)
 
 pub returns-clause-once : goal.returns-clause-once
 returns-clause-once g c =
-    on_answer c.map_err.result (λ certificate is. notarization_none_left g.D.PartialEq.eq g.L.Elector.elect c.args.self.now.facts _ c.args.view (option_map (certificate_facts g.S.CertificateScheme.certificate_bytes) certificate) is) (returns-clause-answered g c)
+    on_answer c.map_err.result (λ certificate is.
+    notarization_none_left g.D.PartialEq.eq g.L.Elector.elect c.args.self.now.facts _ c.args.view
+    (option_map (certificate_facts g.S.CertificateScheme.certificate_bytes) certificate) is)
+    (returns-clause-answered g c)

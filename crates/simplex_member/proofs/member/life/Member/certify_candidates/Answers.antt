@@ -1,4 +1,5 @@
--- How the contract of `certify_candidates` follows: the state's offers are open until their verdicts, and nothing is recorded.
+-- How the contract of `certify_candidates` follows: the state's offers are open until their verdicts, and nothing is
+-- recorded.
 use Rattle.std.proofs.Common.{List, ap, false, refl, sym, ◌∙◌}
 use Rattle.std.proofs.lemmas.List.{append-nil}
 use Rattle.std.proofs.lemmas.Result.{IfOk-weaker}
@@ -14,7 +15,8 @@ invariant_of-self g c =
     let i = c.self.inside in
     let x = c.deref_mut.result.now in
     let p = c.certify_candidates-made in
-    λ alive. part_goes_on g.D.PartialEq.eq g.L.Elector.elect x i.outstanding_work.open_now CertifyCandidates p.result p.new.state p.ensures.after p.ensures.refused kept.0 kept.1 (sym c.is_lost-self-inside.ensures ∙ alive)
+    λ alive. part_goes_on g.D.PartialEq.eq g.L.Elector.elect x i.outstanding_work.open_now CertifyCandidates p.result
+    p.new.state p.ensures.after p.ensures.refused kept.0 kept.1 (sym c.is_lost-self-inside.ensures ∙ alive)
 
 pub returns-clause-made : goal.returns-clause-made
 returns-clause-made g c =
@@ -22,12 +24,29 @@ returns-clause-made g c =
     let i = c.self.inside in
     let x = c.deref_mut.result.now in
     let p = c.certify_candidates-made in
-    let m : MemberFacts _ _ _ = record { life = living false x; outstanding_work = open_while false i.outstanding_work.open_now; entries = entries_of g.S.CertificateScheme.certificate_bytes i.artifacts.items; closed = i.closed; is_pruned = i.is_pruned; retention = i.retention; least_retention = i.least_retention } in
-    rw (← c.self.view_is, c.if-self.false, c.is_lost-self-inside.ensures, ended_so p.result c.map_err.result c.map_err.ensures.cases, ← c.deref_mut.ensures.value)
-    (part_made g.D.PartialEq.eq g.L.Elector.elect m CertifyCandidates (λ candidates. Candidates candidates.0.items candidates.1.items) x refl refl p.result p.new.state p.new.outstanding_work.open_now (entries_of g.S.CertificateScheme.certificate_bytes i.artifacts.items)
+    let m : MemberFacts _ _ _ = record {
+      life = living false x;
+      outstanding_work = open_while false i.outstanding_work.open_now;
+      entries = entries_of g.S.CertificateScheme.certificate_bytes i.artifacts.items;
+      closed = i.closed;
+      is_pruned = i.is_pruned;
+      retention = i.retention;
+      least_retention = i.least_retention;
+    } in
+    rw (
+      ← c.self.view_is,
+      c.if-self.false,
+      c.is_lost-self-inside.ensures,
+      ended_so p.result c.map_err.result c.map_err.ensures.cases,
+      ← c.deref_mut.ensures.value,
+    )
+    (part_made g.D.PartialEq.eq g.L.Elector.elect m CertifyCandidates
+    (λ candidates. Candidates candidates.0.items candidates.1.items) x refl refl p.result p.new.state
+    p.new.outstanding_work.open_now (entries_of g.S.CertificateScheme.certificate_bytes i.artifacts.items)
     (record {
       due = so_ok p.result (rw kept.0 refl);
-      answer = IfOk-weaker p.result _ _ (λ candidates is. ap (λ (both : List _ × List _). Candidates both.0 both.1) is) p.ensures.answer;
+      answer = IfOk-weaker p.result _ _ (λ candidates is. ap (λ (both : List _ × List _). Candidates both.0 both.1) is)
+          p.ensures.answer;
       after = p.ensures.after;
       opened = p.ensures.opened;
       recorded = so_ok p.result (sym (append-nil m.entries));
@@ -37,7 +56,10 @@ returns-clause-made g c =
     }))
 
 pub returns-clause-answered : goal.returns-clause-answered
-returns-clause-answered g c = told_answered g.D.PartialEq.eq g.L.Elector.elect c.args.self.now.facts CertifyCandidates (λ candidates. Candidates candidates.0.items candidates.1.items) (λ t A is. is) c.map_err.result _ (returns-clause-made g c)
+returns-clause-answered g c = told_answered g.D.PartialEq.eq g.L.Elector.elect c.args.self.now.facts CertifyCandidates
+    (λ candidates. Candidates candidates.0.items candidates.1.items) (λ t A is. is) c.map_err.result _
+    (returns-clause-made g c)
 
 pub returns-clause-kept : goal.returns-clause-kept
-returns-clause-kept g c = told_kept g.D.PartialEq.eq g.L.Elector.elect c.args.self.now.facts CertifyCandidates (λ candidates. Candidates candidates.0.items candidates.1.items) c.map_err.result _ (returns-clause-made g c)
+returns-clause-kept g c = told_kept g.D.PartialEq.eq g.L.Elector.elect c.args.self.now.facts CertifyCandidates
+    (λ candidates. Candidates candidates.0.items candidates.1.items) c.map_err.result _ (returns-clause-made g c)

@@ -1,4 +1,5 @@
--- How the contract of `construct_finalize` follows: the vote is recorded before it is returned, once, and never beside one to nullify the view.
+-- How the contract of `construct_finalize` follows: the vote is recorded before it is returned, once, and never beside
+-- one to nullify the view.
 use Rattle.std.proofs.Common.{◌≡◌, ap, false, refl, sym, ◌∙◌}
 use Rattle.std.proofs.lemmas.Result.{IfOk-weaker}
 use Rattle.simplex_types.specs.Certificates.{FinalizeVote}
@@ -18,8 +19,12 @@ invariant_of-self-2 g c =
     let x = c.deref_mut.result.now in
     let p = c.construct_finalize-made in
     let q = c.store_finalize-kept in
-    let kept = vote_kept (λ _. Unit {0}) _ _ p.result q.result (so_ok p.result tt) p.ensures.after (p.ensures.out_of_memory (rw going.0 refl)) q.ensures.same q.ensures.refused in
-    λ alive. part_goes_on g.D.PartialEq.eq g.L.Elector.elect x c.self.inside.outstanding_work.open_now (ConstructFinalize c.args.view) q.result p.new.self kept.1 (lost_ends x p.new.self q.result _ (rw going.0 refl) kept.2) going.0 going.1 (sym c.is_lost-self-inside.ensures ∙ alive)
+    let kept = vote_kept (λ _. Unit {0}) _ _ p.result q.result (so_ok p.result tt) p.ensures.after
+    (p.ensures.out_of_memory (rw going.0 refl)) q.ensures.same q.ensures.refused in
+    λ alive. part_goes_on g.D.PartialEq.eq g.L.Elector.elect x c.self.inside.outstanding_work.open_now
+    (ConstructFinalize c.args.view) q.result p.new.self kept.1
+    (lost_ends x p.new.self q.result _ (rw going.0 refl) kept.2) going.0 going.1
+    (sym c.is_lost-self-inside.ensures ∙ alive)
 
 pub returns-clause-made : goal.returns-clause-made
 returns-clause-made g c =
@@ -28,17 +33,43 @@ returns-clause-made g c =
     let x = c.deref_mut.result.now in
     let p = c.construct_finalize-made in
     let q = c.store_finalize-kept in
-    let m : MemberFacts _ _ _ = record { life = living false x; outstanding_work = open_while false i.outstanding_work.open_now; entries = entries_of g.S.CertificateScheme.certificate_bytes i.artifacts.items; closed = i.closed; is_pruned = i.is_pruned; retention = i.retention; least_retention = i.least_retention } in
-    let kept = vote_kept (λ vote. reply_finalize vote ≡ finalize_vote g.L.Elector.elect x c.args.view) _ _ p.result q.result (finalize_made g.S.Scheme.IsSignature x g.L.Elector.elect c.args.view p.result p.ensures.vote p.ensures.signed) p.ensures.after (p.ensures.out_of_memory (rw going.0 refl)) q.ensures.same q.ensures.refused in
-    rw (← c.self.view_is, c.if-self.false, c.is_lost-self-inside.ensures, ended_so q.result c.map_err.result c.map_err.ensures.cases, ← c.deref_mut.ensures.value)
-    (part_made g.D.PartialEq.eq g.L.Elector.elect m (ConstructFinalize c.args.view) (λ vote. Finalize (reply_finalize vote)) x refl refl q.result p.new.self m.outstanding_work _
-    (part_of_vote g.D.PartialEq.eq g.L.Elector.elect m (ConstructFinalize c.args.view) (λ vote. Finalize (reply_finalize vote)) x reply_finalize (finalize_vote g.L.Elector.elect x c.args.view) vote_entry q.result p.new.self (entries_of g.S.CertificateScheme.certificate_bytes q.new.artifacts.items) (rw going.0 refl) refl refl refl (λ vote is. ap Finalize is) kept.0 kept.1 kept.2 (rw c.reserve.ensures.items at q.ensures.kept) (rw c.reserve.ensures.items at q.ensures.same_record)))
+    let m : MemberFacts _ _ _ = record {
+      life = living false x;
+      outstanding_work = open_while false i.outstanding_work.open_now;
+      entries = entries_of g.S.CertificateScheme.certificate_bytes i.artifacts.items;
+      closed = i.closed;
+      is_pruned = i.is_pruned;
+      retention = i.retention;
+      least_retention = i.least_retention;
+    } in
+    let kept = vote_kept (λ vote. reply_finalize vote ≡ finalize_vote g.L.Elector.elect x c.args.view) _ _ p.result
+    q.result (finalize_made g.S.Scheme.IsSignature x g.L.Elector.elect c.args.view p.result p.ensures.vote
+    p.ensures.signed) p.ensures.after (p.ensures.out_of_memory (rw going.0 refl)) q.ensures.same q.ensures.refused
+    in
+    rw (
+      ← c.self.view_is,
+      c.if-self.false,
+      c.is_lost-self-inside.ensures,
+      ended_so q.result c.map_err.result c.map_err.ensures.cases,
+      ← c.deref_mut.ensures.value,
+    )
+    (part_made g.D.PartialEq.eq g.L.Elector.elect m (ConstructFinalize c.args.view)
+    (λ vote. Finalize (reply_finalize vote)) x refl refl q.result p.new.self m.outstanding_work _
+    (part_of_vote g.D.PartialEq.eq g.L.Elector.elect m (ConstructFinalize c.args.view)
+    (λ vote. Finalize (reply_finalize vote)) x reply_finalize (finalize_vote g.L.Elector.elect x c.args.view)
+    vote_entry q.result p.new.self (entries_of g.S.CertificateScheme.certificate_bytes q.new.artifacts.items)
+    (rw going.0 refl) refl refl refl (λ vote is. ap Finalize is) kept.0 kept.1 kept.2
+    (rw c.reserve.ensures.items at q.ensures.kept) (rw c.reserve.ensures.items at q.ensures.same_record)))
 
 pub returns-clause-answered : goal.returns-clause-answered
-returns-clause-answered g c = told_answered g.D.PartialEq.eq g.L.Elector.elect c.args.self.now.facts (ConstructFinalize c.args.view) (λ vote. Finalize (reply_finalize vote)) (λ t A is. is) c.map_err.result _ (returns-clause-made g c)
+returns-clause-answered g c = told_answered g.D.PartialEq.eq g.L.Elector.elect c.args.self.now.facts
+    (ConstructFinalize c.args.view) (λ vote. Finalize (reply_finalize vote)) (λ t A is. is) c.map_err.result _
+    (returns-clause-made g c)
 
 pub returns-clause-kept : goal.returns-clause-kept
-returns-clause-kept g c = told_kept g.D.PartialEq.eq g.L.Elector.elect c.args.self.now.facts (ConstructFinalize c.args.view) (λ vote. Finalize (reply_finalize vote)) c.map_err.result _ (returns-clause-made g c)
+returns-clause-kept g c = told_kept g.D.PartialEq.eq g.L.Elector.elect c.args.self.now.facts
+    (ConstructFinalize c.args.view) (λ vote. Finalize (reply_finalize vote)) c.map_err.result _
+    (returns-clause-made g c)
 
 pub returns-clause-signed : goal.returns-clause-signed
 returns-clause-signed g c =
@@ -46,32 +77,48 @@ returns-clause-signed g c =
     let x = c.deref_mut.result.now in
     let p = c.construct_finalize-made in
     let q = c.store_finalize-kept in
-    let kept = vote_kept (λ vote. IsSignedReply g.S.Scheme.IsSignature (reply.Finalize vote) x) _ _ p.result q.result (IfOk-weaker p.result _ _ (finalize_is_signed g.S.Scheme.IsSignature x) p.ensures.signed) p.ensures.after (p.ensures.out_of_memory (rw going.0 refl)) q.ensures.same q.ensures.refused in
-    rw (← c.self.view_is, c.if-self.false, ← c.deref_mut.ensures.value, ended_so q.result c.map_err.result c.map_err.ensures.cases) (ended_ok _ q.result kept.0)
+    let kept = vote_kept (λ vote. IsSignedReply g.S.Scheme.IsSignature (reply.Finalize vote) x) _ _ p.result q.result
+    (IfOk-weaker p.result _ _ (finalize_is_signed g.S.Scheme.IsSignature x) p.ensures.signed) p.ensures.after
+    (p.ensures.out_of_memory (rw going.0 refl)) q.ensures.same q.ensures.refused in
+    rw (
+      ← c.self.view_is,
+      c.if-self.false,
+      ← c.deref_mut.ensures.value,
+      ended_so q.result c.map_err.result c.map_err.ensures.cases,
+    ) (ended_ok _ q.result kept.0)
 
 pub returns-clause-recorded : goal.returns-clause-recorded
 returns-clause-recorded g c =
     let q = c.store_finalize-kept in
-    rw (← c.self.view_is, ended_so q.result c.map_err.result c.map_err.ensures.cases) (ended_ok _ q.result (rw c.reserve.ensures.items at q.ensures.kept))
+    rw (← c.self.view_is, ended_so q.result c.map_err.result c.map_err.ensures.cases)
+    (ended_ok _ q.result (rw c.reserve.ensures.items at q.ensures.kept))
 
 pub returns-clause-decided : goal.returns-clause-decided
 returns-clause-decided g c =
-    IfOk-weaker c.map_err.result _ _ (λ vote is. finalize_decided g.D.PartialEq.eq g.L.Elector.elect c.args.self.now.facts _ c.args.view (reply_finalize vote) is (λ v. FinalizeVote v.proposal v.signer) vote refl) (returns-clause-answered g c)
+    IfOk-weaker c.map_err.result _ _ (λ vote is.
+    finalize_decided g.D.PartialEq.eq g.L.Elector.elect c.args.self.now.facts _ c.args.view (reply_finalize vote) is
+    (λ v. FinalizeVote v.proposal v.signer) vote refl) (returns-clause-answered g c)
 
 pub returns-clause-once : goal.returns-clause-once
 returns-clause-once g c =
-    λ was. IfOk-weaker c.map_err.result _ _ (λ vote is. finalize_once g.D.PartialEq.eq g.L.Elector.elect c.args.self.now.facts _ c.args.view (reply_finalize vote) is was (λ v. FinalizeVote v.proposal v.signer) vote refl) (returns-clause-answered g c)
+    λ was. IfOk-weaker c.map_err.result _ _ (λ vote is.
+    finalize_once g.D.PartialEq.eq g.L.Elector.elect c.args.self.now.facts _ c.args.view (reply_finalize vote) is
+    was (λ v. FinalizeVote v.proposal v.signer) vote refl) (returns-clause-answered g c)
 
 pub returns-clause-barred : goal.returns-clause-barred
 returns-clause-barred g c =
-    λ was. IfOk-weaker c.map_err.result _ _ (λ vote is. finalize_barred g.D.PartialEq.eq g.L.Elector.elect c.args.self.now.facts _ c.args.view (reply_finalize vote) is was (λ v. FinalizeVote v.proposal v.signer) vote refl) (returns-clause-answered g c)
+    λ was. IfOk-weaker c.map_err.result _ _ (λ vote is.
+    finalize_barred g.D.PartialEq.eq g.L.Elector.elect c.args.self.now.facts _ c.args.view (reply_finalize vote) is
+    was (λ v. FinalizeVote v.proposal v.signer) vote refl) (returns-clause-answered g c)
 
 pub returns-clause-votes : goal.returns-clause-votes
 returns-clause-votes g c =
     let q = c.store_finalize-kept in
-    rw (← c.self.view_is, ended_so q.result c.map_err.result c.map_err.ensures.cases) (ended_ok _ q.result (rw c.reserve.ensures.items at q.ensures.votes))
+    rw (← c.self.view_is, ended_so q.result c.map_err.result c.map_err.ensures.cases)
+    (ended_ok _ q.result (rw c.reserve.ensures.items at q.ensures.votes))
 
 pub returns-clause-same_votes : goal.returns-clause-same_votes
 returns-clause-same_votes g c =
     let q = c.store_finalize-kept in
-    rw (← c.self.view_is, ended_so q.result c.map_err.result c.map_err.ensures.cases) (ended_err _ q.result (rw c.reserve.ensures.items at q.ensures.same_votes))
+    rw (← c.self.view_is, ended_so q.result c.map_err.result c.map_err.ensures.cases)
+    (ended_err _ q.result (rw c.reserve.ensures.items at q.ensures.same_votes))

@@ -11,6 +11,16 @@ returns-clause-answered g c =
     let kept = rw (sym c.deref.ensures) at (c.self.invariant c.if-self.false) in
     let i = c.self.inside in
     let x = c.deref.result.now in
-    let m : MemberFacts _ _ _ = record { life = living false x; outstanding_work = open_while false i.outstanding_work.open_now; entries = entries_of g.S.CertificateScheme.certificate_bytes i.artifacts.items; closed = i.closed; is_pruned = i.is_pruned; retention = i.retention; least_retention = i.least_retention } in
+    let m : MemberFacts _ _ _ = record {
+      life = living false x;
+      outstanding_work = open_while false i.outstanding_work.open_now;
+      entries = entries_of g.S.CertificateScheme.certificate_bytes i.artifacts.items;
+      closed = i.closed;
+      is_pruned = i.is_pruned;
+      retention = i.retention;
+      least_retention = i.least_retention;
+    } in
     rw (← c.self.view_is, c.if-self.false, ← c.deref.ensures)
-    (answered_unrecorded g.D.PartialEq.eq g.L.Elector.elect m GetBestCertificate x refl (_) x i.outstanding_work.open_now refl (rw kept.0 refl) (ap Returned c.in_ok-get_best_certificate.ensures.answer) refl refl refl)
+    (answered_unrecorded g.D.PartialEq.eq g.L.Elector.elect m GetBestCertificate x refl (_) x
+    i.outstanding_work.open_now refl (rw kept.0 refl) (ap Returned c.in_ok-get_best_certificate.ensures.answer) refl
+    refl refl)

@@ -1,4 +1,5 @@
--- How the contract of `pending_handoff_abandonment` follows: the state's answer is the member's, and nothing is recorded.
+-- How the contract of `pending_handoff_abandonment` follows: the state's answer is the member's, and nothing is
+-- recorded.
 use Rattle.std.proofs.Common.{ap, false, refl, sym}
 use Rattle.simplex_record.specs.Entries.{entries_of}
 use Rattle.simplex_member.specs.Calls.{PendingHandoffAbandonment, Abandoned}
@@ -11,6 +12,16 @@ returns-clause-answered g c =
     let kept = rw (sym c.deref.ensures) at (c.self.invariant c.if-self.false) in
     let i = c.self.inside in
     let x = c.deref.result.now in
-    let m : MemberFacts _ _ _ = record { life = living false x; outstanding_work = open_while false i.outstanding_work.open_now; entries = entries_of g.S.CertificateScheme.certificate_bytes i.artifacts.items; closed = i.closed; is_pruned = i.is_pruned; retention = i.retention; least_retention = i.least_retention } in
+    let m : MemberFacts _ _ _ = record {
+      life = living false x;
+      outstanding_work = open_while false i.outstanding_work.open_now;
+      entries = entries_of g.S.CertificateScheme.certificate_bytes i.artifacts.items;
+      closed = i.closed;
+      is_pruned = i.is_pruned;
+      retention = i.retention;
+      least_retention = i.least_retention;
+    } in
     rw (← c.self.view_is, c.if-self.false, ← c.deref.ensures)
-    (answered_unrecorded g.D.PartialEq.eq g.L.Elector.elect m (PendingHandoffAbandonment c.args.view) x refl (_) x i.outstanding_work.open_now (rw (sym c.in-Some.ensures) refl) (rw kept.0 refl) (rw (sym c.in-Some.ensures) (ap Abandoned c.in_ok-pending_handoff_abandonment.ensures.answer)) refl refl refl)
+    (answered_unrecorded g.D.PartialEq.eq g.L.Elector.elect m (PendingHandoffAbandonment c.args.view) x refl (_) x
+    i.outstanding_work.open_now (rw (sym c.in-Some.ensures) refl) (rw kept.0 refl)
+    (rw (sym c.in-Some.ensures) (ap Abandoned c.in_ok-pending_handoff_abandonment.ensures.answer)) refl refl refl)

@@ -1,4 +1,5 @@
--- How the contract of `prune_record` follows: each entry that is left counts as closed, and the votes are those of the entries left.
+-- How the contract of `prune_record` follows: each entry that is left counts as closed, and the votes are those of the
+-- entries left.
 use Rattle.std.proofs.Common.{sym, ◌∙◌}
 use Rattle.simplex_record.specs.Entries.{entries_of}
 use Rattle.simplex_record.proofs.Cuts.{length_entries}
@@ -21,8 +22,10 @@ returns-clause-pruned g c =
     } in
     let lowest = rw c.deref.ensures.value at c.lowest_retained-lowest.ensures in
     let left = rw (c.deref-2.ensures, lowest) at c.keep_within.ensures.left in
-    let all = c.len-self-inside.ensures ∙ (c.keep_within.new.entries.ok.0 ∙ sym (length_entries bytes_of c.keep_within.new.entries.items)) in
-    rw (← c.self.view_is) (closed_so m (entries_of bytes_of c.keep_within.new.entries.items) c.len-self-inside.result left all)
+    let all = c.len-self-inside.ensures
+    ∙ (c.keep_within.new.entries.ok.0 ∙ sym (length_entries bytes_of c.keep_within.new.entries.items)) in
+    rw (← c.self.view_is)
+    (closed_so m (entries_of bytes_of c.keep_within.new.entries.items) c.len-self-inside.result left all)
 
 pub returns-clause-votes : goal.returns-clause-votes
 returns-clause-votes g c =

@@ -1,4 +1,5 @@
--- How the contract of `trigger_timeout` follows: the state latches the timeout by its definition, and nothing is recorded.
+-- How the contract of `trigger_timeout` follows: the state latches the timeout by its definition, and nothing is
+-- recorded.
 use Rattle.std.proofs.Common.{ap, false, refl, sym}
 use Rattle.simplex_record.specs.Entries.{entries_of}
 use Rattle.simplex_member.specs.Calls.{TriggerTimeout, Triggered}
@@ -9,13 +10,25 @@ use Rattle.simplex_member.proofs.member.life.Member.trigger_timeout.Goals as goa
 pub invariant_of-self-2 : goal.invariant_of-self-2
 invariant_of-self-2 g c =
     let kept = rw (sym c.deref_mut.ensures.value) at (c.self.invariant c.if-self.false) in
-    λ _. call_goes_on g.D.PartialEq.eq g.L.Elector.elect c.deref_mut.result.now c.self.inside.outstanding_work.open_now (TriggerTimeout c.args.view c.args.reason c.args.now) c.trigger_timeout.new.self c.in_ok-trigger_timeout.ensures.after kept.0 kept.1
+    λ _. call_goes_on g.D.PartialEq.eq g.L.Elector.elect c.deref_mut.result.now c.self.inside.outstanding_work.open_now
+    (TriggerTimeout c.args.view c.args.reason c.args.now) c.trigger_timeout.new.self
+    c.in_ok-trigger_timeout.ensures.after kept.0 kept.1
 
 pub returns-clause-answered : goal.returns-clause-answered
 returns-clause-answered g c =
     let kept = rw (sym c.deref_mut.ensures.value) at (c.self.invariant c.if-self.false) in
     let i = c.self.inside in
     let x = c.deref_mut.result.now in
-    let m : MemberFacts _ _ _ = record { life = living false x; outstanding_work = open_while false i.outstanding_work.open_now; entries = entries_of g.S.CertificateScheme.certificate_bytes i.artifacts.items; closed = i.closed; is_pruned = i.is_pruned; retention = i.retention; least_retention = i.least_retention } in
+    let m : MemberFacts _ _ _ = record {
+      life = living false x;
+      outstanding_work = open_while false i.outstanding_work.open_now;
+      entries = entries_of g.S.CertificateScheme.certificate_bytes i.artifacts.items;
+      closed = i.closed;
+      is_pruned = i.is_pruned;
+      retention = i.retention;
+      least_retention = i.least_retention;
+    } in
     rw (← c.self.view_is, c.if-self.false, ← c.deref_mut.ensures.value)
-    (answered_unrecorded g.D.PartialEq.eq g.L.Elector.elect m (TriggerTimeout c.args.view c.args.reason c.args.now) x refl (_) c.trigger_timeout.new.self i.outstanding_work.open_now refl (rw kept.0 refl) (ap Triggered c.in_ok-trigger_timeout.ensures.answer) c.in_ok-trigger_timeout.ensures.after refl refl)
+    (answered_unrecorded g.D.PartialEq.eq g.L.Elector.elect m (TriggerTimeout c.args.view c.args.reason c.args.now) x
+    refl (_) c.trigger_timeout.new.self i.outstanding_work.open_now refl (rw kept.0 refl)
+    (ap Triggered c.in_ok-trigger_timeout.ensures.answer) c.in_ok-trigger_timeout.ensures.after refl refl)

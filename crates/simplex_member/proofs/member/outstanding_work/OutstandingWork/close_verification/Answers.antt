@@ -4,4 +4,5 @@ use Rattle.simplex_member.proofs.OpenRequests.{views-others}
 use Rattle.simplex_member.proofs.member.outstanding_work.OutstandingWork.close_verification.Goals as goal
 
 pub returns-clause-closed : goal.returns-clause-closed
-returns-clause-closed g c = rw (← c.self.view_is, c.remove.ensures.entries, views-others c.self.inside.verifying.entries c.args.view) refl
+returns-clause-closed g c =
+    rw (← c.self.view_is, c.remove.ensures.entries, views-others c.self.inside.verifying.entries c.args.view) refl

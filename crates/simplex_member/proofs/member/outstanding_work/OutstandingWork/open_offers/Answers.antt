@@ -13,7 +13,12 @@ loop-proposal-preserved g c =
     let at = c.loop-proposal.proposal-index in
     let all = c.args.proposals.now in
     let item = c.proposal-item.result in
-    let next = drop_more all at item c.loop-proposal-test.true ∙ ap (λ p. p ∷ drop (at + 1) all) (sym c.proposal-item.is) in
+    let next = drop_more all at item c.loop-proposal-test.true
+    ∙ ap (λ p. p ∷ drop (at + 1) all) (sym c.proposal-item.is) in
     let offered = c.in_ok-insert.ensures.after ∙ noted i.offered item.round.view _ c.in_ok-insert.ensures.standing in
     rw (offered, keys-insert i.offered item.round.view tt)
-    (ap (with_offers (record { contexts = i.contexts.entries; verifying = views_of i.verifying.entries; offered = map.keys i.offered })) (sym next) ∙ c.loop-proposal.invariant)
+    (ap (with_offers (record {
+      contexts = i.contexts.entries;
+      verifying = views_of i.verifying.entries;
+      offered = map.keys i.offered;
+    })) (sym next) ∙ c.loop-proposal.invariant)

@@ -7,5 +7,9 @@ use Rattle.simplex_member.proofs.member.outstanding_work.OutstandingWork.open_of
 abbrev pub invariant-loop-proposal : goal.invariant-loop-proposal
 invariant-loop-proposal g l =
     let i = l.self-inside in
-    with_offers (record { contexts = i.contexts.entries; verifying = views_of i.verifying.entries; offered = map.keys i.offered }) (drop l.proposal-index l.fn.proposals)
+    with_offers (record {
+      contexts = i.contexts.entries;
+      verifying = views_of i.verifying.entries;
+      offered = map.keys i.offered;
+    }) (drop l.proposal-index l.fn.proposals)
     ≡ with_offers l.fn.self.open_now l.fn.proposals

@@ -7,4 +7,5 @@ pub returns-in-Some-clause-same : goal.returns-in-Some-clause-same
 returns-in-Some-clause-same g c =
     let newest = sym c.take.ensures.value ∙ c.in-Some.is in
     let moved = rw c.take.ensures.after at c.move_over.ensures.entries in
-    rw (← c.self.view_is, newest) (moved ∙ sym (entries-insert c.self.inside.others c.in-Some.newest.0 c.in-Some.newest.1))
+    rw (← c.self.view_is, newest)
+    (moved ∙ sym (entries-insert c.self.inside.others c.in-Some.newest.0 c.in-Some.newest.1))

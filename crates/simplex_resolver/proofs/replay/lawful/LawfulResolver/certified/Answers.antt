@@ -7,16 +7,20 @@ use Rattle.simplex_resolver.proofs.replay.lawful.LawfulResolver.certified.Goals 
 
 pub returns-in-Ok-clause-made : goal.returns-in-Ok-clause-made
 returns-in-Ok-clause-made g c =
-    rw (← c.self.view_is) (made_of c.apply.result c.in-Ok.effects _ _ c.apply.new.self _ c.in-Ok.ensures.after c.in-Ok.ensures.effects
+    rw (← c.self.view_is)
+    (made_of c.apply.result c.in-Ok.effects _ _ c.apply.new.self _ c.in-Ok.ensures.after c.in-Ok.ensures.effects
     c.apply.ensures.state c.apply.ensures.answered c.apply.ensures.applied)
 
 pub returns-in-Ok-clause-told : goal.returns-in-Ok-clause-told
-returns-in-Ok-clause-told g c = told_of c.apply.result _ c.args.self.now c.apply.new.self c.requires (returns-in-Ok-clause-made g c)
+returns-in-Ok-clause-told g c = told_of c.apply.result _ c.args.self.now c.apply.new.self c.requires
+    (returns-in-Ok-clause-made g c)
 
 pub returns-in-Ok-clause-refused : goal.returns-in-Ok-clause-refused
 returns-in-Ok-clause-refused g c =
     let old : LawfulResolverFacts = record { state = c.self.inside.state; open_fetches = c.self.inside.fetches.keys } in
-    let call = verdict g.D.Digest.bytes (notarization_facts g.S.CertificateScheme.certificate_bytes c.args.notarization) c.args.success in
-    rw (← c.self.view_is) (left_of c.apply.result c.in-Ok.effects (highest_named c.args.notarization.proposal) call old c.apply.new.self _
+    let call = verdict g.D.Digest.bytes (notarization_facts g.S.CertificateScheme.certificate_bytes c.args.notarization)
+    c.args.success in
+    rw (← c.self.view_is)
+    (left_of c.apply.result c.in-Ok.effects (highest_named c.args.notarization.proposal) call old c.apply.new.self _
     c.in-Ok.ensures.accepted.0 c.in-Ok.ensures.accepted.1 c.in-Ok.ensures.after c.in-Ok.ensures.effects
     c.apply.ensures.memory c.apply.ensures.failed c.apply.ensures.begun)

@@ -1,4 +1,5 @@
--- How the contract of `keeps_the_laws` follows: the laws of the open fetches and the results after any calls hold after the received ones.
+-- How the contract of `keeps_the_laws` follows: the laws of the open fetches and the results after any calls hold after
+-- the received ones.
 use Rattle.simplex_resolver.proofs.CallHistory.{opens_the_wanted, opens_none, opens_none_again, answers_the_told}
 use Rattle.simplex_resolver.proofs.replay.lawful.LawfulResolver.keeps_the_laws.Goals as goal
 

@@ -4,7 +4,8 @@ use Rattle.simplex_resolver.proofs.replay.lawful.LawfulResolver.replayed.Goals a
 
 pub returns-in-Ok-clause-made : goal.returns-in-Ok-clause-made
 returns-in-Ok-clause-made c =
-    rw (← c.self.view_is) (made_of c.apply.result c.in-Ok.effects _ _ c.apply.new.self _ c.in-Ok.ensures.after c.in-Ok.ensures.effects
+    rw (← c.self.view_is)
+    (made_of c.apply.result c.in-Ok.effects _ _ c.apply.new.self _ c.in-Ok.ensures.after c.in-Ok.ensures.effects
     c.apply.ensures.state c.apply.ensures.answered c.apply.ensures.applied)
 
 pub returns-in-Ok-clause-told : goal.returns-in-Ok-clause-told

@@ -1,4 +1,5 @@
--- How the contract of `note` follows: the entry's place is noted where it is a notarization, and no other entry changes the places.
+-- How the contract of `note` follows: the entry's place is noted where it is a notarization, and no other entry changes
+-- the places.
 use Rattle.std.proofs.Common.{◌≡◌, ◌+◌, length, arith}
 use Rattle.simplex_resolver.proofs.Noted.{not_noted, one_noted, ok_gives, err_gives}
 use Rattle.simplex_resolver.proofs.replay.places.Places.note.Goals as goal
@@ -17,4 +18,5 @@ returns-then-is_ok g c =
     one_noted _ _ _ _ _ c.requires all next (ok_gives _ c.if-is_ok.ensures.value c.store_position.ensures.kept)
 
 pub returns-else-is_ok : goal.returns-else-is_ok
-returns-else-is_ok g c = rw (err_gives _ c.if-is_ok.ensures.value c.store_position.ensures.refused) (not_noted _ _ _ _ c.requires)
+returns-else-is_ok g c = rw (err_gives _ c.if-is_ok.ensures.value c.store_position.ensures.refused)
+    (not_noted _ _ _ _ c.requires)

@@ -7,15 +7,19 @@ use Rattle.simplex_resolver.proofs.resolver.notarizations.Notarizations.contains
 
 pub returns-then-contains : goal.returns-then-contains
 returns-then-contains c = c.if-contains.true ∙ sym (elim c.if-is_some.branch [
-  | then-is_some w ↦ value_there c.self.inside.certified c.self.inside.failed c.self.inside.noted c.args.self.now c.self.view_is c.args.view (sym (same_some c.get.result c.is_some.result _ c.is_some.ensures c.get.ensures) ∙ w.if-is_some.true)
-  | else-is_some w ↦ failed_there c.self.inside.certified c.self.inside.failed c.self.inside.noted c.args.self.now c.self.view_is c.args.view (sym w.contains.ensures ∙ sym w.value-is ∙ c.if-contains.true)
+  | then-is_some w ↦ value_there c.self.inside.certified c.self.inside.failed c.self.inside.noted c.args.self.now
+      c.self.view_is c.args.view
+      (sym (same_some c.get.result c.is_some.result _ c.is_some.ensures c.get.ensures) ∙ w.if-is_some.true)
+  | else-is_some w ↦ failed_there c.self.inside.certified c.self.inside.failed c.self.inside.noted c.args.self.now
+      c.self.view_is c.args.view (sym w.contains.ensures ∙ sym w.value-is ∙ c.if-contains.true)
 ])
 
 pub returns-else-contains : goal.returns-else-contains
 returns-else-contains c = c.contains-else-contains.ensures ∙ elim c.if-is_some.branch [
   | then-is_some w ↦ absurd (false≢true (sym c.if-contains.false ∙ w.value-is ∙ w.if-is_some.true))
   | else-is_some w ↦
-      noted_there c.self.inside.certified c.self.inside.failed c.self.inside.noted c.args.self.now c.self.view_is c.args.view
+      noted_there c.self.inside.certified c.self.inside.failed c.self.inside.noted c.args.self.now c.self.view_is
+      c.args.view
       (sym (same_some c.get.result c.is_some.result _ c.is_some.ensures c.get.ensures) ∙ w.if-is_some.false)
       (sym w.contains.ensures ∙ sym w.value-is ∙ c.if-contains.false)
 ]

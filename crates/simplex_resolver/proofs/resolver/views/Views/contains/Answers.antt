@@ -5,4 +5,5 @@ use Rattle.simplex_resolver.proofs.ViewSets.{contained}
 use Rattle.simplex_resolver.proofs.resolver.views.Views.contains.Goals as goal
 
 pub returns : goal.returns
-returns c = c.contains.ensures ∙ found _ c.args.view ∙ contained _ c.args.self.now c.self.view_is c.self.invariant c.args.view
+returns c = c.contains.ensures ∙ found _ c.args.view
+    ∙ contained _ c.args.self.now c.self.view_is c.self.invariant c.args.view

@@ -6,4 +6,5 @@ pub invariant_of-self : goal.invariant_of-self
 invariant_of-self c = keyed_sorted _ c.len-count.ensures.ordered
 
 pub returns : goal.returns
-returns c = lowered _ _ c.args.self.now c.self.view_is c.self.invariant (keyed_sorted _ c.len-count.ensures.ordered) c.args.view c.drop_lower.ensures
+returns c = lowered _ _ c.args.self.now c.self.view_is c.self.invariant (keyed_sorted _ c.len-count.ensures.ordered)
+    c.args.view c.drop_lower.ensures

@@ -1,4 +1,5 @@
--- How the contract of `insert` follows: a key that is added keeps the keys sorted, and one that is there changes nothing.
+-- How the contract of `insert` follows: a key that is added keeps the keys sorted, and one that is there changes
+-- nothing.
 use Rattle.std.proofs.Common.{ap, ◌∙◌}
 use Rattle.simplex_resolver.specs.Repair.{has}
 use Rattle.simplex_resolver.proofs.Views.{has-insert_key}

@@ -13,5 +13,8 @@ pub invariant_of-self : goal.invariant_of-self
 invariant_of-self c = keyed_sorted _ c.remove.ensures.ordered
 
 pub returns : goal.returns
-returns c = removed _ _ c.args.self.now c.self.view_is c.self.invariant (keyed_sorted _ c.remove.ensures.ordered) c.args.view
-    (λ q. sym (found _ q) ∙ c.remove.ensures.updates.0 q ∙ (λ k. cond (is_same c.args.view q k) false (found c.self.inside.views.keys q k)) ∙ ap (λ b. cond b false (has c.self.inside.views.keys q)) (turned c.args.view q))
+returns c = removed _ _ c.args.self.now c.self.view_is c.self.invariant (keyed_sorted _ c.remove.ensures.ordered)
+    c.args.view
+    (λ q. sym (found _ q) ∙ c.remove.ensures.updates.0 q
+    ∙ (λ k. cond (is_same c.args.view q k) false (found c.self.inside.views.keys q k))
+    ∙ ap (λ b. cond b false (has c.self.inside.views.keys q)) (turned c.args.view q))

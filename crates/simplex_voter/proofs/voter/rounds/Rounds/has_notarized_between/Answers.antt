@@ -1,4 +1,5 @@
--- How the contract of `has_notarized_between` follows: some entry of the part between is notarized exactly where some round between is.
+-- How the contract of `has_notarized_between` follows: some entry of the part between is notarized exactly where some
+-- round between is.
 use Rattle.std.proofs.Common.{ap, ◌∙◌, ◌&&◌, nat_lt}
 use Rattle.std.specs.Prelude.{nat_le}
 use Rattle.std.specs.List.{list_any}
@@ -9,4 +10,5 @@ use Rattle.simplex_voter.proofs.voter.rounds.Rounds.has_notarized_between.Goals 
 pub returns : goal.returns
 returns g c =
     c.has_notarized.ensures ∙ ap (list_any (λ e. is_notarized e.1)) c.between.ensures ∙ any_between _ _ _ is_notarized
-    ∙ ap (λ x. list_any (λ e. nat_le c.args.from e.0 && nat_lt e.0 c.args.to && is_notarized e.1) x.by_view) c.self.view_is
+    ∙ ap (λ x. list_any (λ e. nat_le c.args.from e.0 && nat_lt e.0 c.args.to && is_notarized e.1) x.by_view)
+    c.self.view_is

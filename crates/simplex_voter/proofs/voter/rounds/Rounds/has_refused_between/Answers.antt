@@ -1,4 +1,5 @@
--- How the contract of `has_refused_between` follows: a range that ends below the view has no view above it, else the refused ones of the range are looked at.
+-- How the contract of `has_refused_between` follows: a range that ends below the view has no view above it, else the
+-- refused ones of the range are looked at.
 use Rattle.std.proofs.Common.{ℕ, Bool, ◌+◌, ap, ◌∙◌, sym, subst}
 use Rattle.std.specs.List.{list_any}
 use Rattle.std.specs.FinMap as map
@@ -18,5 +19,7 @@ returns g c =
     let found : ℕ × Unit {0} → Bool = λ e. is_refused_above c.self.inside.by_view c.args.above e.0 in
     c.has_refused.ensures
     ∙ ap (list_any found) c.from_to-views.ensures
-    ∙ ap (λ low. list_any found (map.entries (at_or_above (below c.self.inside.bounds.refused (c.args.last + 1)) low))) c.later.ensures
-    ∙ searched c.args.self.now c.self.inside.by_view (sym (ap (λ x. x.by_view) c.self.view_is)) c.self.inside.bounds kept c.args.above c.args.from c.args.last
+    ∙ ap (λ low. list_any found (map.entries (at_or_above (below c.self.inside.bounds.refused (c.args.last + 1)) low)))
+    c.later.ensures
+    ∙ searched c.args.self.now c.self.inside.by_view (sym (ap (λ x. x.by_view) c.self.view_is)) c.self.inside.bounds
+    kept c.args.above c.args.from c.args.last

@@ -6,4 +6,5 @@ use Rattle.simplex_voter.proofs.voter.rounds.Rounds.views_below.Goals as goal
 
 pub returns-clause-views : goal.returns-clause-views
 returns-clause-views g c =
-    c.in_ok-views_below.ensures ∙ keys-below c.self.inside.by_view c.args.view ∙ ap (λ x. map_list (λ e. e.0) (filter (λ e. nat_lt e.0 c.args.view) x.by_view)) c.self.view_is
+    c.in_ok-views_below.ensures ∙ keys-below c.self.inside.by_view c.args.view
+    ∙ ap (λ x. map_list (λ e. e.0) (filter (λ e. nat_lt e.0 c.args.view) x.by_view)) c.self.view_is

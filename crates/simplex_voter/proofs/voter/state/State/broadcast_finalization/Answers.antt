@@ -1,4 +1,5 @@
--- How the contract of `broadcast_finalization` follows: the rounds return it once, the rest of the state stays, and running out of memory fails it.
+-- How the contract of `broadcast_finalization` follows: the rounds return it once, the rest of the state stays, and
+-- running out of memory fails it.
 use Rattle.std.proofs.Common.{refl}
 use Rattle.simplex_voter.proofs.Shown.{where_true, same_setup, kept_with_rounds}
 use Rattle.simplex_voter.proofs.Faults.{failed_now}
@@ -12,8 +13,13 @@ pub returns-in-Ok-clause-answer : goal.returns-in-Ok-clause-answer
 returns-in-Ok-clause-answer g c = rw (← c.self.view_is) c.in-Ok.ensures.answer
 
 pub returns-in-Ok-clause-after : goal.returns-in-Ok-clause-after
-returns-in-Ok-clause-after g c = rw (← c.self.view_is) (where_true _ _ c.self.view_is (has_round c.self.inside.rounds c.args.view) _ _ c.self.inside.rounds c.in-Ok.ensures.handed_out refl)
+returns-in-Ok-clause-after g c = rw (← c.self.view_is)
+    (where_true _ _ c.self.view_is (has_round c.self.inside.rounds c.args.view) _ _ c.self.inside.rounds
+    c.in-Ok.ensures.handed_out refl)
 
 pub returns-in-Err-clause-out_of_memory : goal.returns-in-Err-clause-out_of_memory
-returns-in-Err-clause-out_of_memory g c none =
-    (c.in-Err.ensures.refused, failed_now _ _ _ (same_setup _ _ c.self.view_is _ c.return_finalization.ensures.origin) c.fail.ensures)
+returns-in-Err-clause-out_of_memory g c none = (
+  c.in-Err.ensures.refused,
+  failed_now _ _ _ (same_setup _ _ c.self.view_is _ c.return_finalization.ensures.origin)
+      c.fail.ensures,
+)

@@ -8,4 +8,5 @@ pub invariant_of-self : goal.invariant_of-self
 invariant_of-self g c = kept_with_rounds c.self.invariant c.clear_verifying.ensures.origin
 
 pub returns : goal.returns
-returns g c = rw (← c.self.view_is) (where_true _ _ c.self.view_is (has_round c.self.inside.rounds c.args.view) _ _ c.self.inside.rounds c.clear_verifying.ensures.unbound refl)
+returns g c = rw (← c.self.view_is) (where_true _ _ c.self.view_is (has_round c.self.inside.rounds c.args.view) _ _
+    c.self.inside.rounds c.clear_verifying.ensures.unbound refl)

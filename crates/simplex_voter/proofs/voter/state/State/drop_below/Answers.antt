@@ -1,4 +1,5 @@
--- How the contract of `drop_below` follows: the rounds, the nullified views and the nullify votes from the view on remain after a prune.
+-- How the contract of `drop_below` follows: the rounds, the nullified views and the nullify votes from the view on
+-- remain after a prune.
 use Rattle.std.proofs.Common.{refl, ap, sym, length, ◌∙◌}
 use Rattle.simplex_voter.specs.Windows.{min_active}
 use Rattle.simplex_voter.proofs.Shown.{pruned_shown}

@@ -1,4 +1,5 @@
--- How the contract of `enter_view` follows: a view above the current one is entered, and the bound of current views holds.
+-- How the contract of `enter_view` follows: a view above the current one is entered, and the bound of current views
+-- holds.
 use Rattle.std.proofs.Common.{length, ap, sym, refl, ◌∙◌}
 use Rattle.simplex_voter.specs.Setup.{deadlines_at}
 use Rattle.simplex_voter.proofs.Shown.{not_le, entered_by, kept_with_rounds}
@@ -20,4 +21,5 @@ returns-clause-entered g c =
     let above = not_le _ _ c.if-le.ensures in
     rw (← c.self.view_is)
     (entered_by _ _ c.self.view_is c.args.view c.args.now c.args.deadlines.now _ _ c.in_ok-enter_view.ensures.entered
-    (c.requires.deadlines (rw (← c.self.view_is) above) ∙ ap (λ x. deadlines_at x c.args.now) (sym c.self.view_is)) above (λ e. refl))
+    (c.requires.deadlines (rw (← c.self.view_is) above) ∙ ap (λ x. deadlines_at x c.args.now) (sym c.self.view_is))
+    above (λ e. refl))

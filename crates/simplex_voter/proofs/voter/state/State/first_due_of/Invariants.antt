@@ -7,7 +7,8 @@ use Rattle.simplex_voter.proofs.voter.state.State.first_due_of.Given as goal
 abbrev pub invariant-loop-entry : goal.invariant-loop-entry
 invariant-loop-entry g l = record {
   rounds : AreRoundsOf l.self l.entries;
-  rest : find (λ e. is_due g.D.PartialEq.eq g.L.Elector.elect l.self e.0) l.fn.entries ≡ find (λ e. is_due g.D.PartialEq.eq g.L.Elector.elect l.self e.0) l.entries;
+  rest : find (λ e. is_due g.D.PartialEq.eq g.L.Elector.elect l.self e.0) l.fn.entries ≡ find
+      (λ e. is_due g.D.PartialEq.eq g.L.Elector.elect l.self e.0) l.entries;
 }
 
 abbrev pub decreases-loop-entry : goal.decreases-loop-entry

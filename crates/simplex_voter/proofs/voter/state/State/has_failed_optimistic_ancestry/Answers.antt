@@ -1,4 +1,5 @@
--- How the contract of `has_failed_optimistic_ancestry` follows: the range of the search begins at the term's start, which is no later than the view.
+-- How the contract of `has_failed_optimistic_ancestry` follows: the range of the search begins at the term's start,
+-- which is no later than the view.
 use Rattle.std.proofs.Common.{arith, ◌-◌}
 use Rattle.std.proofs.Math.Nat.{div-mul-le_self}
 use Rattle.simplex_voter.proofs.voter.state.State.has_failed_optimistic_ancestry.Goals as goal

@@ -1,4 +1,5 @@
--- How the contract of `highest_nullification_in_term` follows: the covering entry of the nullified views by terms is the highest that covers the view.
+-- How the contract of `highest_nullification_in_term` follows: the covering entry of the nullified views by terms is
+-- the highest that covers the view.
 use Rattle.std.proofs.Common.{ap, sym, ◌∙◌}
 use Rattle.simplex_voter.proofs.Highest.{highest_there, highest_none}
 use Rattle.simplex_voter.proofs.voter.state.State.highest_nullification_in_term.Goals as goal

@@ -12,4 +12,5 @@ returns-clause-setup g c = same_setup _ _ c.self.view_is _ c.judge.ensures.origi
 pub returns-clause-judged : goal.returns-clause-judged
 returns-clause-judged g c =
     let tracked = rw (← c.self.view_is) at c.requires.tracked in
-    rw (← c.self.view_is) (on_ok c.judge.result (λ is. by_rounds _ _ c.self.view_is _ _ (is ∙ rw tracked refl)) c.judge.ensures.judged)
+    rw (← c.self.view_is)
+    (on_ok c.judge.result (λ is. by_rounds _ _ c.self.view_is _ _ (is ∙ rw tracked refl)) c.judge.ensures.judged)

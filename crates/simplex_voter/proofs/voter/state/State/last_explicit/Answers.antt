@@ -7,13 +7,17 @@ use Rattle.simplex_voter.proofs.voter.state.State.last_explicit.Goals as goal
 
 pub returns-then-is_some : goal.returns-then-is_some
 returns-then-is_some g c =
-    stopped_at (explicit_at c.args.self.now) c.pop_last.new.self (c.in-Some.entry.0, c.in-Some.entry.1.now) c.explicit_at-found.result c.explicit_at-found.ensures c.if-is_some.ensures
-    ∙ sym (c.loop-entry.invariant ∙ ap (λ es. last_or None (filter_map (explicit_at c.args.self.now) es)) c.in-Some.ensures)
+    stopped_at (explicit_at c.args.self.now) c.pop_last.new.self (c.in-Some.entry.0, c.in-Some.entry.1.now)
+    c.explicit_at-found.result c.explicit_at-found.ensures c.if-is_some.ensures
+    ∙ sym (c.loop-entry.invariant ∙ ap (λ es. last_or None (filter_map (explicit_at c.args.self.now) es))
+    c.in-Some.ensures)
 
 pub loop-entry-preserved : goal.loop-entry-preserved
 loop-entry-preserved g c =
     c.loop-entry.invariant ∙ ap (λ es. last_or None (filter_map (explicit_at c.args.self.now) es)) c.in-Some.ensures
-    ∙ passed_by (explicit_at c.args.self.now) c.pop_last.new.self (c.in-Some.entry.0, c.in-Some.entry.1.now) c.explicit_at-found.result c.explicit_at-found.ensures c.if-is_some.ensures
+    ∙ passed_by (explicit_at c.args.self.now) c.pop_last.new.self (c.in-Some.entry.0, c.in-Some.entry.1.now)
+    c.explicit_at-found.result c.explicit_at-found.ensures c.if-is_some.ensures
 
 pub returns : goal.returns
-returns g c = sym (c.loop-entry.invariant ∙ ap (λ es. last_or None (filter_map (explicit_at c.args.self.now) es)) c.in_default.ensures.0)
+returns g c = sym (c.loop-entry.invariant
+    ∙ ap (λ es. last_or None (filter_map (explicit_at c.args.self.now) es)) c.in_default.ensures.0)

@@ -1,4 +1,5 @@
--- How the contract of `raise` follows: a view above the last finalized one becomes it, and ends what waits or is under way up to it.
+-- How the contract of `raise` follows: a view above the last finalized one becomes it, and ends what waits or is under
+-- way up to it.
 use Rattle.std.proofs.Common.{refl, ap, sym, length, ◌∙◌}
 use Rattle.simplex_voter.proofs.Shown.{not_le}
 use Rattle.simplex_voter.proofs.RaisedFinal.{raised_by}
@@ -15,4 +16,5 @@ invariant_of-self g c = record {
 pub returns : goal.returns
 returns g c =
     rw (← c.self.view_is)
-    (raised_by _ _ c.self.view_is _ _ _ _ c.args.view c.next.result refl c.drop_below.ensures c.next.ensures c.end_certifications.ensures refl (not_le _ _ c.if-le.ensures))
+    (raised_by _ _ c.self.view_is _ _ _ _ c.args.view c.next.result refl c.drop_below.ensures c.next.ensures
+    c.end_certifications.ensures refl (not_le _ _ c.if-le.ensures))

@@ -9,4 +9,5 @@ pub returns-clause-setup : goal.returns-clause-setup
 returns-clause-setup g c = same_setup _ _ c.self.view_is _ c.recall.ensures.origin
 
 pub returns-clause-recalled : goal.returns-clause-recalled
-returns-clause-recalled g c = rw (← c.self.view_is) (on_ok c.recall.result (by_rounds _ _ c.self.view_is _ _) c.recall.ensures.recalled)
+returns-clause-recalled g c = rw (← c.self.view_is)
+    (on_ok c.recall.result (by_rounds _ _ c.self.view_is _ _) c.recall.ensures.recalled)

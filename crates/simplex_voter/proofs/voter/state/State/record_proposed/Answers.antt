@@ -10,4 +10,6 @@ pub returns-clause-recorded : goal.returns-clause-recorded
 returns-clause-recorded g c = rw (← c.self.view_is) c.record_proposed.ensures.recorded
 
 pub returns-clause-after : goal.returns-clause-after
-returns-clause-after g c = rw (← c.self.view_is) (where_true _ _ c.self.view_is c.record_proposed.result _ _ c.self.inside.rounds c.record_proposed.ensures.after refl)
+returns-clause-after g c = rw (← c.self.view_is)
+    (where_true _ _ c.self.view_is c.record_proposed.result _ _ c.self.inside.rounds c.record_proposed.ensures.after
+    refl)

@@ -1,4 +1,5 @@
--- How the contract of `scan` follows: the views below the next one are passed without an answer, so the first answer is the scan's.
+-- How the contract of `scan` follows: the views below the next one are passed without an answer, so the first answer is
+-- the scan's.
 use Rattle.std.proofs.Common.{is_some, ap, sym, subst, arith}
 use Rattle.simplex_voter.proofs.VerifyScan.{IsScanned, scan_starts, first_there, visited_on, visited_after, visited_answer, goes_onward, onward_within, ended_after, ended_answer}
 use Rattle.simplex_voter.proofs.voter.state.State.scan.Goals as goal
@@ -25,11 +26,17 @@ visit-requires g c =
 
 pub returns-in-Some-visit-clause-answer : goal.returns-in-Some-visit-clause-answer
 returns-in-Some-visit-clause-answer g c =
-    visited_answer g.D.PartialEq.eq g.L.Elector.elect c.args.self.now c.loop-view.invariant.ordered c.loop-view.self c.loop-view.from c.loop-view.invariant.passed c.in-Some.ensures.ordered c.loop-view.invariant.above _ c.loop-view.invariant.last c.in-Some.view c.in-Some.ensures.found c.in-Some-visit.answer c.in-Some-visit.ensures.answer
+    visited_answer g.D.PartialEq.eq g.L.Elector.elect c.args.self.now c.loop-view.invariant.ordered c.loop-view.self
+    c.loop-view.from c.loop-view.invariant.passed c.in-Some.ensures.ordered c.loop-view.invariant.above _
+    c.loop-view.invariant.last c.in-Some.view c.in-Some.ensures.found c.in-Some-visit.answer
+    c.in-Some-visit.ensures.answer
 
 pub returns-in-Some-visit-clause-after : goal.returns-in-Some-visit-clause-after
 returns-in-Some-visit-clause-after g c =
-    visited_after g.D.PartialEq.eq g.L.Elector.elect c.args.self.now c.loop-view.invariant.ordered c.loop-view.self c.loop-view.from c.loop-view.invariant.passed c.in-Some.ensures.ordered c.loop-view.invariant.above _ c.loop-view.invariant.last c.in-Some.view c.in-Some.ensures.found _ c.in-Some-visit.answer c.in-Some-visit.ensures.left c.in-Some-visit.ensures.answer
+    visited_after g.D.PartialEq.eq g.L.Elector.elect c.args.self.now c.loop-view.invariant.ordered c.loop-view.self
+    c.loop-view.from c.loop-view.invariant.passed c.in-Some.ensures.ordered c.loop-view.invariant.above _
+    c.loop-view.invariant.last c.in-Some.view c.in-Some.ensures.found _ c.in-Some-visit.answer
+    c.in-Some-visit.ensures.left c.in-Some-visit.ensures.answer
 
 pub next-requires : goal.next-requires
 next-requires g c =
@@ -54,14 +61,22 @@ loop-view-preserved g c =
       near = c.loop-view.invariant.near;
       ordered = c.loop-view.invariant.ordered;
       passed =
-          goes_onward g.D.PartialEq.eq g.L.Elector.elect c.args.self.now _ _ _ _ _ c.loop-view.invariant.near c.loop-view.invariant.last (omega (arith, c.loop-view.invariant.room)) c.next_scanned-from.ensures
-          (rw c.next.ensures (visited_on g.D.PartialEq.eq g.L.Elector.elect c.args.self.now c.loop-view.invariant.ordered c.loop-view.self c.loop-view.from c.loop-view.invariant.passed c.in-Some.ensures.ordered c.loop-view.invariant.above _ c.loop-view.invariant.last c.in-Some.view c.in-Some.ensures.found _ c.in_default-visit.ensures.left c.in_default-visit.ensures.answer));
+          goes_onward g.D.PartialEq.eq g.L.Elector.elect c.args.self.now _ _ _ _ _ c.loop-view.invariant.near
+          c.loop-view.invariant.last (omega (arith, c.loop-view.invariant.room)) c.next_scanned-from.ensures
+          (rw c.next.ensures (visited_on g.D.PartialEq.eq g.L.Elector.elect c.args.self.now
+          c.loop-view.invariant.ordered c.loop-view.self c.loop-view.from c.loop-view.invariant.passed
+          c.in-Some.ensures.ordered c.loop-view.invariant.above _ c.loop-view.invariant.last c.in-Some.view
+          c.in-Some.ensures.found _ c.in_default-visit.ensures.left c.in_default-visit.ensures.answer));
     }
 
 pub returns-clause-answer : goal.returns-clause-answer
 returns-clause-answer g c =
-    ended_answer g.D.PartialEq.eq g.L.Elector.elect c.args.self.now c.loop-view.invariant.ordered c.loop-view.self c.loop-view.from c.loop-view.invariant.passed c.in_default.ensures.ordered c.loop-view.invariant.above _ c.loop-view.invariant.last c.loop-view.invariant.within c.in_default.ensures.found
+    ended_answer g.D.PartialEq.eq g.L.Elector.elect c.args.self.now c.loop-view.invariant.ordered c.loop-view.self
+    c.loop-view.from c.loop-view.invariant.passed c.in_default.ensures.ordered c.loop-view.invariant.above _
+    c.loop-view.invariant.last c.loop-view.invariant.within c.in_default.ensures.found
 
 pub returns-clause-after : goal.returns-clause-after
 returns-clause-after g c =
-    ended_after g.D.PartialEq.eq g.L.Elector.elect c.args.self.now c.loop-view.invariant.ordered c.loop-view.self c.loop-view.from c.loop-view.invariant.passed c.in_default.ensures.ordered c.loop-view.invariant.above _ c.loop-view.invariant.last c.loop-view.invariant.within c.in_default.ensures.found
+    ended_after g.D.PartialEq.eq g.L.Elector.elect c.args.self.now c.loop-view.invariant.ordered c.loop-view.self
+    c.loop-view.from c.loop-view.invariant.passed c.in_default.ensures.ordered c.loop-view.invariant.above _
+    c.loop-view.invariant.last c.loop-view.invariant.within c.in_default.ensures.found

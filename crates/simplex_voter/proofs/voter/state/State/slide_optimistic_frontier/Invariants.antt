@@ -8,7 +8,8 @@ use Rattle.simplex_voter.proofs.voter.state.State.slide_optimistic_frontier.Give
 abbrev pub invariant-loop-last : goal.invariant-loop-last
 invariant-loop-last g l = record {
   reached : l.from ≤ l.last;
-  left : fold (λ y w. with_leader_of y (w - 1) w) l.self (range_with_len (l.from + 1) (l.last - l.from)) ≡ with_window_leaders l.fn.self l.fn.view;
+  left : fold (λ y w. with_leader_of y (w - 1) w) l.self
+      (range_with_len (l.from + 1) (l.last - l.from)) ≡ with_window_leaders l.fn.self l.fn.view;
   setup : HasSameSetup l.fn.self l.self;
 }
 

@@ -1,4 +1,5 @@
--- How the contract of `store_nullification` follows: the rounds' part is the whole change of the state, and its set-up stays.
+-- How the contract of `store_nullification` follows: the rounds' part is the whole change of the state, and its set-up
+-- stays.
 use Rattle.simplex_voter.proofs.Shown.{on_ok, by_rounds, same_setup, kept_with_rounds}
 use Rattle.simplex_voter.proofs.voter.state.State.store_nullification.Goals as goal
 
@@ -9,4 +10,6 @@ pub returns-clause-setup : goal.returns-clause-setup
 returns-clause-setup g c = same_setup _ _ c.self.view_is _ c.store_nullification.ensures.origin
 
 pub returns-clause-kept : goal.returns-clause-kept
-returns-clause-kept g c = rw (← c.self.view_is) (on_ok c.store_nullification.result (by_rounds _ _ c.self.view_is _ _) (rw c.view-view.ensures at c.store_nullification.ensures.kept))
+returns-clause-kept g c = rw (← c.self.view_is)
+    (on_ok c.store_nullification.result (by_rounds _ _ c.self.view_is _ _)
+    (rw c.view-view.ensures at c.store_nullification.ensures.kept))

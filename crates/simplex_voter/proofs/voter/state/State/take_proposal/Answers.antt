@@ -9,7 +9,8 @@ pub returns-clause-setup : goal.returns-clause-setup
 returns-clause-setup g c = same_setup _ _ c.self.view_is _ c.take_proposal.ensures.origin
 
 pub returns-clause-taken : goal.returns-clause-taken
-returns-clause-taken g c = rw (← c.self.view_is) (on_ok c.take_proposal.result (by_rounds _ _ c.self.view_is _ _) c.take_proposal.ensures.taken)
+returns-clause-taken g c = rw (← c.self.view_is)
+    (on_ok c.take_proposal.result (by_rounds _ _ c.self.view_is _ _) c.take_proposal.ensures.taken)
 
 pub returns-clause-answer : goal.returns-clause-answer
 returns-clause-answer g c = rw (← c.self.view_is) c.take_proposal.ensures.first

@@ -7,4 +7,5 @@ use Rattle.simplex_voter.proofs.voter.state.State.voted_nullify.Goals as goal
 pub returns : goal.returns
 returns g c =
     sym (looked_up _ _ _ c.get.ensures c.is_some.ensures)
-    ∙ voted_shown c.args.self.now c.self.inside.nullify_votes.by_view c.args.view (sym (ap (λ x. x.nullify_votes) c.self.view_is))
+    ∙ voted_shown c.args.self.now c.self.inside.nullify_votes.by_view c.args.view
+    (sym (ap (λ x. x.nullify_votes) c.self.view_is))
