@@ -214,13 +214,13 @@ struct Build { Context context; };
 struct StopBuilding { View view; };
 struct Certify { Proposal proposal; };
 struct Fetch { FetchKind kind; View view; std::optional<Participant> of; };
-struct Final { Proposal proposal; };
+struct Finalized { Proposal proposal; };
 struct Equivocated { Vote one; Vote other; };
 struct ProposedTwice { View view; Participant leader; };
 struct Forget { View view; };
 }  // namespace output
 using Output = std::variant<output::Store, output::Replace, output::Sign, output::Broadcast, output::Verify, output::Build, output::StopBuilding,
-                            output::Certify, output::Fetch, output::Final, output::Equivocated, output::ProposedTwice, output::Forget>;
+                            output::Certify, output::Fetch, output::Finalized, output::Equivocated, output::ProposedTwice, output::Forget>;
 
 /* An outstanding fetch. */
 struct OpenFetch {

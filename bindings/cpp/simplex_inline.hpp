@@ -104,7 +104,7 @@ std::optional<Output> output_of(const simplex_output &it, Read bytes) {
     case SIMPLEX_STOP_BUILDING: return output::StopBuilding{it.view};
     case SIMPLEX_CERTIFY: return output::Certify{proposal};
     case SIMPLEX_ASK: return output::Fetch{static_cast<FetchKind>(it.fetch), it.view, member_of(it.member)};
-    case SIMPLEX_FINAL: return output::Final{proposal};
+    case SIMPLEX_FINAL: return output::Finalized{proposal};
     case SIMPLEX_EQUIVOCATED:
         return output::Equivocated{{subject(), it.subject.member, bytes(SIMPLEX_OF_OUTPUT)},
                                    {subject_of(it.other.kind, it.other.proposal), it.other.member, bytes(SIMPLEX_OTHER_OF_OUTPUT)}};

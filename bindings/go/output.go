@@ -47,8 +47,8 @@ type FetchOutput struct {
 	Of   *Participant
 }
 
-// FinalOutput: the proposal and its ancestors are final. The ancestors are not reported.
-type FinalOutput struct{ Proposal Proposal }
+// FinalizedOutput: the proposal and its ancestors are final. The ancestors are not reported.
+type FinalizedOutput struct{ Proposal Proposal }
 
 // EquivocatedOutput: two votes of one member that contradict each other.
 type EquivocatedOutput struct{ One, Other Vote }
@@ -71,7 +71,7 @@ func (BuildOutput) isOutput()         {}
 func (StopBuildingOutput) isOutput()  {}
 func (CertifyOutput) isOutput()       {}
 func (FetchOutput) isOutput()         {}
-func (FinalOutput) isOutput()         {}
+func (FinalizedOutput) isOutput()         {}
 func (EquivocatedOutput) isOutput()   {}
 func (ProposedTwiceOutput) isOutput() {}
 func (ForgetOutput) isOutput()        {}
@@ -102,7 +102,7 @@ func outputOf(it *C.struct_simplex_output, read func(which C.uint32_t) []byte) O
 	case C.SIMPLEX_ASK:
 		return FetchOutput{FetchKind(it.fetch), view, memberOf(it.member)}
 	case C.SIMPLEX_FINAL:
-		return FinalOutput{subject.Proposal}
+		return FinalizedOutput{subject.Proposal}
 	case C.SIMPLEX_EQUIVOCATED:
 		other := Vote{subjectOf(it.other.kind, it.other.proposal), Participant(it.other.member), read(C.SIMPLEX_OTHER_OF_OUTPUT)}
 		return EquivocatedOutput{Vote{subject, member, read(C.SIMPLEX_OF_OUTPUT)}, other}

@@ -69,7 +69,7 @@ struct Text {
     std::string operator()(const output::Fetch &it) const {
         return "fetch " + word_of(it.kind) + " " + std::to_string(it.view) + " " + (it.of ? std::to_string(*it.of) : "-");
     }
-    std::string operator()(const output::Final &it) const { return "finalized" + text_of(it.proposal); }
+    std::string operator()(const output::Finalized &it) const { return "finalized" + text_of(it.proposal); }
     std::string operator()(const output::Equivocated &it) const { return "equivocated" + text_of(it.one) + text_of(it.other); }
     std::string operator()(const output::ProposedTwice &it) const { return "twice " + std::to_string(it.view) + " " + std::to_string(it.leader); }
     std::string operator()(const output::Forget &it) const { return "forget " + std::to_string(it.view); }

@@ -104,7 +104,7 @@ void Node::carry_out(const Output &output, Millis now, Queue &out) {
                           [&](const output::Fetch &it) {
                               if (it.of) out.push_back({me_, *it.of, it});
                           },
-                          [&](const output::Final &it) {
+                          [&](const output::Finalized &it) {
                               finalized_ = it.proposal;
                               deliver(out);
                           },

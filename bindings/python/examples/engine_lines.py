@@ -104,7 +104,7 @@ TEXTS = {
     outputs.StopBuilding: lambda it: f"stop {it.view}",
     outputs.Certify: lambda it: f"certify{proposal_text(it.proposal)}",
     outputs.Fetch: lambda it: f"fetch {FETCHES[it.kind]} {it.view} {member_word(it.of)}",
-    outputs.Final: lambda it: f"finalized{proposal_text(it.proposal)}",
+    outputs.Finalized: lambda it: f"finalized{proposal_text(it.proposal)}",
     outputs.Equivocated: lambda it: f"equivocated{vote_text(it.one)}{vote_text(it.other)}",
     outputs.ProposedTwice: lambda it: f"twice {it.view} {it.leader}",
     outputs.Forget: lambda it: f"forget {it.view}",

@@ -145,7 +145,7 @@ class Node:
             self.engine.handle(self.replied(output), now)
         elif isinstance(output, outputs.Fetch) and output.of is not None:
             self.out.append((self.me, output.of, output))
-        elif isinstance(output, outputs.Final):
+        elif isinstance(output, outputs.Finalized):
             self.finalized = output.proposal
             self.deliver()
         elif isinstance(output, (outputs.Equivocated, outputs.ProposedTwice)):

@@ -79,7 +79,7 @@ class Fetch:
 
 
 @dataclass(frozen=True)
-class Final:
+class Finalized:
     """The proposal and its ancestors are final. The ancestors are not reported."""
 
     proposal: Proposal
@@ -108,7 +108,7 @@ class Forget:
     view: int
 
 
-Output = Union[Store, Replace, Sign, Broadcast, Verify, Build, StopBuilding, Certify, Fetch, Final, Equivocated, ProposedTwice, Forget]
+Output = Union[Store, Replace, Sign, Broadcast, Verify, Build, StopBuilding, Certify, Fetch, Finalized, Equivocated, ProposedTwice, Forget]
 Read = Callable[[int], bytes]
 
 
@@ -144,7 +144,7 @@ _MADE = {
     lib.SIMPLEX_STOP_BUILDING: lambda it, read: StopBuilding(it.view),
     lib.SIMPLEX_CERTIFY: lambda it, read: Certify(_proposal(it)),
     lib.SIMPLEX_ASK: lambda it, read: Fetch(FetchKind(it.fetch), it.view, member_of(it.member)),
-    lib.SIMPLEX_FINAL: lambda it, read: Final(_proposal(it)),
+    lib.SIMPLEX_FINAL: lambda it, read: Finalized(_proposal(it)),
     lib.SIMPLEX_EQUIVOCATED: _equivocated,
     lib.SIMPLEX_PROPOSED_TWICE: lambda it, read: ProposedTwice(it.view, it.member),
     lib.SIMPLEX_FORGET: lambda it, read: Forget(it.view),

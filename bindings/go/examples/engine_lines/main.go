@@ -234,7 +234,7 @@ func textOf(output simplex.Output) string {
 		return "certify" + proposalText(it.Proposal)
 	case simplex.FetchOutput:
 		return fmt.Sprintf("fetch %s %d %s", kindWord(it.Kind), it.View, memberWord(it.Of))
-	case simplex.FinalOutput:
+	case simplex.FinalizedOutput:
 		return "finalized" + proposalText(it.Proposal)
 	case simplex.EquivocatedOutput:
 		return "equivocated" + voteText(it.One) + voteText(it.Other)

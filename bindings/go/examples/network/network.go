@@ -256,7 +256,7 @@ func (it *node) carryOut(output simplex.Output, now simplex.Millis, out *[]sent)
 		if output.Of != nil {
 			*out = append(*out, sent{it.me, *output.Of, output})
 		}
-	case simplex.FinalOutput:
+	case simplex.FinalizedOutput:
 		it.finalized = &output.Proposal
 		it.deliver(out)
 	case simplex.EquivocatedOutput, simplex.ProposedTwiceOutput:
