@@ -71,7 +71,7 @@ func (BuildOutput) isOutput()         {}
 func (StopBuildingOutput) isOutput()  {}
 func (CertifyOutput) isOutput()       {}
 func (FetchOutput) isOutput()         {}
-func (FinalizedOutput) isOutput()         {}
+func (FinalizedOutput) isOutput()     {}
 func (EquivocatedOutput) isOutput()   {}
 func (ProposedTwiceOutput) isOutput() {}
 func (ForgetOutput) isOutput()        {}
