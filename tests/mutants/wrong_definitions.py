@@ -48,12 +48,12 @@ class Examples(NamedTuple):
 
 EXAMPLES = {
     "laws_voter": Examples(tuple(f"Examples.{name}" for name in (
-        "Configurations", "Definitions", "Votes", "Terms", "Parents", "Windows", "Timing", "Hostile", "Mixed"))),
+        "Configurations", "Definitions", "Votes", "Terms", "Parents", "Windows", "Moments", "Hostile", "Mixed"))),
     "simplex_record": Examples(("Examples", "RecoveryExamples")),
     "simplex_member": Examples(("RestartExamples", "CallExamples")),
     "simplex_resolver": Examples(("Examples",), ("resolver::laws",)),
     "laws_safety": Examples(
-        tuple(f"networks.{name}" for name in ("Scripts", "ChangingLives", "AheadNetwork", "Rivals", "PlainNetwork")),
+        tuple(f"networks.{name}" for name in ("Scripts", "DifferentLives", "AheadNetwork", "Rivals", "PlainNetwork")),
         ("laws::instances", "laws::plain", "laws::rivals")),
     "laws_history": Examples((), ("histories::histories_are_shown",)),
     "laws_progress": Examples((), ("progress::continuations", "progress::instances")),
@@ -63,11 +63,12 @@ EXAMPLES = {
     "laws_engine": Examples(("Examples", "Votes"), (
         "laws::calls_were_received_before", "laws::nullifies_once_due", "laws::work_was_given", "laws::engines_run_on_offers", "laws::polls_end")),
     "laws_hosts": Examples((), ("agreement",)),
+    "laws_host_steps": Examples((), ("steps",)),
 }
-VOTER, RECORD, MEMBER, RESOLVER, LAWS, HISTORIES, PROGRESS, CHAINS, ENGINE, HOSTS = (
+VOTER, RECORD, MEMBER, RESOLVER, LAWS, HISTORIES, PROGRESS, CHAINS, ENGINE, HOSTS, STEPS = (
     (name,) for name in (
         "laws_voter", "simplex_record", "simplex_member", "simplex_resolver", "laws_safety", "laws_history", "laws_progress", "laws_chains", "laws_engine",
-        "laws_hosts"))
+        "laws_hosts", "laws_host_steps"))
 
 
 class Wrong(NamedTuple):
@@ -515,6 +516,22 @@ WRONG_DEFINITIONS = (
     Wrong(
         "a chain of hosts names other parents", "laws_hosts/specs/HostAgreement.antt",
         (("× (p.parent ≡ q.round.view) ×", "× (q.parent ≡ q.round.view) ×"),), HOSTS,
+    ),
+    Wrong(
+        "a host's step passes any certificate", "laws_host_steps/specs/HostSteps.antt",
+        (("IsCertifiable hosts (certificate_subject (certificate_facts bytes_of certificate))", "Unit {0}"),), STEPS,
+    ),
+    Wrong(
+        "a host's step carries out what its engine did not return", "laws_host_steps/specs/HostSteps.antt",
+        (("pub may : MayBeCarriedOut (outputs_of old.calls) (old.carried ++ more)", "pub may : Unit {0}"),), STEPS,
+    ),
+    Wrong(
+        "a host's process begins from another journal", "laws_host_steps/specs/HostSteps.antt",
+        (("(journal_of (carried_by processes)) new.start", "(journal_of []) new.start"),), STEPS,
+    ),
+    Wrong(
+        "other hosts change in a step", "laws_host_steps/specs/HostSteps.antt",
+        (("(j ≡ i → ⊥) → slice_get later j ≡ slice_get hosts j", "(j ≡ i → ⊥) → Unit {0}"),), STEPS,
     ),
 )
 
