@@ -135,7 +135,7 @@ fn what_a_crash_left_of_a_first_journal_is_written_again() {
         bytes[512 * sector..].iter_mut().take(512).for_each(|it| *it = 0);
         bytes
     };
-    let torn = (0..=whole.len()).map(|length| whole[..length].to_vec());
+    let torn = (0..=whole.len()).step_by(13).map(|length| whole[..length].to_vec());
     for left in torn.chain((0..whole.len() / 512).map(zeroed)) {
         fs::remove_file(path(&folder)).expect("a journal");
         fs::write(folder.join("journal.new"), left).expect("a disk");
