@@ -177,6 +177,17 @@ fn frames_arrive_in_order_from_the_member_that_sent_them() {
     endpoints[0].peers.send(member(7), Arc::new(framed("to nobody")));
 }
 
+/// What a member asked for is counted where it is sent, however fast the machine is.
+#[test]
+fn a_member_is_served_16_megabytes_at_once_and_8_a_second() {
+    let endpoint = Network::new().begin(0);
+    let begun = Instant::now();
+    let served = (0..400).filter(|_| endpoint.peers.serve(member(1), vec![7; 1_000_000])).count() as u64;
+    let most = 17 + 8 * (begun.elapsed().as_secs() + 1);
+    assert!((16..=most).contains(&served), "{served} of at most {most}");
+    assert!(!endpoint.peers.serve(member(0), vec![7]), "nothing is served to itself");
+}
+
 #[test]
 fn a_stranger_and_a_member_with_other_settings_are_refused() {
     let mut network = Network::new();
