@@ -7,7 +7,7 @@ the replies are the same, byte for byte. Other random scripts are served with a 
 record, and from which the member resumes at each restart: the replies are those of a member that keeps its whole record. Random inputs and
 questions are served by an engine in Rattle (`tests/programs/engine_lines`) and by one of the package, with lifetimes from what was stored: the
 replies are the same, and each kind of output is among them. `bindings/c/examples/lives.c` begins and frees many members and engines, and passes
-what has to be refused; under valgrind it neither errs nor loses a byte. `wanting.c` beside it has each request for memory of an engine
+what has to be refused; under valgrind it neither errs nor loses a byte. `out_of_memory.c` beside it has each request for memory of an engine
 refused, one in each of many runs. The package's own tests and lints run too. The archive says of itself what it is, a build shows its progress, and
 one without the kit says so in a line. And callers are built with two kinds of calls, of inputs and of
 outputs swapped, which the comparisons have to find.
@@ -250,12 +250,12 @@ def try_lives(room, archive):
     return Counter({"members": int(members), "engines": int(engines)}), []
 
 
-def try_wanting(room, archive):
+def try_out_of_memory(room, archive):
     """What an engine does of which one request for memory is refused, for each request in turn."""
-    wanting = compiled(BINDINGS / "c/examples/wanting.c", BINDINGS / "c/include", archive, room / "wanting")
-    ended = subprocess.run([wanting, "5"], stdout=subprocess.PIPE, check=False)
+    program = compiled(BINDINGS / "c/examples/out_of_memory.c", BINDINGS / "c/include", archive, room / "out_of_memory")
+    ended = subprocess.run([program, "5"], stdout=subprocess.PIPE, check=False)
     if ended.returncode:
-        return Counter(), [f"wanting ended with {ended.returncode}"]
+        return Counter(), [f"out_of_memory ended with {ended.returncode}"]
     return Counter({"requests refused": int(ended.stdout.split()[0])}), []
 
 
@@ -337,7 +337,7 @@ def try_all(given, room, pool):
     engine = given.engine_lines and given.engine_lines.resolve() or Path(program.build_engine_lines(room))
     told, untold = compare_engines(engine, rust_caller(BINDINGS / "rust", target, archive, "engine_lines"), pool)
     lived, more = try_lives(room, archive)
-    refused, unfit = try_wanting(room, archive)
+    refused, unfit = try_out_of_memory(room, archive)
     faults += [*differences, *lost, *others, *untold, *more, *unfit, *package_faults(target, archive)]
     for name, command in wrong_callers(room, archive):
         if not compare(path, {name: command}, pool)[1]:

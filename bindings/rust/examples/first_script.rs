@@ -11,8 +11,8 @@
 
 use simplex_view_state::{
     Added, Candidates, Certificate, CertificateKind, Config, Context, Cut, Digest, Ending, Entries, EntriesError, EntryCount, Epoch,
-    Finalization, Lacking, Member, Moment, Notarization, Nullification, OpenError, Participant, Proposal, ProposalRequest, RecoverError,
-    Refusal, Round, Terms, TimeoutReason, Token, Verify, View, ViewDelta, VoteKind, scan,
+    Finalization, Member, MissingCertificate, Moment, Notarization, Nullification, OpenError, Participant, Proposal, ProposalRequest,
+    RecoverError, Refusal, Round, Terms, TimeoutReason, Token, Verify, View, ViewDelta, VoteKind, scan,
 };
 use std::error::Error;
 use std::io::{BufRead, BufReader, Write};
@@ -386,8 +386,8 @@ fn work(it: Verify) -> String {
             target,
         } => {
             let kind = match kind {
-                Lacking::Nullification => "nullification",
-                Lacking::Notarization => "notarization",
+                MissingCertificate::Nullification => "nullification",
+                MissingCertificate::Notarization => "notarization",
             };
             format!("resolve {proposal} {view} {kind} {target}")
         }

@@ -6,8 +6,8 @@
 //!     cargo run --example resolver -- resolver T
 
 use simplex_view_state::{
-    Certificate, Digest, Effect, Epoch, FetchReason, Finalization, Lacking, Notarization, Nullification, Proposal, Refusal, Resolver,
-    Round, View,
+    Certificate, Digest, Effect, Epoch, FetchReason, Finalization, MissingCertificate, Notarization, Nullification, Proposal, Refusal,
+    Resolver, Round, View,
 };
 use std::error::Error;
 use std::io::{BufRead, Write};
@@ -44,11 +44,11 @@ fn reply_to(resolver: &mut Resolver, line: &str) -> Result<String, Box<dyn Error
             certificate: CERTIFICATE.to_vec(),
         })),
         ["certified", v, success] => resolver.certified(&notarization(v)?, success.parse()?),
-        ["settled", v, "notarization"] => return Ok(resolver.is_settled(view(v)?, Lacking::Notarization).to_string()),
-        ["settled", v, _] => return Ok(resolver.is_settled(view(v)?, Lacking::Nullification).to_string()),
+        ["settled", v, "notarization"] => return Ok(resolver.is_settled(view(v)?, MissingCertificate::Notarization).to_string()),
+        ["settled", v, _] => return Ok(resolver.is_settled(view(v)?, MissingCertificate::Nullification).to_string()),
         ["key-settled", v] => {
             let is_settled = |kind| Ok::<bool, Box<dyn Error>>(resolver.is_settled(view(v)?, kind));
-            return Ok((is_settled(Lacking::Nullification)? && is_settled(Lacking::Notarization)?).to_string());
+            return Ok((is_settled(MissingCertificate::Nullification)? && is_settled(MissingCertificate::Notarization)?).to_string());
         }
         ["uncertifiable", v] => return Ok(resolver.is_uncertifiable(view(v)?).to_string()),
         ["open", v] => return Ok(resolver.is_open(view(v)?).to_string()),
@@ -93,8 +93,8 @@ fn text(effect: &Effect) -> String {
         }
         Effect::Settled { kind, start, end } => {
             let kind = match kind {
-                Lacking::Nullification => "nullification",
-                Lacking::Notarization => "notarization",
+                MissingCertificate::Nullification => "nullification",
+                MissingCertificate::Notarization => "notarization",
             };
             format!("settled {kind} {start} {end}")
         }

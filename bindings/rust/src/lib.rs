@@ -84,8 +84,8 @@ pub use errors::{EngineError, EntriesError, OpenError, RecoverError, Refusal, Se
 pub use journal::{Ending, Entries, EntryCount, Scan, Stored, scan};
 pub use member::{Answer, Cut, Member, Timeout, Views};
 pub use messages::{
-    Added, Candidates, Certificate, CertificateFetch, CertificateKind, Context, Finalization, Finalize, Lacking, Notarization, Notarize,
-    Nullification, Nullify, Proposal, ProposalRequest, Subject, Verify, Vote,
+    Added, Candidates, Certificate, CertificateFetch, CertificateKind, Context, Finalization, Finalize, MissingCertificate, Notarization,
+    Notarize, Nullification, Nullify, Proposal, ProposalRequest, Subject, Verify, Vote,
 };
 pub use numbers::{Digest, Epoch, Moment, ParseDigestError, Participant, Round, Token, View, ViewDelta};
 pub use reasons::{HandoffAbandonedReason, TimeoutReason};

@@ -4,8 +4,8 @@ use crate::errors::{EntriesError, OpenError, Refusal};
 use crate::ffi;
 use crate::journal::{Entries, EntryCount, Stored};
 use crate::messages::{
-    Added, Candidates, Certificate, CertificateFetch, CertificateKind, Context, Finalization, Finalize, Lacking, Notarization, Notarize,
-    Nullification, Nullify, Proposal, ProposalRequest, Subject, Verify,
+    Added, Candidates, Certificate, CertificateFetch, CertificateKind, Context, Finalization, Finalize, MissingCertificate, Notarization,
+    Notarize, Nullification, Nullify, Proposal, ProposalRequest, Subject, Verify,
 };
 use crate::numbers::{Digest, Epoch, Moment, Participant, Round, Token, View};
 use crate::reasons::{HandoffAbandonedReason, TimeoutReason};
@@ -386,7 +386,7 @@ impl Member {
             _ => Verify::Resolve {
                 proposal: View::new(reply.waiting),
                 view: View::new(reply.lacking),
-                kind: Lacking::of(reply.reason),
+                kind: MissingCertificate::of(reply.reason),
                 target: Participant::new(reply.member),
             },
         })

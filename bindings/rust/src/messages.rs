@@ -406,19 +406,19 @@ impl ProposalRequest {
 
 /// Which certificate of its ancestry a proposal misses.
 #[derive(Clone, Copy, PartialEq, Eq, Hash, Debug)]
-pub enum Lacking {
+pub enum MissingCertificate {
     /// A nullification of a view between its parent and itself.
     Nullification,
     /// A notarization of its parent.
     Notarization,
 }
 
-impl Lacking {
+impl MissingCertificate {
     /// Returns the kind of a number of the library, which uses no other number.
-    pub(crate) fn of(kind: u32) -> Lacking {
+    pub(crate) fn of(kind: u32) -> MissingCertificate {
         match kind {
-            ffi::NULLIFICATION => Lacking::Nullification,
-            _ => Lacking::Notarization,
+            ffi::NULLIFICATION => MissingCertificate::Nullification,
+            _ => MissingCertificate::Notarization,
         }
     }
 }
@@ -435,7 +435,7 @@ pub enum Verify {
         /// The view of the missing certificate.
         view: View,
         /// Which one is missing.
-        kind: Lacking,
+        kind: MissingCertificate,
         /// The leader of the proposal's view.
         target: Participant,
     },

@@ -3,7 +3,7 @@
 use crate::errors::{OpenError, Refusal};
 use crate::ffi;
 use crate::member::Answer;
-use crate::messages::{Certificate, Lacking, Notarization};
+use crate::messages::{Certificate, MissingCertificate, Notarization};
 use crate::numbers::View;
 use std::fmt;
 use std::num::NonZeroU32;
@@ -24,7 +24,7 @@ pub enum Effect {
     /// Nothing of a kind is missing any more at the views from the first to the last.
     Settled {
         /// Which kind.
-        kind: Lacking,
+        kind: MissingCertificate,
         /// The first view.
         start: View,
         /// The last view.
@@ -112,7 +112,7 @@ impl Resolver {
                 },
             },
             2 => Effect::Settled {
-                kind: Lacking::of(effect.reason),
+                kind: MissingCertificate::of(effect.reason),
                 start: view,
                 end: View::new(effect.end),
             },
@@ -192,11 +192,11 @@ impl Resolver {
     }
 
     /// Returns whether nothing of a kind is missing at the view.
-    pub fn is_settled(&self, view: View, kind: Lacking) -> bool {
+    pub fn is_settled(&self, view: View, kind: MissingCertificate) -> bool {
         let known = self.known(view);
         match kind {
-            Lacking::Nullification => known.nullification != 0,
-            Lacking::Notarization => known.notarization != 0,
+            MissingCertificate::Nullification => known.nullification != 0,
+            MissingCertificate::Notarization => known.notarization != 0,
         }
     }
 

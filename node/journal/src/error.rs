@@ -37,6 +37,8 @@ pub enum Cause {
     Other(Difference),
     /// Bytes are changed after this many whole ones. Votes may be among them, so this key must not vote again.
     Damaged(usize),
+    /// A `journal.new` that is not a beginning of what is written is here, and the journal that it was to replace is not.
+    ReplacementAlone,
     /// An append, where nothing was replaced yet: an engine's first output replaces all.
     NotBegun,
     /// An earlier call failed, so it is not known what is on the disk.
@@ -54,6 +56,12 @@ impl JournalError {
     /// The same of the disk's errors.
     pub(crate) fn disk(path: &Path) -> impl Fn(io::Error) -> JournalError + '_ {
         |error| JournalError::new(path, Cause::Disk(error))
+    }
+}
+
+impl From<io::Error> for Cause {
+    fn from(error: io::Error) -> Cause {
+        Cause::Disk(error)
     }
 }
 
@@ -91,6 +99,11 @@ impl fmt::Display for Cause {
             Cause::Damaged(at) => write!(
                 f,
                 "the journal is damaged after {at} bytes, and votes may be lost: put back a whole copy of these very bytes. {NEW_KEY}"
+            ),
+            Cause::ReplacementAlone => write!(
+                f,
+                "the journal is not here, and `journal.new`, which was to replace it, may hold votes: for a key that has never voted name another \
+                 folder, else put the journal back. {NEW_KEY}"
             ),
             Cause::NotBegun => f.write_str("entries are appended to a journal that has none: replace it first"),
             Cause::Failed => f.write_str("the journal failed before: open it again"),

@@ -11,6 +11,9 @@ use std::path::{Path, PathBuf};
 /// A result of a journal.
 type Outcome<T = ()> = Result<T, JournalError>;
 
+/// The file of a folder whose lock the process holds that uses the folder.
+const LOCK: &str = "lock";
+
 /// The file of a folder's journal.
 pub fn path(folder: &Path) -> PathBuf {
     folder.join("journal")
@@ -87,11 +90,13 @@ impl Journal {
         path(&self.folder)
     }
 
-    /// Puts a journal of these entries in the place of the folder's, in one step, which is synced: another file is written and renamed.
+    /// Puts a journal of these entries in the place of the folder's, in one step, which is synced: another file, `journal.new`, is written
+    /// and renamed.
     ///
     /// # Errors
     ///
-    /// Where the disk refuses. The journal of before or the new one is there then, and this one has failed.
+    /// Where the disk refuses. The journal of before or the new one is there then, and this one has failed. The same where the folder has
+    /// no journal, and a `journal.new` that holds anything but a beginning of this one: it stays as it is ([`Cause::ReplacementAlone`]).
     pub fn replace(&mut self, entries: &Entries) -> Outcome {
         self.attempt(|it| {
             let mut bytes = format::head(&it.identity);
@@ -160,21 +165,22 @@ impl Journal {
     }
 
     /// Does nothing once something failed: a disk that refused may have dropped what was written before.
-    fn attempt<T>(&mut self, act: impl FnOnce(&mut Journal) -> io::Result<T>) -> Outcome<T> {
+    fn attempt<T>(&mut self, act: impl FnOnce(&mut Journal) -> Result<T, Cause>) -> Outcome<T> {
         if self.has_failed {
             return Err(JournalError::new(&self.path(), Cause::Failed));
         }
-        act(self).map_err(|error| {
+        act(self).map_err(|cause| {
             self.has_failed = true;
-            JournalError::new(&self.path(), Cause::Disk(error))
+            JournalError::new(&self.path(), cause)
         })
     }
 }
 
-/// Takes a folder for this process alone.
+/// Takes a folder for this process alone. What is in a file of that name stays.
 fn lock(folder: &Path) -> Outcome<File> {
-    let path = folder.join("lock");
-    let file = File::create(&path).map_err(JournalError::disk(&path))?;
+    let path = folder.join(LOCK);
+    let options = OpenOptions::new().create(true).write(true).truncate(false).open(&path);
+    let file = options.map_err(JournalError::disk(&path))?;
     match file.try_lock() {
         Ok(()) => Ok(file),
         Err(TryLockError::WouldBlock) => Err(JournalError::new(folder, Cause::InUse)),
@@ -183,29 +189,45 @@ fn lock(folder: &Path) -> Outcome<File> {
 }
 
 /// Makes a folder where it does not exist, and those above it. Their names are on the disk then: a journal in a folder that a power cut
-/// takes away is lost.
+/// takes away is lost. Until the folder has a lock, an earlier process may have ended before it synced the names of those that are there.
 fn make_folder(folder: &Path) -> io::Result<()> {
     let named = |it: &&Path| !it.as_os_str().is_empty();
-    let missing = folder.ancestors().filter(named).take_while(|it| !it.exists());
-    let missing: Vec<&Path> = missing.collect();
+    let all: Vec<&Path> = folder.ancestors().filter(named).collect();
+    let missing = all.iter().take_while(|it| !it.exists()).count();
+    let unsure = if folder.join(LOCK).exists() { missing } else { all.len() };
     fs::create_dir_all(folder)?;
-    missing
-        .iter()
-        .filter_map(|it| it.parent())
-        .try_for_each(|above| sync_folder(Some(above).filter(named).unwrap_or(Path::new("."))))
+    for (index, above) in all[..unsure].iter().filter_map(|it| it.parent()).enumerate() {
+        let synced = sync_folder(Some(above).filter(named).unwrap_or(Path::new(".")));
+        if index < missing {
+            synced?; // (a folder of others may refuse to be read, or to be synced)
+        }
+    }
+    Ok(())
 }
 
 fn sync_folder(folder: &Path) -> io::Result<()> {
     File::open(folder)?.sync_all()
 }
 
-fn replace(folder: &Path, bytes: &[u8]) -> io::Result<()> {
+fn replace(folder: &Path, bytes: &[u8]) -> Result<(), Cause> {
     let fresh = folder.join("journal.new");
+    if !path(folder).try_exists()? && !is_begun(&fresh, bytes)? {
+        return Err(Cause::ReplacementAlone);
+    }
     let mut file = File::create(&fresh)?;
     file.write_all(bytes)?;
     file.sync_all()?;
     fs::rename(&fresh, path(folder))?;
-    sync_folder(folder)
+    Ok(sync_folder(folder)?)
+}
+
+/// Whether a file is not there, or holds only what a crash leaves of these bytes: a beginning, and zeros where they were not written.
+fn is_begun(path: &Path, bytes: &[u8]) -> io::Result<bool> {
+    match fs::read(path) {
+        Ok(left) => Ok(left.len() <= bytes.len() && left.iter().zip(bytes).all(|(left, byte)| *left == *byte || *left == 0)),
+        Err(error) if error.kind() == io::ErrorKind::NotFound => Ok(true),
+        Err(error) => Err(error),
+    }
 }
 
 #[cfg(test)]

@@ -44,6 +44,8 @@
 //!   whole copy of these very bytes is put back.
 //! - **One process at a time, and its own journal.** A second process is refused ([`Cause::InUse`]), and so is the journal of another
 //!   network, key, epoch, list of members or term length ([`Cause::Other`]).
+//! - **A lost journal is not begun anew over what is left of it.** A `journal.new` without a `journal` is refused
+//!   ([`Cause::ReplacementAlone`]), unless it holds only what a crash left of the bytes that are written.
 //! - **After an error it does nothing more** ([`Cause::Failed`]): what is in the file is read by the next process.
 //!
 //! A file that was put back from an older copy is whole, and no program can tell by the file alone: compare it with what else the member

@@ -117,3 +117,52 @@ fn nothing_is_appended_before_all_is_replaced_and_what_is_there_stays() {
     assert!(journal.is_dirty() && journal.sync().expect("a disk"));
     assert_eq!(journal.entries(), 5);
 }
+
+/// A crash amid the first replacement leaves a beginning of `journal.new`, and zeros where a sector was not written.
+#[test]
+fn what_a_crash_left_of_a_first_journal_is_written_again() {
+    let folder = scratch("first");
+    let replace = || {
+        Journal::open(&folder, &identity(), true)
+            .expect("a folder")
+            .0
+            .replace(&entries(0, 600))
+    };
+    replace().expect("a disk");
+    let whole = fs::read(path(&folder)).expect("a journal");
+    let zeroed = |sector: usize| {
+        let mut bytes = whole.clone();
+        bytes[512 * sector..].iter_mut().take(512).for_each(|it| *it = 0);
+        bytes
+    };
+    let torn = (0..=whole.len()).step_by(13).map(|length| whole[..length].to_vec());
+    for left in torn.chain((0..whole.len() / 512).map(zeroed)) {
+        fs::remove_file(path(&folder)).expect("a journal");
+        fs::write(folder.join("journal.new"), left).expect("a disk");
+        replace().expect("it holds no vote");
+        assert_eq!(fs::read(path(&folder)).expect("a journal"), whole);
+    }
+}
+
+#[test]
+fn a_replacement_without_its_journal_stays_as_it_is() {
+    let (folder, votes) = written("alone");
+    let fresh = folder.join("journal.new");
+    fs::remove_file(path(&folder)).expect("a journal");
+    for left in [&votes[..], &votes[..votes.len() - 40], b"mine"] {
+        fs::write(&fresh, left).expect("a disk");
+        let (mut journal, none) = Journal::open(&folder, &identity(), true).expect("a folder");
+        let refused = journal.replace(&entries(0, 0)).expect_err("it may hold votes");
+        assert!(none.is_none() && matches!(refused.cause, Cause::ReplacementAlone), "{refused}");
+        assert_eq!(fs::read(&fresh).expect("it is there"), left);
+        assert!(!path(&folder).exists());
+    }
+}
+
+#[test]
+fn what_is_in_the_lock_of_a_folder_stays() {
+    let folder = scratch("own");
+    fs::write(folder.join("lock"), "mine").expect("a disk");
+    drop(Journal::open(&folder, &identity(), true).expect("a folder"));
+    assert_eq!(fs::read_to_string(folder.join("lock")).expect("a file"), "mine");
+}

@@ -27,7 +27,7 @@ pub enum Put {
 /// floods fills its own queue, is read no further, and holds up no other.
 #[derive(Debug)]
 pub struct Inbox<E> {
-    waiting: Mutex<Waiting<E>>,
+    queues: Mutex<Queues<E>>,
     /// Something waits.
     arrival: Condvar,
     /// A peer's queue has room again.
@@ -35,7 +35,7 @@ pub struct Inbox<E> {
 }
 
 #[derive(Debug)]
-struct Waiting<E> {
+struct Queues<E> {
     own: VecDeque<E>,
     peers: Vec<Queue<E>>,
     /// The peer whose turn it is.
@@ -62,7 +62,7 @@ impl<E> Queue<E> {
     }
 }
 
-impl<E> Waiting<E> {
+impl<E> Queues<E> {
     /// The process's own events come first, then the peers in turn.
     fn next(&mut self) -> Option<E> {
         if let Some(event) = self.own.pop_front() {
@@ -85,7 +85,7 @@ impl<E> Inbox<E> {
             bytes: 0,
         };
         Inbox {
-            waiting: Mutex::new(Waiting {
+            queues: Mutex::new(Queues {
                 own: VecDeque::new(),
                 peers: (0..members).map(|_| queue()).collect(),
                 turn: 0,
@@ -99,16 +99,16 @@ impl<E> Inbox<E> {
     /// Puts an event of so many bytes after those of its peer. Where there is no room it waits for half a second, and then drops the event.
     pub fn put(&self, from: Participant, event: E, bytes: usize) -> Put {
         let index = from.get() as usize;
-        let is_full = |it: &mut Waiting<E>| !it.is_closed && it.peers[index].is_full();
+        let is_full = |it: &mut Queues<E>| !it.is_closed && it.peers[index].is_full();
         let waited = self.room.wait_timeout_while(self.lock(), ROOM_WITHIN, is_full);
-        let (mut waiting, waited) = waited.unwrap_or_else(|it| it.into_inner());
-        if waiting.is_closed {
+        let (mut queues, waited) = waited.unwrap_or_else(|it| it.into_inner());
+        if queues.is_closed {
             return Put::Closed;
         }
         if waited.timed_out() {
             return Put::Dropped;
         }
-        let queue = &mut waiting.peers[index];
+        let queue = &mut queues.peers[index];
         queue.events.push_back((event, bytes));
         queue.bytes += bytes;
         self.arrival.notify_one();
@@ -123,28 +123,28 @@ impl<E> Inbox<E> {
 
     /// Returns what comes next, within some time.
     pub fn take(&self, within: Duration) -> Option<E> {
-        let event = self.next_of(within, Waiting::next)?;
+        let event = self.next_of(within, Queues::next)?;
         self.room.notify_all();
         Some(event)
     }
 
     /// Returns the next event of the process itself that is as asked for, within some time. All else stays.
     pub fn take_own(&self, within: Duration, is_asked_for: impl Fn(&E) -> bool) -> Option<E> {
-        self.next_of(within, |waiting| {
-            let at = waiting.own.iter().position(&is_asked_for)?;
-            waiting.own.remove(at)
+        self.next_of(within, |queues| {
+            let at = queues.own.iter().position(&is_asked_for)?;
+            queues.own.remove(at)
         })
     }
 
-    fn next_of(&self, within: Duration, next: impl Fn(&mut Waiting<E>) -> Option<E>) -> Option<E> {
+    fn next_of(&self, within: Duration, next: impl Fn(&mut Queues<E>) -> Option<E>) -> Option<E> {
         let until = Instant::now() + within;
-        let mut waiting = self.lock();
+        let mut queues = self.lock();
         loop {
-            if let Some(event) = next(&mut waiting) {
+            if let Some(event) = next(&mut queues) {
                 return Some(event);
             }
             let left = until.checked_duration_since(Instant::now()).filter(|it| !it.is_zero())?;
-            waiting = match self.arrival.wait_timeout(waiting, left) {
+            queues = match self.arrival.wait_timeout(queues, left) {
                 Ok((it, _)) => it,
                 Err(poisoned) => poisoned.into_inner().0,
             };
@@ -162,8 +162,8 @@ impl<E> Inbox<E> {
         self.room.notify_all();
     }
 
-    fn lock(&self) -> MutexGuard<'_, Waiting<E>> {
-        self.waiting.lock().unwrap_or_else(|it| it.into_inner())
+    fn lock(&self) -> MutexGuard<'_, Queues<E>> {
+        self.queues.lock().unwrap_or_else(|it| it.into_inner())
     }
 }
 

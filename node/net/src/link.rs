@@ -4,7 +4,7 @@
 //! [`SILENCE`] is begun anew: packets that are dropped on the way end no connection by themselves.
 
 use crate::address::Address;
-use crate::outgoing::Outgoing;
+use crate::send_queue::SendQueue;
 use crate::session::{Credentials, SILENCE, Session};
 use crate::watch::Watch;
 use simplex_view_state::Participant;
@@ -32,8 +32,8 @@ pub(crate) fn begin(
     address: &Address,
     credentials: &Arc<Credentials>,
     watch: &Arc<dyn Watch>,
-) -> io::Result<Arc<Outgoing>> {
-    let queue = Arc::new(Outgoing::default());
+) -> io::Result<Arc<SendQueue>> {
+    let queue = Arc::new(SendQueue::default());
     let (address, credentials, watch, frames) = (address.clone(), credentials.clone(), watch.clone(), queue.clone());
     thread::Builder::new()
         .name(format!("to {}", to.get()))
@@ -41,7 +41,7 @@ pub(crate) fn begin(
     Ok(queue)
 }
 
-fn keep(to: Participant, address: &Address, credentials: &Credentials, watch: &dyn Watch, frames: &Outgoing) {
+fn keep(to: Participant, address: &Address, credentials: &Credentials, watch: &dyn Watch, frames: &SendQueue) {
     let (mut wait, mut logged) = (BACKOFF.0, None::<Instant>);
     while !frames.is_closed() {
         let begun = Instant::now();
@@ -74,7 +74,7 @@ pub(crate) fn is_refusal(error: &io::Error) -> bool {
 }
 
 /// Writes what comes, and heartbeats in between, until there is nothing more to come. An error where the link is silent or ends.
-fn write_frames(session: &mut Session, frames: &Outgoing) -> io::Result<()> {
+fn write_frames(session: &mut Session, frames: &SendQueue) -> io::Result<()> {
     let (mut heard, mut looked) = (Instant::now(), Instant::now());
     while let Some(batch) = frames.take(HEARTBEAT) {
         let bytes = if batch.is_empty() { &HEARTBEAT_FRAME } else { &batch[..] };

@@ -4,8 +4,8 @@ use crate::accept::{self, Doors};
 use crate::address::Address;
 use crate::budget::Bucket;
 use crate::link;
-use crate::outgoing::Outgoing;
 use crate::receive::Receiver;
+use crate::send_queue::SendQueue;
 use crate::session::Credentials;
 use crate::watch::Watch;
 use simplex_view_state::Participant;
@@ -43,7 +43,7 @@ impl Places {
 
 /// Another member: what waits for it, and what it may still be served.
 struct Peer {
-    queue: Arc<Outgoing>,
+    queue: Arc<SendQueue>,
     served: Mutex<Bucket>,
 }
 

@@ -74,7 +74,7 @@ struct Network {
 }
 
 /// A member that runs.
-struct Running {
+struct Endpoint {
     peers: Peers,
     received: mpsc::Receiver<Received>,
     counts: Arc<Counts>,
@@ -113,7 +113,7 @@ impl Network {
         Credentials::new(me, Greeting::new(settings)).expect("a certificate")
     }
 
-    fn begin(&self, index: u32) -> Running {
+    fn begin(&self, index: u32) -> Endpoint {
         let (to, received) = channel();
         let counts = Arc::new(Counts::default());
         let places = Places {
@@ -123,7 +123,7 @@ impl Network {
         };
         let inboxes = Inboxes(Mutex::new(to));
         let peers = Peers::start(&places, self.credentials(index, &SETTINGS), inboxes, counts.clone()).expect("a free port");
-        Running { peers, received, counts }
+        Endpoint { peers, received, counts }
     }
 
     /// Connects as a member by hand, until that succeeds.
@@ -161,26 +161,37 @@ fn ends(session: &mut simplex_net::Session) {
 #[test]
 fn frames_arrive_in_order_from_the_member_that_sent_them() {
     let network = Network::new();
-    let running: Vec<Running> = (0..3).map(|index| network.begin(index)).collect();
+    let endpoints: Vec<Endpoint> = (0..3).map(|index| network.begin(index)).collect();
     let texts: Vec<String> = (0..100).map(|it| format!("frame {it}")).collect();
     // (a frame is of use for a second, so the link has to be there)
-    comes(|| (running[0].counts.connected.load(Relaxed) == 2).then_some(()));
+    comes(|| (endpoints[0].counts.connected.load(Relaxed) == 2).then_some(()));
     for text in &texts {
-        running[0].peers.send(member(1), Arc::new(framed(text)));
+        endpoints[0].peers.send(member(1), Arc::new(framed(text)));
     }
     for text in &texts {
-        let received = running[1].received.recv_timeout(SOON).expect("it comes");
+        let received = endpoints[1].received.recv_timeout(SOON).expect("it comes");
         assert_eq!(received, (member(0), text.as_bytes().to_vec()));
     }
-    assert!(running[2].received.try_recv().is_err(), "it was not sent to others");
-    running[0].peers.send(member(0), Arc::new(framed("to itself")));
-    running[0].peers.send(member(7), Arc::new(framed("to nobody")));
+    assert!(endpoints[2].received.try_recv().is_err(), "it was not sent to others");
+    endpoints[0].peers.send(member(0), Arc::new(framed("to itself")));
+    endpoints[0].peers.send(member(7), Arc::new(framed("to nobody")));
+}
+
+/// What a member asked for is counted where it is sent, however fast the machine is.
+#[test]
+fn a_member_is_served_16_megabytes_at_once_and_8_a_second() {
+    let endpoint = Network::new().begin(0);
+    let begun = Instant::now();
+    let served = (0..400).filter(|_| endpoint.peers.serve(member(1), vec![7; 1_000_000])).count() as u64;
+    let most = 17 + 8 * (begun.elapsed().as_secs() + 1);
+    assert!((16..=most).contains(&served), "{served} of at most {most}");
+    assert!(!endpoint.peers.serve(member(0), vec![7]), "nothing is served to itself");
 }
 
 #[test]
 fn a_stranger_and_a_member_with_other_settings_are_refused() {
     let mut network = Network::new();
-    let running = network.begin(0);
+    let endpoint = network.begin(0);
     let other = network.credentials(1, &[SETTINGS[0], ("epoch", "2")]);
     let refused = comes(|| {
         other
@@ -189,8 +200,8 @@ fn a_stranger_and_a_member_with_other_settings_are_refused() {
             .filter(|it| it.kind() == io::ErrorKind::InvalidInput)
     });
     assert!(refused.to_string().contains("`epoch` is 1 there and 2 here"), "{refused}");
-    comes(|| (running.counts.refused_greetings.load(Relaxed) >= 1).then_some(()));
-    let before = running.counts.refused_greetings.load(Relaxed);
+    comes(|| (endpoint.counts.refused_greetings.load(Relaxed) >= 1).then_some(()));
+    let before = endpoint.counts.refused_greetings.load(Relaxed);
     // Member 1 has another key now, which member 0 does not know.
     network.secrets[1] = [9; 32];
     network.public[1] = public_of(&[9; 32]);
@@ -199,8 +210,8 @@ fn a_stranger_and_a_member_with_other_settings_are_refused() {
         let _ = session.write_all(&framed("from a stranger"));
         while session.read(&mut [0; 64]).is_ok_and(|it| it > 0) {}
     }
-    comes(|| (running.counts.refused_greetings.load(Relaxed) > before).then_some(()));
-    assert!(running.received.try_recv().is_err(), "nothing is taken of it");
+    comes(|| (endpoint.counts.refused_greetings.load(Relaxed) > before).then_some(()));
+    assert!(endpoint.received.try_recv().is_err(), "nothing is taken of it");
     assert!(
         Members::of_raw_key(member(2), &[9; 32], &network.public).is_err(),
         "another member's key"
@@ -213,7 +224,7 @@ fn who_is_refused_knocks_about_once_a_second() {
     let network = Network::new();
     let other = network.credentials(1, &[SETTINGS[0], ("epoch", "2")]);
     let listener = TcpListener::bind(&network.places[1]).expect("a free address");
-    let _running = network.begin(0);
+    let _endpoint = network.begin(0);
     let (mut knocked, mut begun) = (0, None::<Instant>);
     listener.set_nonblocking(true).expect("a listener");
     while begun.is_none_or(|it| it.elapsed() < Duration::from_secs(5)) {
@@ -233,28 +244,28 @@ fn who_is_refused_knocks_about_once_a_second() {
 #[test]
 fn the_newest_connection_of_a_member_counts() {
     let network = Network::new();
-    let running = network.begin(0);
+    let endpoint = network.begin(0);
     let mut older = network.connected(2, 0);
     let mut newer = network.connected(2, 0);
     ends(&mut older);
     newer.write_all(&framed("here")).expect("it is read");
-    assert_eq!(running.received.recv_timeout(SOON), Ok((member(2), b"here".to_vec())));
+    assert_eq!(endpoint.received.recv_timeout(SOON), Ok((member(2), b"here".to_vec())));
 }
 
 #[test]
 fn a_member_that_sends_forgeries_is_refused_and_may_come_back() {
     let network = Network::new();
-    let running = network.begin(0);
+    let endpoint = network.begin(0);
     let mut forger = network.connected(1, 0);
     forger.write_all(&framed("x")).expect("it is read");
-    comes(|| (running.counts.offences.load(Relaxed) == 1).then_some(()));
+    comes(|| (endpoint.counts.offences.load(Relaxed) == 1).then_some(()));
     ends(&mut forger);
     // For a second its connections are ended. Other members are heard meanwhile.
     network.connected(2, 0).write_all(&framed("another")).expect("it is read");
-    assert_eq!(running.received.recv_timeout(SOON), Ok((member(2), b"another".to_vec())));
+    assert_eq!(endpoint.received.recv_timeout(SOON), Ok((member(2), b"another".to_vec())));
     let received = comes(|| {
         let _ = network.connected(1, 0).write_all(&framed("back"));
-        running.received.recv_timeout(Duration::from_millis(200)).ok()
+        endpoint.received.recv_timeout(Duration::from_millis(200)).ok()
     });
     assert_eq!(received, (member(1), b"back".to_vec()));
 }
@@ -302,7 +313,7 @@ fn who_answers_at_a_members_address_with_another_key_is_refused() {
 #[test]
 fn a_silent_connection_is_ended() {
     let network = Network::new();
-    let _running = network.begin(0);
+    let _endpoint = network.begin(0);
     let mut silent = network.connected(1, 0);
     silent.tcp().set_read_timeout(Some(Duration::from_millis(100))).expect("a timeout");
     comes(|| match silent.read(&mut [0; 64]) {

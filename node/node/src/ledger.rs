@@ -2,7 +2,7 @@
 //!
 //! It has snapshots ([`snapshots`]), which blocks bind, for nodes that were away for long or are new.
 
-mod restoring;
+mod restore;
 pub mod snapshots;
 
 use crate::application::{Ancestors, Application, Cancelled};

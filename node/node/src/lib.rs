@@ -67,6 +67,7 @@ pub mod init;
 pub mod leader_votes;
 pub mod ledger;
 pub mod metrics;
+pub mod missing_blocks;
 pub mod named;
 pub mod network;
 pub mod pace;
@@ -83,7 +84,6 @@ pub mod state_sync;
 pub mod trace;
 pub mod version;
 pub mod vote;
-pub mod waiting;
 
 pub use application::{Ancestors, Application, Cancelled};
 pub use crypto::Signature;

@@ -1,10 +1,10 @@
 //! What is counted and measured, in Prometheus' text format: times in seconds and sizes in bytes.
 
 mod durations;
-mod serving;
+mod server;
 
 pub use durations::Durations;
-pub use serving::serve;
+pub use server::serve;
 
 use prometheus::proto::{Counter, Gauge, Metric, MetricFamily, MetricType};
 use prometheus::{Encoder, TextEncoder};

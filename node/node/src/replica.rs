@@ -4,15 +4,15 @@
 //! behind that waits, and what the application is asked goes to its thread. Then the disk is waited for, once for all of that, and what
 //! waits leaves, in order. A disk or an engine that fails ends the process; what was not stored was not sent.
 
-mod asking;
-mod broadcasting;
-mod casting;
-mod counting;
+mod blocks;
+mod broadcasts;
+mod counts;
 mod far;
 mod faulty;
 mod finality;
-mod judging;
+mod requests;
 mod snapshots;
+mod votes;
 
 use crate::application::requests::Request;
 use crate::application::worker::{Answer, Kind, REPLY_WITHIN, Worker};
@@ -27,14 +27,14 @@ use crate::faults::Fault;
 use crate::inbox::{Event, Inbox};
 use crate::leader_votes::LeaderVotes;
 use crate::metrics::Counters;
+use crate::missing_blocks::MissingBlocks;
 use crate::pace::Pace;
 use crate::peers::{Horizon, Peers};
 use crate::settings::{Outcome, Settings, Turns};
 use crate::state_sync::StateSync;
 use crate::trace::Trace;
-use crate::waiting::Waiting;
-use broadcasting::Held;
-use counting::Begun;
+use broadcasts::Held;
+use counts::Begun;
 use far::Far;
 use finality::Lag;
 use simplex_chain::CatchUp;
@@ -94,7 +94,7 @@ pub struct Replica {
     trace: Option<Trace>,
     events: Events,
     /// What waits for blocks.
-    waiting: Waiting,
+    missing: MissingBlocks,
     /// The blocks that wait to be built.
     pace: Pace,
     /// The last final block that the application's thread has.
@@ -149,7 +149,7 @@ impl Replica {
             turns: parts.settings.turns(),
             trace: parts.settings.trace.as_deref().map(Trace::open).transpose()?,
             events: Events::open(&parts.settings, parts.journal.entries())?,
-            waiting: Waiting::new(parts.settings.me(), members),
+            missing: MissingBlocks::new(parts.settings.me(), members),
             pace: Pace::new(Duration::from_millis(parts.settings.protocol.pace_ms)),
             passed: (parts.tail.view, parts.tail.payload),
             building: None,
@@ -322,7 +322,7 @@ impl Replica {
         if is_near && (is_first || self.parts.engine.admits_vote(view)) {
             self.handle(Input::Proposal { from, proposal })?;
         }
-        if is_near && is_first || self.waiting.wants(&proposal.payload) {
+        if is_near && is_first || self.missing.wants(&proposal.payload) {
             self.keep_block(block)?;
         }
         Ok(())
@@ -471,20 +471,20 @@ impl Replica {
             Output::Finalized(proposal) => self.finalize(&proposal)?,
             Output::Verify(context, proposal) => self.verify(context, proposal)?,
             Output::Build(context) => {
-                self.waiting.stop_build(context.round.view);
+                self.missing.stop_build(context.round.view);
                 self.pace.ask(context);
                 self.build_due()?;
             }
             Output::Certify(proposal) => self.certify(proposal)?,
             Output::StopBuilding(view) => {
                 self.pace.stop(view);
-                self.waiting.stop_build(view);
+                self.missing.stop_build(view);
                 self.parts.application.cancel((Kind::Build, view));
             }
             Output::Equivocated(first, second) => self.show(&first, &second)?,
             Output::ProposedTwice(view, leader) => self.show_leader(view, leader),
             Output::Forget(lowest) => {
-                self.waiting.forget(lowest);
+                self.missing.forget(lowest);
                 self.leader_votes.forget(lowest);
                 self.asked.retain(|(_, view), _| *view >= lowest);
                 self.proposed_twice = self.proposed_twice.split_off(&lowest);

@@ -1,7 +1,7 @@
 //! How a node begins: from its journal, or at a floor.
 
 use crate::application::Application;
-use crate::application::requests::Serving;
+use crate::application::requests::Responder;
 use crate::application::worker::Worker;
 use crate::archive::keeper::{Keeper, Place};
 use crate::archive::{self, Archive, Limits};
@@ -118,7 +118,7 @@ fn open_by<A: Application>(
     let peers = Arc::new(Peers::start(&settings, &stored.keys, &horizon, &counters, &inbox)?);
     let place = place_of(&settings, &identity);
     let keeper = Keeper::begin(stored.archive, place, peers.clone(), inbox.clone(), counters.clone())?;
-    let application = Worker::begin(stored.application, stored.serving, inbox.clone(), counters.clone())?;
+    let application = Worker::begin(stored.application, stored.responder, inbox.clone(), counters.clone())?;
     tell(&stored.recovered, &views);
     let replica = Replica::new(Parts {
         blocks: Blocks::open(&settings.data, *identity.genesis().bytes(), settings.sync)?,
@@ -146,7 +146,7 @@ struct Stored<A> {
     engine: Engine,
     views: Views,
     application: A,
-    serving: Serving,
+    responder: Responder,
     archive: Archive,
     clock: Clock,
 }
@@ -173,7 +173,7 @@ impl<A: Application> Stored<A> {
         let replaced = installation::resume(&settings.data, &mut application)?;
         test_application(&settings.data, &application, views.last_finalized)?;
         let archive = open_archive(settings, identity, &mut application, replaced)?;
-        let serving = serving(settings, &archive, &mut application);
+        let responder = responder(settings, &archive, &mut application);
         test_archive(&settings.data, archive.tail(), views.last_finalized)?;
         let clock = Clock::start();
         begin_journal(&mut engine, &mut journal, clock.now())?;
@@ -184,7 +184,7 @@ impl<A: Application> Stored<A> {
             engine,
             views,
             application,
-            serving,
+            responder,
             archive,
             clock,
         })
@@ -290,12 +290,12 @@ fn open_archive(settings: &Settings, identity: &Identity, application: &mut impl
 const LAST_SEGMENTS: usize = 4;
 
 /// What peers are served of snapshots, from those on that blocks of the archive have bound.
-fn serving(settings: &Settings, archive: &Archive, application: &mut impl Application) -> Serving {
-    let mut serving = Serving::new(settings.data.clone(), settings.trial.clone());
-    if let Err(error) = archive.each_of_last(LAST_SEGMENTS, |block| serving.note(block, application)) {
+fn responder(settings: &Settings, archive: &Archive, application: &mut impl Application) -> Responder {
+    let mut responder = Responder::new(settings.data.clone(), settings.trial.clone());
+    if let Err(error) = archive.each_of_last(LAST_SEGMENTS, |block| responder.note(block, application)) {
         warn!(%error, "no snapshot is offered until a block binds another one");
     }
-    serving
+    responder
 }
 
 /// Hands the application the blocks of the archive that it has not taken.

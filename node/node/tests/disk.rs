@@ -8,12 +8,12 @@ use members::SOON;
 use others::Others;
 use simplex_node::audit::{contradictions, disagreements};
 use simplex_node::network::{Network, Plan, folder_of};
-use simplex_node::settings::Protocol;
+use simplex_node::settings::{Protocol, Settings};
 use simplex_wire::Message;
 use std::collections::BTreeMap;
 use std::fs::{self, OpenOptions};
 use std::path::{Path, PathBuf};
-use std::process::Command;
+use std::process::{Command, Output};
 use std::sync::OnceLock;
 use std::thread::sleep;
 use std::time::{Duration, Instant};
@@ -338,18 +338,25 @@ fn what_an_earlier_process_wrote_is_synced_at_the_start() {
     fs::remove_dir_all(network.folder()).expect("a folder");
 }
 
+/// Runs `simplex-node init` of node 0, which is killed at the call of this number.
+fn init(network: &Network, disk: &Disk, kills: Option<u32>) -> Output {
+    let mut variables = disk.variables(None);
+    variables.extend(kills.map(|it| ("DISK_KILLS", it.to_string())));
+    Command::new(env!("CARGO_BIN_EXE_simplex-node"))
+        .args(["init", "--config"])
+        .arg(network.config(0))
+        .envs(variables)
+        .output()
+        .expect("a process")
+}
+
 /// `simplex-node init` makes what a node can't make again: the journal, and the folders above it.
 #[test]
 fn a_folder_that_init_made_is_on_the_disk() {
     let mut network = Network::new(plan("disk-init")).expect("keys and settings");
     network.set(0, |it| it.data = "deep/er/0".into()).expect("settings");
     let disk = Disk::of(&network);
-    let done = Command::new(env!("CARGO_BIN_EXE_simplex-node"))
-        .args(["init", "--config"])
-        .arg(network.config(0))
-        .envs(disk.variables(None))
-        .output()
-        .expect("a process");
+    let done = init(&network, &disk, None);
     assert!(done.status.success(), "{}", String::from_utf8_lossy(&done.stderr));
     let calls = disk.calls();
     assert!(
@@ -357,6 +364,39 @@ fn a_folder_that_init_made_is_on_the_disk() {
         "{calls:?}"
     );
     assert_eq!(without_name(&calls), Vec::<&str>::new(), "{calls:?}");
+    fs::remove_dir_all(network.folder()).expect("a folder");
+}
+
+/// Wherever `simplex-node init` is killed, the next one makes the folder, all of which is on the disk then. Once the journal has its name the
+/// next one says to run the node.
+#[test]
+fn an_init_that_was_killed_at_any_call_is_made_again() {
+    let mut network = Network::new(plan("disk-init-killed")).expect("keys and settings");
+    let disk = Disk::of(&network);
+    let mut refused = 0;
+    let calls_of_init = (1..).find(|kills| {
+        let data = PathBuf::from(format!("deep{kills}/er/0"));
+        network.set(0, |it| it.data = data.clone()).expect("settings");
+        if init(&network, &disk, Some(*kills)).status.success() {
+            return true;
+        }
+        let is_named = network.folder().join(&data).join("journal").exists();
+        let again = init(&network, &disk, None);
+        let said = String::from_utf8_lossy(&again.stderr).into_owned();
+        assert_eq!(again.status.success(), !is_named, "killed at call {kills}: {said}");
+        assert!(!is_named || said.contains("runs without init"), "killed at call {kills}: {said}");
+        refused += u32::from(is_named);
+        let identity = Settings::read(&network.config(0)).and_then(|it| it.identity()).expect("settings");
+        let made = simplex_journal::read(&network.folder().join(&data), &identity).expect("its own");
+        assert_eq!(made.expect("a journal").stored.entries.get(), 0);
+        let calls = disk.calls();
+        let open = without_name(&calls)
+            .into_iter()
+            .filter(|it| Path::new(it).starts_with(data.components().next().expect("a name")));
+        assert!(is_named || open.count() == 0, "killed at call {kills}: {calls:?}");
+        false
+    });
+    assert!(calls_of_init > Some(10) && refused == 1, "{calls_of_init:?}, {refused} refused");
     fs::remove_dir_all(network.folder()).expect("a folder");
 }
 

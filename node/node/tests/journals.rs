@@ -192,6 +192,39 @@ fn init_makes_the_folder_of_a_new_member_once() {
     end(network);
 }
 
+/// An `init` that was interrupted leaves a lock, and part of the file that becomes the journal. Other files of these names stay as they are.
+#[test]
+fn init_takes_a_folder_that_an_interrupted_init_left_and_no_other_one() {
+    let network = network("init-again", 1);
+    let (data, config, own) = (network.data(0), network.config(0), network.folder().join("own"));
+    let is_refused = |next: &str| {
+        let before = held(&data);
+        let done = run(&["init"], &config);
+        let said = String::from_utf8_lossy(&done.stderr).into_owned();
+        assert!(!done.status.success() && said.contains(next), "{next}: {said}");
+        assert_eq!(held(&data), before, "it stays as it is");
+    };
+    fs::create_dir(&data).expect("a disk");
+    fs::write(data.join("lock"), "mine").expect("a disk");
+    is_refused("name another one as `data`");
+    fs::rename(data.join("lock"), &own).expect("a disk");
+    std::os::unix::fs::symlink(&own, data.join("lock")).expect("a disk");
+    is_refused("name another one as `data`");
+    assert_eq!(fs::read_to_string(&own).expect("a file"), "mine");
+    fs::remove_file(data.join("lock")).expect("a disk");
+    let held_by_another = fs::File::create(data.join("lock")).expect("a disk");
+    held_by_another.try_lock().expect("nobody has it");
+    is_refused("another process has this folder: end it first, or name another folder");
+    drop(held_by_another);
+    fs::write(data.join("journal.new"), "votes").expect("a disk");
+    is_refused("for a key that has never voted name another folder, else put the journal back");
+    fs::write(data.join("journal.new"), "simplexj").expect("a disk");
+    let done = run(&["init"], &config);
+    assert!(done.status.success(), "{}", String::from_utf8_lossy(&done.stderr));
+    is_refused("runs without init");
+    end(network);
+}
+
 #[test]
 fn a_journal_of_another_key_is_refused() {
     let mut network = stopped("key", 1);

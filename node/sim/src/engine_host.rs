@@ -39,15 +39,15 @@ impl Disk {
 
 /// What waits for a block.
 #[derive(Clone, Debug)]
-enum Waiting {
+enum Pending {
     Verify(Context, Proposal),
     Certify(Proposal),
 }
 
-impl Waiting {
+impl Pending {
     fn payload(&self) -> Digest {
         match self {
-            Waiting::Verify(_, it) | Waiting::Certify(it) => it.payload,
+            Pending::Verify(_, it) | Pending::Certify(it) => it.payload,
         }
     }
 }
@@ -64,7 +64,7 @@ pub struct EngineHost<A> {
     observer: Observer,
     heard: Vec<Moment>,
     given_up: View,
-    waiting: Vec<Waiting>,
+    pending: Vec<Pending>,
     asked: Option<Moment>,
     /// The last proposal that is known to be final.
     finalized: Option<Proposal>,
@@ -84,7 +84,7 @@ impl<A: Application> EngineHost<A> {
             observer: Observer::new(seat.me, seat.term_length.get()),
             heard: Vec::new(),
             given_up: View::GENESIS,
-            waiting: Vec::new(),
+            pending: Vec::new(),
             asked: None,
             finalized: None,
             delivered: (View::GENESIS, Digest::default()),
@@ -145,11 +145,11 @@ impl<A: Application> EngineHost<A> {
     fn take_block(&mut self, block: Block, now: Moment, effects: &mut Effects) -> Result<(), HostError> {
         self.disk.keep(block);
         let payload = block.digest();
-        let (ready, waiting) = std::mem::take(&mut self.waiting)
+        let (ready, pending) = std::mem::take(&mut self.pending)
             .into_iter()
             .partition(|it| it.payload() == payload);
-        self.waiting = waiting;
-        for it in Vec::<Waiting>::from_iter(ready) {
+        self.pending = pending;
+        for it in Vec::<Pending>::from_iter(ready) {
             self.judge(it, now, effects)?;
         }
         self.deliver();
@@ -157,19 +157,19 @@ impl<A: Application> EngineHost<A> {
     }
 
     /// Has the application verify or certify, at once or when the block has come.
-    fn judge(&mut self, asked: Waiting, now: Moment, effects: &mut Effects) -> Result<(), HostError> {
+    fn judge(&mut self, asked: Pending, now: Moment, effects: &mut Effects) -> Result<(), HostError> {
         let Some(block) = self.disk.blocks.get(&asked.payload()) else {
-            self.waiting.push(asked);
+            self.pending.push(asked);
             return Ok(());
         };
         let input = match asked {
-            Waiting::Verify(context, proposal) => {
+            Pending::Verify(context, proposal) => {
                 let is_in_place = block.is_of(&proposal) && block.parent == (context.parent, context.parent_payload);
                 let is_valid = is_in_place && self.application.verify(block);
                 let view = proposal.view();
                 Input::Verified { view, is_valid }
             }
-            Waiting::Certify(proposal) => {
+            Pending::Certify(proposal) => {
                 let is_success = block.is_of(&proposal) && self.application.certify(block);
                 let view = proposal.view();
                 Input::Certified { view, is_success }
@@ -205,16 +205,16 @@ impl<A: Application> EngineHost<A> {
                 view,
                 of: Some(peer),
             }) => effects.send(peer, Message::Ask(kind, view)),
-            Output::Verify(context, proposal) => self.judge(Waiting::Verify(context, proposal), now, effects)?,
-            Output::Certify(proposal) => self.judge(Waiting::Certify(proposal), now, effects)?,
+            Output::Verify(context, proposal) => self.judge(Pending::Verify(context, proposal), now, effects)?,
+            Output::Certify(proposal) => self.judge(Pending::Certify(proposal), now, effects)?,
             Output::Build(context) => self.build(context, now, effects)?,
             Output::Finalized(proposal) => {
                 self.finalized = Some(proposal);
                 effects.finalized(proposal);
                 self.deliver();
             }
-            Output::Forget(lowest) => self.waiting.retain(|it| match it {
-                Waiting::Verify(_, it) | Waiting::Certify(it) => it.view() >= lowest,
+            Output::Forget(lowest) => self.pending.retain(|it| match it {
+                Pending::Verify(_, it) | Pending::Certify(it) => it.view() >= lowest,
             }),
             Output::Fetch(_) | Output::StopBuilding(_) | Output::Equivocated(..) | Output::ProposedTwice(..) => {}
         }
@@ -258,7 +258,7 @@ impl<A: Application> EngineHost<A> {
     /// Asks all others for the blocks that are missing.
     fn ask_for_blocks(&mut self, now: Moment, effects: &mut Effects) {
         let of_chain = self.deliver();
-        let missing = self.waiting.iter().map(Waiting::payload).chain(of_chain);
+        let missing = self.pending.iter().map(Pending::payload).chain(of_chain);
         let missing: BTreeSet<[u8; 32]> = missing.map(|it| *it.bytes()).collect();
         let is_due = self.asked.is_none_or(|at| now.as_millis() >= at.as_millis() + ASK_AGAIN);
         if missing.is_empty() {
@@ -340,7 +340,7 @@ impl<A: Application> Host for EngineHost<A> {
 
     fn crash(&mut self) {
         self.engine = None;
-        self.waiting.clear();
+        self.pending.clear();
         self.asked = None;
     }
 

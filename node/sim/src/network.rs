@@ -15,7 +15,7 @@ use std::collections::BinaryHeap;
 const STANDSTILL: u64 = 600_000;
 
 /// Where the lines of a trace go.
-pub type Tracing<'a> = &'a mut dyn FnMut(Line);
+pub type Tracer<'a> = &'a mut dyn FnMut(Line);
 
 /// Why a simulation ended.
 #[derive(Clone, Copy, PartialEq, Eq, Debug)]
@@ -47,7 +47,7 @@ pub struct Outcome {
 
 /// What comes at a moment.
 #[derive(Debug)]
-pub(crate) enum Happening {
+pub(crate) enum Occurrence {
     Message(Sent),
     Crash(Participant),
     Begin(Participant),
@@ -55,12 +55,12 @@ pub(crate) enum Happening {
     Heal,
 }
 
-/// A happening in its place: the earliest is the greatest, of one moment the one that was planned first.
+/// An occurrence in its place: the earliest is the greatest, of one moment the one that was planned first.
 #[derive(Debug)]
 struct Planned {
     at: u64,
     order: u64,
-    happening: Happening,
+    occurrence: Occurrence,
 }
 
 impl Ord for Planned {
@@ -159,27 +159,27 @@ impl Simulation {
 
     fn plan_all(&mut self) {
         for member in (0..self.plan.members.get()).map(Participant::new) {
-            self.at(0, Happening::Begin(member));
+            self.at(0, Occurrence::Begin(member));
         }
         for (index, partition) in self.plan.partitions.clone().iter().enumerate() {
-            self.at(partition.from, Happening::Cut(index));
-            self.at(partition.to, Happening::Heal);
+            self.at(partition.from, Occurrence::Cut(index));
+            self.at(partition.to, Occurrence::Heal);
         }
         for crash in self.plan.crashes.clone() {
             let member = Participant::new(crash.member);
-            self.at(crash.from, Happening::Crash(member));
-            self.at(crash.to, Happening::Begin(member));
+            self.at(crash.from, Occurrence::Crash(member));
+            self.at(crash.to, Occurrence::Begin(member));
         }
     }
 
-    pub(crate) fn at(&mut self, at: u64, happening: Happening) {
+    pub(crate) fn at(&mut self, at: u64, occurrence: Occurrence) {
         self.order += 1;
         let order = self.order;
-        self.queue.push(Planned { at, order, happening });
+        self.queue.push(Planned { at, order, occurrence });
     }
 
     /// Plays until all honest members finalized the plan's views, nothing moves, or a promise is broken. Each line of the trace is passed on.
-    pub fn run(mut self, trace: Tracing) -> Outcome {
+    pub fn run(mut self, trace: Tracer) -> Outcome {
         self.outcome.ended = loop {
             if !self.outcome.violations.is_empty() {
                 break Ended::Violated;
@@ -202,8 +202,8 @@ impl Simulation {
         honest.map(|it| it.finalized).min().unwrap_or(0)
     }
 
-    /// Plays what comes next: a happening, or a host that wakes. Returns whether there was any.
-    pub(crate) fn step(&mut self, trace: Tracing) -> bool {
+    /// Plays what comes next: an occurrence, or a host that wakes. Returns whether there was any.
+    pub(crate) fn step(&mut self, trace: Tracer) -> bool {
         let next = self.queue.peek().map(|it| it.at);
         let wake = self.wake();
         match (next, wake) {
@@ -221,7 +221,7 @@ impl Simulation {
     }
 
     /// Goes on to a moment, and runs the hosts that wake then.
-    pub(crate) fn wake_up(&mut self, wake: u64, trace: Tracing) {
+    pub(crate) fn wake_up(&mut self, wake: u64, trace: Tracer) {
         self.now = self.now.max(wake);
         for index in 0..self.members.len() {
             if self.members[index].is_up && self.members[index].wake <= self.now {
@@ -230,15 +230,15 @@ impl Simulation {
         }
     }
 
-    fn happen(&mut self, trace: Tracing) {
+    fn happen(&mut self, trace: Tracer) {
         let Some(planned) = self.queue.pop() else { return };
         self.now = self.now.max(planned.at);
-        match planned.happening {
-            Happening::Message(sent) => self.deliver(sent, trace),
-            Happening::Crash(member) => self.crash(member, trace),
-            Happening::Begin(member) => self.begin(member, trace),
-            Happening::Cut(index) => self.cut(index, trace),
-            Happening::Heal => {
+        match planned.occurrence {
+            Occurrence::Message(sent) => self.deliver(sent, trace),
+            Occurrence::Crash(member) => self.crash(member, trace),
+            Occurrence::Begin(member) => self.begin(member, trace),
+            Occurrence::Cut(index) => self.cut(index, trace),
+            Occurrence::Heal => {
                 self.sides.clear();
                 self.line(None, 0, Event::Partition { groups: Vec::new() }, trace);
             }
@@ -254,14 +254,14 @@ impl Simulation {
     pub(crate) fn take_messages(&mut self) -> Vec<Sent> {
         let planned = std::mem::take(&mut self.queue).into_sorted_vec().into_iter().rev();
         planned
-            .filter_map(|it| match it.happening {
-                Happening::Message(sent) => Some(sent),
+            .filter_map(|it| match it.occurrence {
+                Occurrence::Message(sent) => Some(sent),
                 _ => None,
             })
             .collect()
     }
 
-    pub(crate) fn deliver(&mut self, sent: Sent, trace: Tracing) {
+    pub(crate) fn deliver(&mut self, sent: Sent, trace: Tracer) {
         let index = sent.to.get() as usize;
         if !self.members[index].is_up {
             return;
@@ -281,7 +281,7 @@ impl Simulation {
         fault.receive(from, message, &mut Insider { seat, random })
     }
 
-    pub(crate) fn crash(&mut self, member: Participant, trace: Tracing) {
+    pub(crate) fn crash(&mut self, member: Participant, trace: Tracer) {
         let it = &mut self.members[member.get() as usize];
         if it.is_up {
             it.is_up = false;
@@ -290,7 +290,7 @@ impl Simulation {
         }
     }
 
-    pub(crate) fn begin(&mut self, member: Participant, trace: Tracing) {
+    pub(crate) fn begin(&mut self, member: Participant, trace: Tracer) {
         let index = member.get() as usize;
         if !self.members[index].is_up {
             self.members[index].is_up = true;
@@ -298,7 +298,7 @@ impl Simulation {
         }
     }
 
-    fn cut(&mut self, index: usize, trace: Tracing) {
+    fn cut(&mut self, index: usize, trace: Tracer) {
         let members = self.plan.members.get();
         let side = match &self.plan.partitions[index].side {
             Some(side) => side.clone(),
@@ -316,7 +316,7 @@ impl Simulation {
     }
 
     /// Calls a host, and does what it asks for.
-    fn call(&mut self, index: usize, trace: Tracing, call: impl FnOnce(&mut dyn Host, Moment, &mut Effects) -> Result<(), HostError>) {
+    fn call(&mut self, index: usize, trace: Tracer, call: impl FnOnce(&mut dyn Host, Moment, &mut Effects) -> Result<(), HostError>) {
         let now = Moment::from_millis(self.now);
         let it = &mut self.members[index];
         let me = it.seat.me;
@@ -341,7 +341,7 @@ impl Simulation {
         self.send_all(index, effects.sent, trace);
     }
 
-    fn finalized(&mut self, index: usize, proposal: &simplex_view_state::Proposal, trace: Tracing) {
+    fn finalized(&mut self, index: usize, proposal: &simplex_view_state::Proposal, trace: Tracer) {
         let it = &mut self.members[index];
         if proposal.view().get() > it.finalized {
             it.finalized = proposal.view().get();
@@ -354,7 +354,7 @@ impl Simulation {
     }
 
     /// Sends what a host sends, or what its fault makes of it.
-    fn send_all(&mut self, index: usize, sent: Vec<Sent>, trace: Tracing) {
+    fn send_all(&mut self, index: usize, sent: Vec<Sent>, trace: Tracer) {
         let mut all = Vec::with_capacity(sent.len());
         for it in sent {
             let member = &mut self.members[index];
@@ -375,7 +375,7 @@ impl Simulation {
     }
 
     /// Writes each proposal that is sent, once, with those who get it.
-    fn trace_proposals(&mut self, sent: &[Sent], trace: Tracing) {
+    fn trace_proposals(&mut self, sent: &[Sent], trace: Tracer) {
         let mut found: Vec<(Participant, View, TracedProposal, Vec<u32>)> = Vec::new();
         for it in sent {
             let Message::Proposal(vote, block) = &it.message else { continue };
@@ -404,18 +404,18 @@ impl Simulation {
         if self.random.percent(self.plan.loss) || is_cut {
             self.outcome.lost += 1;
         } else {
-            self.at(self.now + latency, Happening::Message(sent));
+            self.at(self.now + latency, Occurrence::Message(sent));
         }
     }
 
-    fn violation(&mut self, violation: Option<Violation>, trace: Tracing) {
+    fn violation(&mut self, violation: Option<Violation>, trace: Tracer) {
         let Some(violation) = violation else { return };
         let text = violation.to_string();
         self.line(None, violation.view().get(), Event::Violation { text }, trace);
         self.outcome.violations.push(violation);
     }
 
-    fn line(&self, member: Option<Participant>, view: u64, event: Event, trace: Tracing) {
+    fn line(&self, member: Option<Participant>, view: u64, event: Event, trace: Tracer) {
         let (at, member) = (self.now * 1000, member.map(Participant::get));
         trace(Line { at, member, view, event });
     }

@@ -55,7 +55,7 @@ pub enum Reply {
 
 /// What is needed for replies, beside the application.
 #[derive(Debug, Default)]
-pub struct Serving {
+pub struct Responder {
     folder: PathBuf,
     trial: Trial,
     /// The snapshots that final blocks bound: the digest, the block's view, and the height where it is here.
@@ -64,13 +64,13 @@ pub struct Serving {
     offered: BTreeMap<Participant, Instant>,
 }
 
-impl Serving {
+impl Responder {
     /// Of a node with this folder, in a trial.
-    pub fn new(folder: PathBuf, trial: Trial) -> Serving {
-        Serving {
+    pub fn new(folder: PathBuf, trial: Trial) -> Responder {
+        Responder {
             folder,
             trial,
-            ..Serving::default()
+            ..Responder::default()
         }
     }
 
@@ -207,9 +207,9 @@ mod tests {
         }
     }
 
-    fn offered(serving: &mut Serving) -> Option<(u64, u64)> {
-        serving.offered.clear();
-        match serving
+    fn offered(responder: &mut Responder) -> Option<(u64, u64)> {
+        responder.offered.clear();
+        match responder
             .reply(Request::Snapshot(Participant::new(2)), &mut Bound)
             .expect("it serves")
         {
@@ -223,12 +223,12 @@ mod tests {
 
     #[test]
     fn the_latest_snapshot_is_offered_and_the_blocks_after_the_last_two_are_needed() {
-        let mut serving = Serving::default();
-        assert_eq!((offered(&mut serving), serving.needed_above()), (None, u64::MAX));
+        let mut responder = Responder::default();
+        assert_eq!((offered(&mut responder), responder.needed_above()), (None, u64::MAX));
         let mut seen = Vec::new();
         for (view, height) in [(10, 4), (11, 4), (12, 0), (20, 8), (30, 12), (40, 13)] {
-            serving.note(&block(view, height), &mut Bound);
-            seen.push((offered(&mut serving), serving.needed_above()));
+            responder.note(&block(view, height), &mut Bound);
+            seen.push((offered(&mut responder), responder.needed_above()));
         }
         let first = (Some((4, 10)), 4);
         assert_eq!(seen[..3], [first, first, first]);
@@ -237,10 +237,10 @@ mod tests {
 
     #[test]
     fn a_peer_that_asks_without_end_is_offered_a_snapshot_now_and_then() {
-        let mut serving = Serving::default();
-        serving.note(&block(10, 4), &mut Bound);
+        let mut responder = Responder::default();
+        responder.note(&block(10, 4), &mut Bound);
         let mut offers = |of| {
-            let reply = serving.reply(Request::Snapshot(Participant::new(of)), &mut Bound);
+            let reply = responder.reply(Request::Snapshot(Participant::new(of)), &mut Bound);
             reply.expect("it serves").is_some()
         };
         assert!(offers(2) && offers(3));
@@ -251,7 +251,7 @@ mod tests {
     fn a_piece_that_is_not_here_or_can_not_be_read_is_refused() {
         let of = Participant::new(2);
         let reply = |index| {
-            let reply = Serving::default().reply(Request::Piece(of, Digest::default(), index), &mut Bound);
+            let reply = Responder::default().reply(Request::Piece(of, Digest::default(), index), &mut Bound);
             match reply.expect("it serves") {
                 Some(Reply::Send(to, message)) if to == of => message,
                 other => panic!("{other:?}"),
@@ -271,7 +271,7 @@ mod tests {
                 manifest: Arc::new(manifest),
                 finalized: block.view,
             };
-            let reply = Serving::default().reply(Request::Check(Participant::new(2), block, offer), &mut Bound);
+            let reply = Responder::default().reply(Request::Check(Participant::new(2), block, offer), &mut Bound);
             matches!(reply, Ok(Some(Reply::Checked(_, _, true))))
         };
         assert!(is_good(4, block(9, 4)));

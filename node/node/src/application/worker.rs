@@ -1,7 +1,7 @@
 //! The thread of the application. What the engine waits for comes first, then what is asked of snapshots, then final blocks, one at a time in
 //! between. Where many final blocks wait, a question waits until few do: all of them are ancestors of its block.
 
-use super::requests::{Request, Serving};
+use super::requests::{Request, Responder};
 use super::{Ancestors, Application, Cancelled};
 use crate::chain::Entry;
 use crate::inbox::{Event, Inbox};
@@ -77,7 +77,7 @@ type Asked = (Question, Cancelled, Instant);
 
 /// What waits for the application.
 #[derive(Debug, Default)]
-struct Waiting {
+struct Backlog {
     questions: VecDeque<Asked>,
     /// What it works on.
     running: Option<((Kind, View), Cancelled)>,
@@ -88,15 +88,15 @@ struct Waiting {
 
 #[derive(Debug, Default)]
 struct Shared {
-    waiting: Mutex<Waiting>,
+    backlog: Mutex<Backlog>,
     arrival: Condvar,
     /// Whether the last reply came too late to be waited for.
     is_slow: AtomicBool,
 }
 
 impl Shared {
-    fn lock(&self) -> MutexGuard<'_, Waiting> {
-        self.waiting.lock().unwrap_or_else(|it| it.into_inner())
+    fn lock(&self) -> MutexGuard<'_, Backlog> {
+        self.backlog.lock().unwrap_or_else(|it| it.into_inner())
     }
 }
 
@@ -109,12 +109,12 @@ pub struct Worker {
 
 impl Worker {
     /// Begins the thread. It answers by [`Event::Answered`] and [`Event::Replied`], and tells that it can't go on by [`Event::Failed`].
-    pub fn begin(application: impl Application, serving: Serving, inbox: Arc<Inbox>, counters: Arc<Counters>) -> io::Result<Worker> {
+    pub fn begin(application: impl Application, responder: Responder, inbox: Arc<Inbox>, counters: Arc<Counters>) -> io::Result<Worker> {
         let shared = Arc::new(Shared::default());
         counters.height.store(application.height(), Relaxed);
         let mut work = Work {
             application,
-            serving,
+            responder,
             shared: shared.clone(),
             counters,
             asked_at: Instant::now(),
@@ -140,8 +140,8 @@ impl Worker {
     /// Whether a reply is due that is worth a short wait ([`REPLY_WITHIN`]): a question is open, and the last reply was fast.
     pub fn is_reply_near(&self) -> bool {
         !self.shared.is_slow.load(Relaxed) && {
-            let waiting = self.shared.lock();
-            waiting.running.is_some() || !waiting.questions.is_empty()
+            let backlog = self.shared.lock();
+            backlog.running.is_some() || !backlog.questions.is_empty()
         }
     }
 
@@ -164,26 +164,26 @@ impl Worker {
     }
 
     fn cancel_where(&self, is_passed: impl Fn((Kind, View)) -> bool) {
-        let mut waiting = self.shared.lock();
+        let mut backlog = self.shared.lock();
         // (a build is answered also where it never began)
-        waiting.questions.retain(|(question, cancelled, _)| {
+        backlog.questions.retain(|(question, cancelled, _)| {
             let (is_passed, is_build) = (is_passed(question.key()), matches!(question, Question::Build(..)));
             if is_passed {
                 cancelled.cancel();
             }
             is_build || !is_passed
         });
-        if let Some((_, cancelled)) = waiting.running.as_ref().filter(|(key, _)| is_passed(*key)) {
+        if let Some((_, cancelled)) = backlog.running.as_ref().filter(|(key, _)| is_passed(*key)) {
             cancelled.cancel();
         }
     }
 
     /// Asks something of snapshots. A peer that asks for too much is not replied to.
     pub fn request(&self, request: Request) {
-        let mut waiting = self.shared.lock();
+        let mut backlog = self.shared.lock();
         let of_peer = |it: &&Request| it.peer().is_some() && it.peer() == request.peer();
-        if waiting.requests.iter().filter(of_peer).count() < MOST_REQUESTS {
-            waiting.requests.push_back(request);
+        if backlog.requests.iter().filter(of_peer).count() < MOST_REQUESTS {
+            backlog.requests.push_back(request);
             self.shared.arrival.notify_one();
         }
     }
@@ -197,11 +197,11 @@ impl Worker {
     /// Waits until the application has all final blocks. Questions are answered no more.
     pub fn stop(&mut self) {
         {
-            let mut waiting = self.shared.lock();
-            waiting.is_closed = true;
-            waiting.questions.clear();
-            waiting.requests.clear();
-            waiting.running.iter().for_each(|(_, cancelled)| cancelled.cancel());
+            let mut backlog = self.shared.lock();
+            backlog.is_closed = true;
+            backlog.questions.clear();
+            backlog.requests.clear();
+            backlog.running.iter().for_each(|(_, cancelled)| cancelled.cancel());
         }
         self.shared.arrival.notify_one();
         if let Some(thread) = self.thread.take() {
@@ -238,7 +238,7 @@ enum Next {
 
 struct Work<A> {
     application: A,
-    serving: Serving,
+    responder: Responder,
     shared: Arc<Shared>,
     counters: Arc<Counters>,
     asked_at: Instant,
@@ -260,7 +260,7 @@ impl<A: Application> Work<A> {
                     self.shared.lock().running = None;
                 }
                 Next::Request(request) => {
-                    let reply = self.serving.reply(*request, &mut self.application)?;
+                    let reply = self.responder.reply(*request, &mut self.application)?;
                     reply.into_iter().for_each(|it| inbox.tell(Event::Replied(it)));
                     self.counters.height.store(self.application.height(), Relaxed);
                 }
@@ -268,7 +268,7 @@ impl<A: Application> Work<A> {
                 Next::End => return Ok(()),
             }
             if self.asked_at.elapsed() > DURABLE {
-                let durable = self.application.durable()?.min(self.serving.needed_above());
+                let durable = self.application.durable()?.min(self.responder.needed_above());
                 self.asked_at = Instant::now();
                 inbox.tell(Event::Answered(Answer::Durable(durable)));
             }
@@ -276,26 +276,26 @@ impl<A: Application> Work<A> {
     }
 
     fn next(&self) -> Next {
-        let mut waiting = self.shared.lock();
+        let mut backlog = self.shared.lock();
         loop {
-            let is_behind = waiting.finals.len() > MOST_FINALS && !waiting.questions.is_empty();
-            if is_behind && let Some(block) = waiting.finals.pop_front() {
+            let is_behind = backlog.finals.len() > MOST_FINALS && !backlog.questions.is_empty();
+            if is_behind && let Some(block) = backlog.finals.pop_front() {
                 return Next::Final(block);
             }
-            if let Some(asked) = waiting.questions.pop_front() {
-                waiting.running = Some((asked.0.key(), asked.1.clone()));
+            if let Some(asked) = backlog.questions.pop_front() {
+                backlog.running = Some((asked.0.key(), asked.1.clone()));
                 return Next::Question(asked);
             }
-            if let Some(request) = waiting.requests.pop_front() {
+            if let Some(request) = backlog.requests.pop_front() {
                 return Next::Request(Box::new(request));
             }
-            if let Some(block) = waiting.finals.pop_front() {
+            if let Some(block) = backlog.finals.pop_front() {
                 return Next::Final(block);
             }
-            if waiting.is_closed {
+            if backlog.is_closed {
                 return Next::End;
             }
-            waiting = self.shared.arrival.wait(waiting).unwrap_or_else(|it| it.into_inner());
+            backlog = self.shared.arrival.wait(backlog).unwrap_or_else(|it| it.into_inner());
         }
     }
 
@@ -340,7 +340,7 @@ impl<A: Application> Work<A> {
     fn take(&mut self, block: &Block) -> io::Result<()> {
         if block.view > self.application.last().0 {
             self.application.finalized(block)?;
-            self.serving.note(block, &mut self.application);
+            self.responder.note(block, &mut self.application);
             self.counters.height.store(self.application.height(), Relaxed);
         }
         Ok(())
@@ -475,7 +475,7 @@ mod tests {
     fn begin(begun: Sender<View>, inbox: &Arc<Inbox>, counters: &Arc<Counters>, shown: Arc<Mutex<(usize, usize)>>) -> Worker {
         let taken = Vec::new();
         let slow = Slow { taken, begun, shown };
-        Worker::begin(slow, Serving::default(), inbox.clone(), counters.clone()).expect("a thread")
+        Worker::begin(slow, Responder::default(), inbox.clone(), counters.clone()).expect("a thread")
     }
 
     /// The next answer, but for what it has on the disk.

@@ -115,7 +115,7 @@ impl Replica {
         }
         let (hole, target) = (self.chain.hole(), self.chain.target());
         let asked = hole.filter(|_| !self.state_sync.spares_blocks());
-        self.waiting.deliver(asked, self.turns.leader(target), self.parts.clock.now());
+        self.missing.deliver(asked, self.turns.leader(target), self.parts.clock.now());
         if self.parts.blocks.bytes() > MOST_BLOCKS && hole.is_some() {
             self.parts.blocks.forget(target)?;
         }

@@ -5,6 +5,7 @@
  *   DISK_REFUSES   "CALL FILE NTH ERROR": the Nth call of the kind CALL whose file, relative to the folder, fits the pattern FILE, fails
  *                  with the number ERROR. Of a disk that is full (28) the Nth write takes half of its bytes, and all later ones fail
  *   DISK_DELAYS    "FILE MILLISECONDS": a sync of such a file takes so long
+ *   DISK_KILLS     the process is killed at its call of this number, of all that change files; a write takes half of its bytes first
  *
  * The lines: `make FILE`, `folder FILE`, `write FILE`, `sync FILE LENGTH`, `rename FROM TO`, `remove FILE`. */
 #define _GNU_SOURCE
@@ -13,6 +14,7 @@
 #include <fcntl.h>
 #include <fnmatch.h>
 #include <limits.h>
+#include <signal.h>
 #include <stdarg.h>
 #include <stdatomic.h>
 #include <stdio.h>
@@ -27,7 +29,7 @@
   static __typeof__(&name) next; \
   if (!next) next = (__typeof__(&name))dlsym(RTLD_NEXT, #name)
 
-enum { TAKEN, HALVED, REFUSED };
+enum { TAKEN, HALVED, REFUSED, LAST };
 
 static const char *below;
 static int log_file = -1;
@@ -37,12 +39,16 @@ static int error_refused;
 static atomic_long seen;
 static char file_delayed[256];
 static long milliseconds_delayed;
+static long nth_killed;
+static atomic_long changes;
 
 __attribute__((constructor)) static void begin(void) {
   const char *log = getenv("DISK_LOG"), *refuses = getenv("DISK_REFUSES"), *delays = getenv("DISK_DELAYS");
+  const char *kills = getenv("DISK_KILLS");
   if (log) log_file = (int)syscall(SYS_openat, AT_FDCWD, log, O_WRONLY | O_CREAT | O_APPEND | O_CLOEXEC, 0600);
   if (refuses && sscanf(refuses, "%15s %255s %ld %d", call_refused, file_refused, &nth_refused, &error_refused) != 4) abort();
   if (delays && sscanf(delays, "%255s %ld", file_delayed, &milliseconds_delayed) != 2) abort();
+  if (kills && sscanf(kills, "%ld", &nth_killed) != 1) abort();
   below = getenv("DISK_BELOW");
 }
 
@@ -66,6 +72,10 @@ static const char *opened(int fd, char *path) {
 }
 
 static int verdict(const char *call, const char *file) {
+  if (nth_killed && atomic_fetch_add(&changes, 1) + 1 == nth_killed) {
+    if (strcmp(call, "write")) raise(SIGKILL);
+    return LAST;
+  }
   if (!error_refused || strcmp(call, call_refused) || fnmatch(file_refused, file, 0)) return TAKEN;
   long count = atomic_fetch_add(&seen, 1) + 1;
   if (error_refused == ENOSPC && count > nth_refused) return REFUSED;
@@ -137,8 +147,9 @@ ssize_t write(int fd, const void *bytes, size_t length) {
   if (!file) return next(fd, bytes, length);
   int found = verdict("write", file);
   if (found == REFUSED || (found == HALVED && length < 2)) return refused();
-  ssize_t written = next(fd, bytes, found == HALVED ? length / 2 : length);
+  ssize_t written = next(fd, bytes, found == TAKEN ? length : length / 2);
   if (written >= 0) note("write %s\n", file);
+  if (found == LAST) raise(SIGKILL);
   return written;
 }
 

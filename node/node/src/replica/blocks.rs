@@ -4,8 +4,8 @@ use super::Replica;
 use crate::application::Ancestors;
 use crate::application::ancestors::Branch;
 use crate::application::worker::{Answer, Kind, Question};
+use crate::missing_blocks::Pending;
 use crate::settings::Outcome;
-use crate::waiting::Pending;
 use simplex_view_state::{CertificateKind, Context, Digest, Input, Proposal, Subject, View};
 use simplex_wire::{Block, LONGEST_BLOCK};
 use std::sync::atomic::Ordering::Relaxed;
@@ -81,10 +81,10 @@ impl Replica {
 
     /// A question waits for a block, which is asked of its leader first. (Final blocks are asked for by the chain: they come in ranges.)
     fn wait_for(&mut self, question: Pending, block: (View, Digest)) {
-        self.waiting.wait(question, block);
+        self.missing.wait(question, block);
         if block.0 > self.chain.target() {
             let (leader, now) = (self.turns.leader(block.0), self.parts.clock.now());
-            self.waiting.want(block.0, block.1, leader, now);
+            self.missing.want(block.0, block.1, leader, now);
         }
     }
 
@@ -94,7 +94,7 @@ impl Replica {
             return Ok(());
         }
         self.passed = last;
-        let ready = self.waiting.archived(last.0);
+        let ready = self.missing.archived(last.0);
         self.ask_again(ready)
     }
 
@@ -118,7 +118,7 @@ impl Replica {
     pub(super) fn build_due(&mut self) -> Outcome {
         let current = self.views()?.current;
         self.pace.forget(current);
-        self.waiting.forget_builds(current);
+        self.missing.forget_builds(current);
         if self.building.is_none()
             && let Some(context) = self.pace.due(Instant::now())
         {
@@ -177,7 +177,7 @@ impl Replica {
     /// A block that a peer sends. Blocks that nobody asked for are not kept.
     pub(super) fn take_block(&mut self, bytes: Vec<u8>) -> Outcome {
         match Block::decode(bytes) {
-            Ok(block) if self.waiting.wants(&block.payload()) => self.keep_block(block),
+            Ok(block) if self.missing.wants(&block.payload()) => self.keep_block(block),
             _ => Ok(()),
         }
     }
@@ -187,7 +187,7 @@ impl Replica {
         let payload = block.payload();
         self.parts.blocks.keep(block.clone())?;
         self.chain.arrived(&block, &self.parts.blocks)?;
-        let ready = self.waiting.arrived(&payload);
+        let ready = self.missing.arrived(&payload);
         self.ask_again(ready)?;
         self.deliver()
     }

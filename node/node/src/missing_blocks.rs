@@ -7,9 +7,9 @@ use std::collections::{BTreeMap, BTreeSet, HashSet};
 /// After how long a block is asked for again, in milliseconds: at first, and at most.
 const RETRY_MS: (u64, u64) = (100, 3200);
 
-/// Whose turn it is to be asked for a block, and when.
+/// A block that is asked for: whose turn it is, and when.
 #[derive(Clone, Copy)]
-struct Asking {
+struct BlockRequest {
     view: View,
     next: Moment,
     peer: Participant,
@@ -38,20 +38,20 @@ impl Pending {
 }
 
 /// The questions that wait for blocks, and the blocks that are asked for.
-pub struct Waiting {
+pub struct MissingBlocks {
     me: Participant,
     members: u32,
     /// What waits, and for which block: a proposal's own, or that of an ancestor.
     questions: BTreeMap<(View, Kind), (Pending, (View, Digest))>,
     /// The block that the finalized chain waits for.
     of_chain: Option<Digest>,
-    wanted: BTreeMap<Digest, Asking>,
+    wanted: BTreeMap<Digest, BlockRequest>,
 }
 
-impl Waiting {
+impl MissingBlocks {
     /// Nothing waits at this member of so many.
-    pub fn new(me: Participant, members: u32) -> Waiting {
-        Waiting {
+    pub fn new(me: Participant, members: u32) -> MissingBlocks {
+        MissingBlocks {
             me,
             members,
             questions: BTreeMap::new(),
@@ -97,7 +97,7 @@ impl Waiting {
 
     /// A block is asked for, of this member first. What is asked for already stays as it is.
     pub fn want(&mut self, view: View, payload: Digest, peer: Participant, now: Moment) {
-        self.wanted.entry(payload).or_insert(Asking {
+        self.wanted.entry(payload).or_insert(BlockRequest {
             view,
             next: now,
             peer,
@@ -153,17 +153,17 @@ impl Waiting {
     /// The blocks that are to be asked for now, and of whom. Each stands there once, and again after a while, for the next member.
     pub fn due(&mut self, now: Moment) -> Vec<(View, Digest, Participant)> {
         let (me, members) = (self.me, self.members);
-        let is_due = |asking: &Asking| asking.next <= now;
+        let is_due = |request: &BlockRequest| request.next <= now;
         let asked = self
             .wanted
             .iter_mut()
-            .filter(|(_, asking)| is_due(asking))
-            .map(|(payload, asking)| {
-                let peer = if asking.peer == me { next_of(me, members) } else { asking.peer };
-                asking.peer = next_of(peer, members);
-                asking.next = Moment::from_millis(now.as_millis() + asking.wait_ms);
-                asking.wait_ms = (2 * asking.wait_ms).min(RETRY_MS.1);
-                (asking.view, *payload, peer)
+            .filter(|(_, request)| is_due(request))
+            .map(|(payload, request)| {
+                let peer = if request.peer == me { next_of(me, members) } else { request.peer };
+                request.peer = next_of(peer, members);
+                request.next = Moment::from_millis(now.as_millis() + request.wait_ms);
+                request.wait_ms = (2 * request.wait_ms).min(RETRY_MS.1);
+                (request.view, *payload, peer)
             });
         asked.filter(|(_, _, peer)| *peer != me).collect()
     }
@@ -192,47 +192,47 @@ mod tests {
     }
 
     /// A proposal is to be judged, whose block is asked for.
-    fn judge(waiting: &mut Waiting, proposal: Proposal, peer: Participant, now: Moment) {
-        waiting.wait(Pending::Certify(proposal), (proposal.view(), proposal.payload));
-        waiting.want(proposal.view(), proposal.payload, peer, now);
+    fn judge(missing: &mut MissingBlocks, proposal: Proposal, peer: Participant, now: Moment) {
+        missing.wait(Pending::Certify(proposal), (proposal.view(), proposal.payload));
+        missing.want(proposal.view(), proposal.payload, peer, now);
     }
 
     #[test]
     fn each_other_member_is_asked_in_turn_until_the_block_comes() {
-        let mut waiting = Waiting::new(Participant::new(2), 4);
+        let mut missing = MissingBlocks::new(Participant::new(2), 4);
         let lacking = proposal(5, 7);
-        judge(&mut waiting, lacking, Participant::new(1), at(50));
-        assert!(waiting.due(at(49)).is_empty());
+        judge(&mut missing, lacking, Participant::new(1), at(50));
+        assert!(missing.due(at(49)).is_empty());
         let (mut peers, mut now) = (Vec::new(), 50);
         for turn in 0..6 {
-            peers.extend(waiting.due(at(now)).into_iter().map(|it| it.2.get()));
+            peers.extend(missing.due(at(now)).into_iter().map(|it| it.2.get()));
             now += RETRY_MS.0 << turn;
-            assert!(waiting.due(at(now - 1)).is_empty(), "later and later");
+            assert!(missing.due(at(now - 1)).is_empty(), "later and later");
         }
         assert_eq!(peers, [1, 3, 0, 1, 3, 0]);
-        assert_eq!(waiting.arrived(&lacking.payload), [Pending::Certify(lacking)]);
-        assert!(waiting.due(at(99_999)).is_empty() && waiting.is_empty());
+        assert_eq!(missing.arrived(&lacking.payload), [Pending::Certify(lacking)]);
+        assert!(missing.due(at(99_999)).is_empty() && missing.is_empty());
     }
 
     #[test]
     fn a_block_is_asked_for_as_long_as_something_waits_for_it() {
-        let mut waiting = Waiting::new(Participant::new(0), 4);
+        let mut missing = MissingBlocks::new(Participant::new(0), 4);
         for view in 1..=4 {
-            judge(&mut waiting, proposal(view, view as u8), Participant::new(1), at(0));
+            judge(&mut missing, proposal(view, view as u8), Participant::new(1), at(0));
         }
-        waiting.deliver(Some((View::new(1), Digest::new([1; 32]))), Participant::new(3), at(0));
-        waiting.forget(View::new(4));
-        let is_wanted = |it: &Waiting| [1, 2, 3, 4].map(|payload| it.wants(&Digest::new([payload; 32])));
-        assert_eq!(is_wanted(&waiting), [true, false, false, true]);
-        waiting.deliver(None, Participant::new(3), at(0));
-        waiting.forget(View::new(4));
-        assert_eq!(is_wanted(&waiting), [false, false, false, true]);
-        assert!(waiting.arrived(&Digest::new([2; 32])).is_empty());
+        missing.deliver(Some((View::new(1), Digest::new([1; 32]))), Participant::new(3), at(0));
+        missing.forget(View::new(4));
+        let is_wanted = |it: &MissingBlocks| [1, 2, 3, 4].map(|payload| it.wants(&Digest::new([payload; 32])));
+        assert_eq!(is_wanted(&missing), [true, false, false, true]);
+        missing.deliver(None, Participant::new(3), at(0));
+        missing.forget(View::new(4));
+        assert_eq!(is_wanted(&missing), [false, false, false, true]);
+        assert!(missing.arrived(&Digest::new([2; 32])).is_empty());
     }
 
     #[test]
     fn a_question_waits_for_an_ancestor_until_it_comes_or_is_archived() {
-        let mut waiting = Waiting::new(Participant::new(0), 4);
+        let mut missing = MissingBlocks::new(Participant::new(0), 4);
         let context = |view| Context {
             round: proposal(view, 0).round,
             leader: Participant::new(0),
@@ -241,29 +241,29 @@ mod tests {
         };
         let ancestor = |view: u8| (View::new(view.into()), Digest::new([view; 32]));
         let [verify, build] = [Pending::Verify(context(7), proposal(7, 7)), Pending::Build(context(9))];
-        let all = |it: &mut Waiting| {
+        let all = |it: &mut MissingBlocks| {
             it.wait(verify, ancestor(5));
             it.wait(Pending::Certify(proposal(8, 8)), ancestor(3));
             it.wait(build, ancestor(5));
         };
-        all(&mut waiting);
-        assert!(waiting.arrived(&proposal(7, 7).payload).is_empty(), "its own block is here");
-        assert_eq!(waiting.arrived(&ancestor(5).1), [verify, build]);
-        assert!(waiting.archived(View::new(2)).is_empty());
-        assert_eq!(waiting.archived(View::new(3)), [Pending::Certify(proposal(8, 8))]);
-        all(&mut waiting);
-        waiting.forget_builds(View::new(9));
-        waiting.forget(View::new(8));
-        assert_eq!(waiting.arrived(&ancestor(5).1), [build]);
-        waiting.wait(build, ancestor(5));
-        waiting.forget_builds(View::new(10));
-        assert!(waiting.arrived(&ancestor(5).1).is_empty(), "its view is passed");
+        all(&mut missing);
+        assert!(missing.arrived(&proposal(7, 7).payload).is_empty(), "its own block is here");
+        assert_eq!(missing.arrived(&ancestor(5).1), [verify, build]);
+        assert!(missing.archived(View::new(2)).is_empty());
+        assert_eq!(missing.archived(View::new(3)), [Pending::Certify(proposal(8, 8))]);
+        all(&mut missing);
+        missing.forget_builds(View::new(9));
+        missing.forget(View::new(8));
+        assert_eq!(missing.arrived(&ancestor(5).1), [build]);
+        missing.wait(build, ancestor(5));
+        missing.forget_builds(View::new(10));
+        assert!(missing.arrived(&ancestor(5).1).is_empty(), "its view is passed");
     }
 
     #[test]
     fn a_member_alone_asks_nobody() {
-        let mut waiting = Waiting::new(Participant::new(0), 1);
-        judge(&mut waiting, proposal(1, 1), Participant::new(0), at(0));
-        assert!(waiting.due(at(0)).is_empty());
+        let mut missing = MissingBlocks::new(Participant::new(0), 1);
+        judge(&mut missing, proposal(1, 1), Participant::new(0), at(0));
+        assert!(missing.due(at(0)).is_empty());
     }
 }

@@ -59,7 +59,7 @@ impl Replica {
             self.told_at = counters.life_us.load(Relaxed) / 1_000_000;
             counters.resident_kb.store(resident_kb(), Relaxed);
             // Each open fetch is a call, and of a node that is far behind there may be many.
-            let fetches = self.parts.engine.fetches().len() + self.waiting.len();
+            let fetches = self.parts.engine.fetches().len() + self.missing.len();
             counters.open_fetches.store(fetches as u64, Relaxed);
             for (index, heard) in (0..).zip(&self.heard).filter(|it| it.0 != self.parts.keys.me.get()) {
                 counters.durations.silence(index, heard.elapsed().as_secs_f64());

@@ -13,36 +13,36 @@ const BATCH: usize = 64 << 10;
 
 /// Frames, each with the moment from which it may leave: a link that is slow in a trial holds it back until then.
 #[derive(Debug, Default)]
-pub(crate) struct Outgoing {
-    waiting: Mutex<Waiting>,
+pub(crate) struct SendQueue {
+    frames: Mutex<Frames>,
     arrival: Condvar,
 }
 
 #[derive(Debug, Default)]
-struct Waiting {
-    frames: VecDeque<(Instant, Arc<Vec<u8>>)>,
+struct Frames {
+    queue: VecDeque<(Instant, Arc<Vec<u8>>)>,
     bytes: usize,
     is_closed: bool,
 }
 
-impl Waiting {
+impl Frames {
     fn pop(&mut self) -> Option<Arc<Vec<u8>>> {
-        let (_, frame) = self.frames.pop_front()?;
+        let (_, frame) = self.queue.pop_front()?;
         self.bytes -= frame.len() + A_FRAME;
         Some(frame)
     }
 }
 
-impl Outgoing {
+impl SendQueue {
     /// Adds a frame. Returns whether it fits; one that does not is dropped.
     pub fn push(&self, due: Instant, frame: Arc<Vec<u8>>) -> bool {
-        let mut waiting = self.lock();
-        let bytes = waiting.bytes + frame.len() + A_FRAME;
+        let mut frames = self.lock();
+        let bytes = frames.bytes + frame.len() + A_FRAME;
         if bytes > MOST_BYTES {
             return false;
         }
-        waiting.bytes = bytes;
-        waiting.frames.push_back((due, frame));
+        frames.bytes = bytes;
+        frames.queue.push_back((due, frame));
         self.arrival.notify_one();
         true
     }
@@ -51,22 +51,22 @@ impl Outgoing {
     /// queue is closed and empty.
     pub fn take(&self, within: Duration) -> Option<Vec<u8>> {
         let until = Instant::now() + within;
-        let mut waiting = self.lock();
+        let mut frames = self.lock();
         loop {
             let now = Instant::now();
-            let due = waiting.frames.front().map(|(due, _)| *due);
+            let due = frames.queue.front().map(|(due, _)| *due);
             if due.is_some_and(|due| due <= now) {
-                return Some(batch(&mut waiting, now));
+                return Some(batch(&mut frames, now));
             }
-            if due.is_none() && waiting.is_closed {
+            if due.is_none() && frames.is_closed {
                 return None;
             }
             let next = due.map_or(until, |due| due.min(until));
             let Some(left) = next.checked_duration_since(now).filter(|left| !left.is_zero()) else {
                 return Some(Vec::new());
             };
-            waiting = match self.arrival.wait_timeout(waiting, left) {
-                Ok((waiting, _)) => waiting,
+            frames = match self.arrival.wait_timeout(frames, left) {
+                Ok((frames, _)) => frames,
                 Err(poisoned) => poisoned.into_inner().0,
             };
         }
@@ -74,9 +74,9 @@ impl Outgoing {
 
     /// Drops the frames that have waited for longer than this: a peer that is back asks for what it lacks.
     pub fn drop_older(&self, longest: Duration) {
-        let mut waiting = self.lock();
-        while waiting.frames.front().is_some_and(|(due, _)| due.elapsed() > longest) {
-            waiting.pop();
+        let mut frames = self.lock();
+        while frames.queue.front().is_some_and(|(due, _)| due.elapsed() > longest) {
+            frames.pop();
         }
     }
 
@@ -91,15 +91,15 @@ impl Outgoing {
         self.lock().is_closed
     }
 
-    fn lock(&self) -> MutexGuard<'_, Waiting> {
-        self.waiting.lock().unwrap_or_else(|it| it.into_inner())
+    fn lock(&self) -> MutexGuard<'_, Frames> {
+        self.frames.lock().unwrap_or_else(|it| it.into_inner())
     }
 }
 
-fn batch(waiting: &mut Waiting, now: Instant) -> Vec<u8> {
+fn batch(frames: &mut Frames, now: Instant) -> Vec<u8> {
     let mut bytes = Vec::new();
-    while bytes.len() < BATCH && waiting.frames.front().is_some_and(|(due, _)| *due <= now) {
-        bytes.extend(waiting.pop().iter().flat_map(|frame| frame.iter()));
+    while bytes.len() < BATCH && frames.queue.front().is_some_and(|(due, _)| *due <= now) {
+        bytes.extend(frames.pop().iter().flat_map(|frame| frame.iter()));
     }
     bytes
 }
@@ -110,7 +110,7 @@ mod tests {
 
     #[test]
     fn a_queue_holds_no_more_bytes_than_it_may() {
-        let queue = Outgoing::default();
+        let queue = SendQueue::default();
         let frame = Arc::new(vec![7; 1 << 20]);
         let taken = (0..1000).filter(|_| queue.push(Instant::now(), frame.clone())).count();
         assert_eq!(taken, 7, "of 1 MiB each, with what a frame costs");
@@ -123,7 +123,7 @@ mod tests {
 
     #[test]
     fn frames_leave_in_order_once_they_are_due() {
-        let queue = Outgoing::default();
+        let queue = SendQueue::default();
         let (now, later) = (Instant::now(), Instant::now() + Duration::from_secs(2));
         queue.push(now, Arc::new(vec![1]));
         queue.push(now, Arc::new(vec![2, 3]));
@@ -137,7 +137,7 @@ mod tests {
 
     #[test]
     fn frames_that_waited_for_long_are_dropped() {
-        let queue = Outgoing::default();
+        let queue = SendQueue::default();
         let Some(before) = Instant::now().checked_sub(Duration::from_secs(3)) else {
             return;
         };

@@ -4,7 +4,7 @@
  * engine answers SIMPLEX_FAILED, and another goes on from what was stored; it contradicts no vote before, and finalizes the views. A vote
  * that was stored and not counted is lost, and its view is nullified once its time is over.
  *
- *     wanting VIEWS
+ *     out_of_memory VIEWS
  */
 #include "simplex.h"
 #include <stdio.h>

@@ -20,8 +20,8 @@ impl Replica {
 
     /// Asks for the missing blocks, whose turn it is. The readers drop all others.
     pub(super) fn fetch_blocks(&mut self) {
-        self.parts.horizon.want(self.waiting.payloads());
-        for (view, payload, peer) in self.waiting.due(self.parts.clock.now()) {
+        self.parts.horizon.want(self.missing.payloads());
+        for (view, payload, peer) in self.missing.due(self.parts.clock.now()) {
             self.ask(peer, &Message::AskBlock(view, payload));
         }
     }
