@@ -1,0 +1,5 @@
+pub mod HostMembers
+pub mod HostStarts
+pub mod HostLifetimes
+pub mod HostChains
+pub mod LoneStarts
