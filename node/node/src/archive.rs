@@ -107,6 +107,7 @@ impl Archive {
         if let Some(entry) = archive.last()? {
             archive.tail = tail_of(&entry);
         }
+        archive.segments.remove_empty(archive.tail.height + 1)?;
         Ok((archive, cut))
     }
 
@@ -153,7 +154,6 @@ impl Archive {
                     entry.height, self.tail.height
                 )));
             }
-            self.test_empty_segment(entry.height)?;
             let (segment, at) = self.segments.append(entry.height, &record(entry))?;
             let view = entry.block.view;
             self.firsts.entry(segment).or_insert((view, entry.block.parent.0));
@@ -165,20 +165,6 @@ impl Archive {
             self.tail = tail_of(entry);
         }
         Ok(())
-    }
-
-    /// Refuses to append a block to a segment that has none and is named after another one.
-    fn test_empty_segment(&self, height: u64) -> io::Result<()> {
-        match self.segments.lengths().last_key_value() {
-            Some((number, length)) if *length <= HEAD && *number != height => {
-                let path = self.segments.path(*number);
-                let path = path.display();
-                Err(io::Error::other(format!(
-                    "{path} has no block, and the next one has the height {height}: move this file away, and begin again"
-                )))
-            }
-            _ => Ok(()),
-        }
     }
 
     /// Waits until the disk has all blocks.
@@ -443,7 +429,7 @@ mod tests {
     }
 
     #[test]
-    fn an_empty_segment_of_another_block_is_refused() {
+    fn a_segment_whose_blocks_a_power_cut_took_begins_with_the_next_one() {
         let folder = scratch("archive-empty");
         open(&folder).append(&chain(1)).expect("a disk");
         let (one, other) = (path(&folder).join(format!("{:020}", 1)), path(&folder).join(format!("{:020}", 9)));
@@ -453,9 +439,10 @@ mod tests {
             .expect("a segment")
             .set_len(HEAD)
             .expect("a disk");
-        fs::rename(one, &other).expect("a disk");
-        let error = open(&folder).append(&chain(1)).expect_err("it is of block 9").to_string();
-        assert!(error.contains("move this file away") && other.is_file(), "{error}");
+        fs::rename(&one, &other).expect("a disk");
+        open(&folder).append(&chain(1)).expect("a disk");
+        assert!(one.is_file() && !other.exists());
+        assert_eq!(open(&folder).tail().height, 1);
     }
 
     #[test]

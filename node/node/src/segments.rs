@@ -156,6 +156,21 @@ impl Segments {
         Ok(())
     }
 
+    /// Removes the last segment where it has no record and the next record, of this number, is not the one that it was begun for: a power cut
+    /// took those that were written to it.
+    pub fn remove_empty(&mut self, next: u64) -> io::Result<()> {
+        if let Some((&number, &length)) = self.lengths.last_key_value()
+            && length <= HEAD
+            && number != next
+        {
+            let path = self.path(number);
+            fs::remove_file(&path).map_err(named(&path))?;
+            self.lengths.remove(&number);
+            self.last = None;
+        }
+        Ok(())
+    }
+
     /// Removes a whole segment; the last one stays.
     pub fn remove(&mut self, number: u64) -> io::Result<()> {
         if self.lengths.last_key_value().is_some_and(|(last, _)| *last != number) && self.lengths.remove(&number).is_some() {
