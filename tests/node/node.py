@@ -106,6 +106,8 @@ WRONG_BODIES = (
     ("fetched blocks of no chain are kept", "../../chain/src/final_chain.rs", "self.drop_taken();", ""),
     ("a segment that was begun loses the blocks before it", "archive.rs", "for number in self.numbers().into_iter().rev() {\n            let mut found = None;",
      "for number in self.numbers().into_iter().rev().take(1) {\n            let mut found = None;"),
+    ("a segment whose blocks a power cut took stays", "archive.rs", "        archive.segments.remove_empty(archive.tail.height + 1)?;\n", ""),
+    ("a last segment is removed with its blocks", "segments.rs", "            && length <= HEAD\n", "            && length >= HEAD\n"),
     ("all lacking blocks are asked of one member", "../../chain/src/catch_up.rs", "self.next = self.following(of);", ""),
     ("a node without file descriptors tries without end", "../../net/src/accept.rs", "                thread::sleep(NO_ROOM);\n                continue;",
      "                let _ = NO_ROOM;\n                continue;"),

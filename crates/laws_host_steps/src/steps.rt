@@ -4,8 +4,8 @@ ghost use Rattle.laws_host_steps.specs.HostSteps.{BegunHostsAreNetworks, StepsKe
 
 use simplex_types::types::{Digest, Elector, Scheme};
 
-/// Hosts that take these steps keep the premises of `hosts_agree`: what they may do next is all that a host has to
-/// watch.
+/// Hosts that take these steps keep the premises of `hosts_agree`. So a host keeps them by what it does next, whatever
+/// it did before.
 ///
 /// In a step one honest host does one of these:
 ///
