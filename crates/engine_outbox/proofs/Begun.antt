@@ -15,7 +15,7 @@ use Rattle.engine_outbox.specs.declared.output.Output.TheVariants as output
 use Rattle.engine_outbox.specs.Continuity.{IsJournaled}
 use Rattle.engine_outbox.specs.EmittedVotes.{AllAreReturned}
 use Rattle.engine_outbox.specs.RecordReach.{ReachesTo}
-use Rattle.engine_outbox.proofs.Kept.{replaced, told_last_still}
+use Rattle.engine_outbox.proofs.Kept.{replaced, replied_last_still}
 use Rattle.engine_outbox.proofs.EmittedVotes.{leave_begun}
 
 module _ {S L D K G C : Type 0} (bytes_of : C → List ℕ) (member : SignedMember K L D G)
@@ -26,23 +26,23 @@ module _ {S L D K G C : Type 0} (bytes_of : C → List ℕ) (member : SignedMemb
   abbrev pub after : Journaled S L D K G C
   after = record { member = member; outbox = new; stored = count; reach = reach; failed = false }
 
-  pub begun : IsLawfulOutbox [] old → old.queue.items ≡ [] → new.told ≡ old.told
-      → IfSome member.facts.life (λ x. old.told ≡ x.finalized)
+  pub begun : IsLawfulOutbox [] old → old.queue.items ≡ [] → new.reported ≡ old.reported
+      → IfSome member.facts.life (λ x. old.reported ≡ x.finalized)
       → ((given : List (Output S D Stored K G C)) → IsLawfulOutbox given old → IsLawfulOutbox given new)
       → (all : List (Artifact S D K G C)) → count ≡ length all → entries_of bytes_of all ≡ member.facts.entries
       → votes_of all ≡ member.votes
       → IsReplaced bytes_of all (stored_of member.facts) old new → ReachesTo reach count member.facts.entries
       → IsJournaled bytes_of [] after
-  begun begins empty same_told last lawful all counted all_entries all_votes is reaches =
+  begun begins empty same_replied last lawful all counted all_entries all_votes is reaches =
       replaced bytes_of before after [] lawful all counted all_entries all_votes is
       (λ lives. subst AllAreReturned (sym (is.2.queue
       ∙ ap (λ q. q ++ output.Replace is.0 (stored_of member.facts) ∷ []) empty))
       (leave_begun is.0 (stored_of member.facts)))
-      (told_last_still before after refl same_told) reaches
+      (replied_last_still before after refl same_replied) reaches
       (record {
         lawful = begins;
         stored = λ lives. cc;
         emitted = λ lives. cc;
-        told = last;
+        reported = last;
         reaching = record { counted = omega arith; lowest = refl };
       })

@@ -47,10 +47,10 @@ module _ {K L D : Type 0} where
 
   -- a call
   pub call_risen : (same : D → D → Bool) (elect : Elect L) (m : MemberFacts K L D) (call : CallFacts D)
-      (told : ReplyFacts K D) (left : MemberFacts K L D) → IsCall same elect m call told left
+      (replied : ReplyFacts K D) (left : MemberFacts K L D) → IsCall same elect m call replied left
       → WhileAlive HasRisen m.life left.life
   call_risen same elect =
-      each_call same elect (λ call told. HasRisen) (λ call fault x. stood x) (λ call x. stood x)
+      each_call same elect (λ call replied. HasRisen) (λ call fault x. stood x) (λ call x. stood x)
       (λ call x o allowed. let goes = call_goes same elect x o call in
       record { terms = goes.terms; views = never_falls x _ goes })
 
@@ -70,7 +70,7 @@ module _ {S L D K G C : Type 0} {same : D → D → Bool} {elect : Elect L} {byt
     done = does_nothing a.member.facts;
     traced = traced_still same elect bytes_of a;
     signed = λ i key given is. is;
-    told = tells_none a.outbox a.outbox refl refl;
+    reported = tells_none a.outbox a.outbox refl refl;
     queued = queues_none a.outbox;
     risen = risen_not a.member.facts;
   }
@@ -91,10 +91,10 @@ module _ {S L D K G C : Type 0} {same : D → D → Bool} {elect : Elect L} {byt
         (second.traced term_length i earlier given (all ++ first.more)
         (first.traced term_length i earlier given all is));
     signed = λ i key given is. second.signed i key given (first.signed i key given is);
-    told =
+    reported =
         subst (λ ps. ReportsRising ps a.outbox c.outbox) (sym (finalized_by-append first.more second.more))
-        (tells_further (finals_by first.more) (finals_by second.more) a.outbox b.outbox c.outbox first.told
-        second.told);
+        (tells_further (finals_by first.more) (finals_by second.more) a.outbox b.outbox c.outbox first.reported
+        second.reported);
     queued = queues_further first.queued second.queued;
     risen = risen_further a.member.facts b.member.facts c.member.facts first.risen second.risen;
   }
@@ -109,7 +109,7 @@ module _ {S L D K G C : Type 0} {same : D → D → Bool} {elect : Elect L} {byt
     done = went.done;
     traced = went.traced;
     signed = went.signed;
-    told = went.told;
+    reported = went.reported;
     queued = went.queued;
     risen = went.risen;
   }
@@ -148,12 +148,12 @@ module _ {S L D K G C : Type 0} {same : D → D → Bool} {elect : Elect L} {byt
     (went : Continues same elect bytes_of is_signature None a b) where
   pub tells_no_other : ReportsNoMore [] a.outbox b.outbox
   tells_no_other = tells_nothing (finals_by went.more) a.outbox b.outbox (none_finalized went.more went.on_this)
-      went.told
+      went.reported
 
   pub tells_no_other_then : (c : Journaled S L D K G C) (out : List (Output S D Stored K G C))
       → ReportsNoMore out b.outbox c.outbox → ReportsNoMore out a.outbox c.outbox
   tells_no_other_then c out = tells_no_more (finals_by went.more) out a.outbox b.outbox c.outbox
-      (none_finalized went.more went.on_this) went.told
+      (none_finalized went.more went.on_this) went.reported
 
 -- what holds of an answer
 pub where_ok : {X E : Type 0} (r : Result X E) {P Q : X → Type 0} → IfOk r P → ((x : X) → P x → Q x) → IfOk r Q

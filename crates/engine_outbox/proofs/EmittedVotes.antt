@@ -16,7 +16,7 @@ use Rattle.engine_outbox.specs.declared.output.Output.TheVariants as output
 use Rattle.engine_outbox.specs.Entries.{vote_in, votes_of_entries}
 use Rattle.engine_outbox.specs.Journals.{Journal, empty_journal, written_all, journal_of}
 use Rattle.engine_outbox.specs.EmittedVotes.{AllAreReturned}
-use Rattle.engine_outbox.specs.Outboxes.{IsPassedIf, IsTold}
+use Rattle.engine_outbox.specs.Outboxes.{IsPassedIf, IsReported}
 use Rattle.engine_outbox.specs.Outputs.{entries_in, stored_in, storing}
 use Rattle.engine_outbox.specs.HostStops.{vote_as}
 use Rattle.engine_outbox.proofs.Behind.{votes_in-append, stored_in-append, stored_by}
@@ -192,19 +192,20 @@ module _ {S D J K G C : Type 0} where
       → AllAreReturned {S = S} {K = K} (output.Replace entries beside ∷ [])
   leave_begun entries beside = λ vote has. none_in vote has
 
-  leave_told_where : (given : List (Output S D J K G C)) (old new : Outbox S D J K G C) (p : Proposal D)
+  leave_replied_where : (given : List (Output S D J K G C)) (old new : Outbox S D J K G C) (p : Proposal D)
       (is_above : Bool) → IsPassedIf is_above p old new
       → AllAreReturned (given ++ old.queue.items) → AllAreReturned (given ++ new.queue.items)
-  leave_told_where given old new p true is before =
+  leave_replied_where given old new p true is before =
       subst AllAreReturned
       (sym (ap (λ q. given ++ q) is.0 ∙ sym (append_assoc given old.queue.items (output.Finalized p ∷ []))))
       (leave_plain (given ++ old.queue.items) (output.Finalized p) refl before)
-  leave_told_where given old new p false is before = subst (λ q. AllAreReturned (given ++ q)) (sym is.0) before
+  leave_replied_where given old new p false is before = subst (λ q. AllAreReturned (given ++ q)) (sym is.0) before
 
   -- a proposal that is final, where one is reported
-  pub leave_told : (given : List (Output S D J K G C)) (old new : Outbox S D J K G C) (finalized : Option (Proposal D))
-      → IsTold finalized old new
+  pub leave_replied : (given : List (Output S D J K G C)) (old new : Outbox S D J K G C)
+      (finalized : Option (Proposal D))
+      → IsReported finalized old new
       → AllAreReturned (given ++ old.queue.items) → AllAreReturned (given ++ new.queue.items)
-  leave_told given old new None is before = subst (λ q. AllAreReturned (given ++ q)) (sym is.0) before
-  leave_told given old new (Some p) is before =
-      leave_told_where given old new p (nat_lt old.told p.round.view) is before
+  leave_replied given old new None is before = subst (λ q. AllAreReturned (given ++ q)) (sym is.0) before
+  leave_replied given old new (Some p) is before =
+      leave_replied_where given old new p (nat_lt old.reported p.round.view) is before

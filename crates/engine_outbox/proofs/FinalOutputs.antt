@@ -12,7 +12,7 @@ use Rattle.simplex_record.specs.Events.{Event, finalized_by_event}
 use Rattle.simplex_member.specs.CallConditions.{is_allowed}
 use Rattle.simplex_member.specs.CallSemantics.{answer, after_call}
 use Rattle.simplex_member.specs.Calls as calls
-use Rattle.simplex_member.specs.Calls.{CallFacts, ReplyFacts, asked, told}
+use Rattle.simplex_member.specs.Calls.{CallFacts, ReplyFacts, asked, reply_facts}
 use Rattle.simplex_member.specs.Events.{in_context, events_of}
 use Rattle.simplex_member.specs.MemberFacts.{MemberFacts, IsCall}
 use Rattle.simplex_member.specs.OutstandingWork.{OutstandingWork, context_at}
@@ -128,25 +128,27 @@ module _ {K L D : Type 0} (same : D → D → Bool) (elect : Elect L) where
       (λ call x o allowed. by_hands x o call allowed (hands call))
 
   -- the highest view that was reported stays the last finalized one
-  last_told : (finals : List (Proposal D)) (life next : Option (StateFacts K L D)) (before after : ℕ)
+  last_replied : (finals : List (Proposal D)) (life next : Option (StateFacts K L D)) (before after : ℕ)
       → IfSome life (λ x. before ≡ x.finalized)
       → WhileAlive (λ x y. y.finalized ≡ raised_to x.finalized finals) life next → after ≡ raised_to before finals
       → IfSome next (λ y. after ≡ y.finalized)
-  last_told finals life None before after told goes is = tt
-  last_told finals None (Some y) before after told goes is = absurd goes
-  last_told finals (Some x) (Some y) before after told goes is = is ∙ ap (λ v. raised_to v finals) told ∙ sym goes
+  last_replied finals life None before after reported goes is = tt
+  last_replied finals None (Some y) before after reported goes is = absurd goes
+  last_replied finals (Some x) (Some y) before after reported goes is = is ∙ ap (λ v. raised_to v finals) reported
+      ∙ sym goes
 
   -- by a call
-  pub told_by_call : {S G C : Type 0} (bytes_of : C → List ℕ) (m left : MemberFacts K L D) (call : Call S D K G C)
+  pub replied_by_call : {S G C : Type 0} (bytes_of : C → List ℕ) (m left : MemberFacts K L D) (call : Call S D K G C)
       (r : Reply S D K G C)
-      → IsCall same elect m (asked bytes_of call) (told bytes_of r) left → (before after : ℕ)
+      → IsCall same elect m (asked bytes_of call) (reply_facts bytes_of r) left → (before after : ℕ)
       → IfSome m.life (λ x. before ≡ x.finalized)
       → after ≡ raised_to before (finals_by (taken_by call r ++ votes_in r))
       → IfSome left.life (λ y. after ≡ y.finalized)
-  told_by_call bytes_of m left call r answered before after told_before is =
-      last_told (finals_by (accepted_by (asked bytes_of call) (told bytes_of r) ++ signed_in (told bytes_of r))) m.life
-      left.life before after told_before
-      (call_finalizes m (asked bytes_of call) (told bytes_of r) left answered)
+  replied_by_call bytes_of m left call r answered before after replied_before is =
+      last_replied (finals_by
+      (accepted_by (asked bytes_of call) (reply_facts bytes_of r) ++ signed_in (reply_facts bytes_of r))) m.life
+      left.life before after replied_before
+      (call_finalizes m (asked bytes_of call) (reply_facts bytes_of r) left answered)
       (is ∙ ap (λ events. raised_to before (finals_by events)) (sym (made_shown L bytes_of call r)))
 
 module _ {S D K G C : Type 0} where

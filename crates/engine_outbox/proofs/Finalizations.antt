@@ -16,7 +16,7 @@ use Rattle.engine_votes.specs.declared.votes.Vote.{Vote}
 use Rattle.engine_outbox.specs.SubjectActions.{IsActionOn}
 use Rattle.engine_outbox.specs.Entries.{votes_of_entries}
 use Rattle.engine_outbox.specs.Finalizations.{finals_in, finals_by, RiseByView, EndsAt, WereAccepted, rising_above, raised_to, ReportsRising, ReportsNoMore}
-use Rattle.engine_outbox.specs.Outboxes.{HasBecome, HasStayed, IsPassedIf, IsTold}
+use Rattle.engine_outbox.specs.Outboxes.{HasBecome, HasStayed, IsPassedIf, IsReported}
 use Rattle.engine_outbox.specs.Outputs.{storing}
 
 module _ {S D J K G C : Type 0} where
@@ -130,9 +130,9 @@ module _ {D : Type 0} where
 module _ {S D J K G C : Type 0} where
   -- nothing is reported
   pub tells_none : (old new : Outbox S D J K G C) → finals_in new.queue.items ≡ finals_in old.queue.items
-      → new.told ≡ old.told → ReportsRising [] old new
-  tells_none old new queued told =
-      record { queued = queued ∙ sym (append-nil (finals_in old.queue.items)); told = told }
+      → new.reported ≡ old.reported → ReportsRising [] old new
+  tells_none old new queued reported =
+      record { queued = queued ∙ sym (append-nil (finals_in old.queue.items)); reported = reported }
 
   pub stayed_tells : (old new : Outbox S D J K G C) → HasStayed old new → ReportsRising [] old new
   stayed_tells old new stayed = tells_none old new (ap finals_in stayed.0) stayed.2
@@ -142,7 +142,7 @@ module _ {S D J K G C : Type 0} where
   become_tells more repeat old new none become = record {
     queued = ap finals_in become.queue ∙ finalized_in-append old.queue.items more
         ∙ ap (λ ps. finals_in old.queue.items ++ ps) none;
-    told = become.told_is;
+    reported = become.reported_is;
   }
 
   -- where each was accepted, and those are reported that are accepted besides, each still was
@@ -151,7 +151,7 @@ module _ {S D J K G C : Type 0} where
       → WereAccepted all (finals_in (given ++ old.queue.items))
       → WereAccepted (all ++ more) (finals_in (given ++ new.queue.items))
   accepted_rising given old new all more tells accepted p has =
-      let fresh = rising_above old.told (finals_by more) in
+      let fresh = rising_above old.reported (finals_by more) in
       let split : finals_in (given ++ new.queue.items) ≡ finals_in (given ++ old.queue.items) ++ fresh =
       finalized_in-append given new.queue.items ∙ ap (λ ps. finals_in given ++ ps) tells.queued
       ∙ sym (append_assoc (finals_in given) (finals_in old.queue.items) fresh)
@@ -160,7 +160,7 @@ module _ {S D J K G C : Type 0} where
       (subst (λ ps. Contains ps p) split has)) [
         | inl before ↦ Contains-append_left all more (Accepts (subject.Finalize p)) (accepted p before)
         | inr here ↦ Contains-append_right all more (Accepts (subject.Finalize p))
-            (by_accepting more p (rising_within old.told (finals_by more) p here))
+            (by_accepting more p (rising_within old.reported (finals_by more) p here))
       ]
 
   -- and then others are
@@ -169,33 +169,34 @@ module _ {S D J K G C : Type 0} where
   tells_further xs ys a b c first second = record {
     queued =
         second.queued
-        ∙ ap (λ ps. ps ++ rising_above b.told ys) first.queued
-        ∙ append_assoc (finals_in a.queue.items) (rising_above a.told xs) (rising_above b.told ys)
+        ∙ ap (λ ps. ps ++ rising_above b.reported ys) first.queued
+        ∙ append_assoc (finals_in a.queue.items) (rising_above a.reported xs) (rising_above b.reported ys)
         ∙ ap (λ ps. finals_in a.queue.items ++ ps)
-        (ap (λ v. rising_above a.told xs ++ rising_above v ys) first.told ∙ sym (rising_above-append a.told xs ys));
-    told = second.told ∙ ap (λ v. raised_to v ys) first.told ∙ sym (highest-append a.told xs ys);
+        (ap (λ v. rising_above a.reported xs ++ rising_above v ys) first.reported
+        ∙ sym (rising_above-append a.reported xs ys));
+    reported = second.reported ∙ ap (λ v. raised_to v ys) first.reported ∙ sym (highest-append a.reported xs ys);
   }
 
-  told_where : (p : Proposal D) (old new : Outbox S D J K G C) (t : Bool) → nat_lt old.told p.round.view ≡ t
+  replied_where : (p : Proposal D) (old new : Outbox S D J K G C) (t : Bool) → nat_lt old.reported p.round.view ≡ t
       → IsPassedIf t p old new → ReportsRising (p ∷ []) old new
-  told_where p old new true e is = record {
+  replied_where p old new true e is = record {
     queued =
         ap finals_in is.0 ∙ finalized_in-append old.queue.items (output.Finalized p ∷ [])
         ∙ sym (ap (λ t. finals_in old.queue.items ++ cond t (p ∷ []) []) e);
-    told = is.2 ∙ sym (max_above old.told p.round.view e);
+    reported = is.2 ∙ sym (max_above old.reported p.round.view e);
   }
-  told_where p old new false e is = record {
+  replied_where p old new false e is = record {
     queued =
         ap finals_in is.0 ∙ sym (append-nil (finals_in old.queue.items))
         ∙ sym (ap (λ t. finals_in old.queue.items ++ cond t (p ∷ []) []) e);
-    told = is.2 ∙ sym (max_below old.told p.round.view e);
+    reported = is.2 ∙ sym (max_below old.reported p.round.view e);
   }
 
   -- one is reported, or none
-  pub told_tells : (finalized : Option (Proposal D)) (old new : Outbox S D J K G C) → IsTold finalized old new
+  pub replied_tells : (finalized : Option (Proposal D)) (old new : Outbox S D J K G C) → IsReported finalized old new
       → ReportsRising (option_to_list finalized) old new
-  told_tells None old new is = stayed_tells old new is
-  told_tells (Some p) old new is = told_where p old new (nat_lt old.told p.round.view) refl is
+  replied_tells None old new is = stayed_tells old new is
+  replied_tells (Some p) old new is = replied_where p old new (nat_lt old.reported p.round.view) refl is
 
   -- nothing is returned, and then this is
   pub tells_no_more : (finals : List (Proposal D)) (out : List (Output S D J K G C)) (a b c : Outbox S D J K G C)
@@ -204,14 +205,16 @@ module _ {S D J K G C : Type 0} where
       let nothing : ReportsRising [] a b = subst (λ ps. ReportsRising ps a b) none first in
       record {
         queued = sym (nothing.queued ∙ append-nil (finals_in a.queue.items)) ∙ second.queued;
-        told = second.told ∙ nothing.told;
+        reported = second.reported ∙ nothing.reported;
       }
 
   pub tells_nothing : (finals : List (Proposal D)) (a b : Outbox S D J K G C) → finals ≡ [] → ReportsRising finals a b
       → ReportsNoMore [] a b
-  tells_nothing finals a b none first = tells_no_more finals [] a b b none first (record { queued = refl; told = refl })
+  tells_nothing finals a b none first = tells_no_more finals [] a b b none first
+      (record { queued = refl; reported = refl })
 
   -- after nothing was returned
   pub tells_still : (out : List (Output S D J K G C)) (a b c : Outbox S D J K G C) → ReportsNoMore [] a b
       → ReportsNoMore out b c → ReportsNoMore out a c
-  tells_still out a b c first second = record { queued = first.queued ∙ second.queued; told = second.told ∙ first.told }
+  tells_still out a b c first second = record
+      { queued = first.queued ∙ second.queued; reported = second.reported ∙ first.reported }

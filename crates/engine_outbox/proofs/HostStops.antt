@@ -21,7 +21,7 @@ use Rattle.engine_outbox.specs.declared.output.Output.{Output}
 use Rattle.engine_outbox.specs.declared.output.Output.TheVariants as output
 use Rattle.engine_outbox.specs.Entries.{votes_of_entries}
 use Rattle.engine_outbox.specs.Journals.{journal_of, written, IsRecordOf}
-use Rattle.engine_outbox.specs.Outboxes.{IsTold, IsPassedIf}
+use Rattle.engine_outbox.specs.Outboxes.{IsReported, IsPassedIf}
 use Rattle.engine_outbox.specs.Outputs.{entries_in, stored_in, storing, IsBehind, AreBehind}
 use Rattle.engine_outbox.specs.HostStops.{votes_recorded, WereSigned, IsTorn, MayBeCarriedOut, MayStopAfter, MayStopAfterEach, MayStopAmid, EachStopIsLawful}
 use Rattle.engine_outbox.proofs.Behind.{votes_in-append, stored_in-append, beginning, joined}
@@ -315,24 +315,25 @@ module _ {S L D K G C : Type 0} (same : D → D → Bool) (elect : Elect L) (byt
           (λ others part rest is parted. absurd (cc))
 
     -- a proposal is reported as final, or nothing is
-    told_where : (given : List (Output S D Stored K G C)) (old new : Outbox S D Stored K G C) (p : Proposal D)
+    replied_where : (given : List (Output S D Stored K G C)) (old new : Outbox S D Stored K G C) (p : Proposal D)
         (is_above : Bool) → IsPassedIf is_above p old new
         → MayStopAfterEach same elect bytes_of term_length i earlier all (given ++ old.queue.items)
         → MayStopAfterEach same elect bytes_of term_length i earlier all (given ++ new.queue.items)
-    told_where given old new p true is before =
+    replied_where given old new p true is before =
         subst (MayStopAfterEach same elect bytes_of term_length i earlier all)
         (append_assoc given old.queue.items (output.Finalized p ∷ []) ∙ ap (λ q. given ++ q) (sym is.0))
         (stops_plain (given ++ old.queue.items) (output.Finalized p) refl refl before)
-    told_where given old new p false is before =
+    replied_where given old new p false is before =
         subst (λ q. MayStopAfterEach same elect bytes_of term_length i earlier all (given ++ q)) (sym is.0) before
 
-    pub stops_told : (given : List (Output S D Stored K G C)) (old new : Outbox S D Stored K G C)
-        (finalized : Option (Proposal D)) → IsTold finalized old new
+    pub stops_replied : (given : List (Output S D Stored K G C)) (old new : Outbox S D Stored K G C)
+        (finalized : Option (Proposal D)) → IsReported finalized old new
         → MayStopAfterEach same elect bytes_of term_length i earlier all (given ++ old.queue.items)
         → MayStopAfterEach same elect bytes_of term_length i earlier all (given ++ new.queue.items)
-    stops_told given old new None is before =
+    stops_replied given old new None is before =
         subst (λ q. MayStopAfterEach same elect bytes_of term_length i earlier all (given ++ q)) (sym is.0) before
-    stops_told given old new (Some p) is before = told_where given old new p (nat_lt old.told p.round.view) is before
+    stops_replied given old new (Some p) is before = replied_where given old new p
+        (nat_lt old.reported p.round.view) is before
 
     stops_within : (outs : List (Output S D Stored K G C))
         → MayStopAfterEach same elect bytes_of term_length i earlier all outs

@@ -134,30 +134,30 @@ module _ {K L D : Type 0} (same : D → D → Bool) (elect : Elect L) where
   answer_stands x o _ = refl
 
   -- a refused call
-  pub refused_left : (m left : MemberFacts K L D) (call : CallFacts D) (told : ReplyFacts K D)
-      → IsCall same elect m call told left → is_refused told ≡ true → left ≡ m
+  pub refused_left : (m left : MemberFacts K L D) (call : CallFacts D) (replied : ReplyFacts K D)
+      → IsCall same elect m call replied left → is_refused replied ≡ true → left ≡ m
   unfolding IsCall
-  refused_left m left call told is_call refused = by_life m.life is_call
+  refused_left m left call replied is_call refused = by_life m.life is_call
     where
       by_test : (x : StateFacts K L D) (b : Bool) (due : Option Fault)
-          → told ≡ cond b (unless_refused due (answer same elect x m.outstanding_work call)) NotAllowed
+          → replied ≡ cond b (unless_refused due (answer same elect x m.outstanding_work call)) NotAllowed
           → left ≡ cond b (unless_retained due m (with_call same elect x m call)) m → left ≡ m
       by_test x false due tells leaves = leaves
       by_test x true (Some due) tells leaves = leaves
       by_test x true None tells leaves = absurd
           (false≢true (sym (ap is_refused tells ∙ answer_stands x m.outstanding_work call) ∙ refused))
 
-      by_life : (life : Option (StateFacts K L D)) → AnswersAlive same elect life m call told left → left ≡ m
+      by_life : (life : Option (StateFacts K L D)) → AnswersAlive same elect life m call replied left → left ≡ m
       by_life None (tells, leaves) = leaves
       by_life (Some x) (inl (tells, leaves)) =
           by_test x (is_allowed x m.outstanding_work call) (fault_of x call) tells leaves
       by_life (Some x) (inr (_, tells, _)) = absurd (false≢true (sym (ap is_refused tells) ∙ refused))
 
-  answered_left : (x : StateFacts K L D) (m left : MemberFacts K L D) (call : CallFacts D) (told : ReplyFacts K D)
+  answered_left : (x : StateFacts K L D) (m left : MemberFacts K L D) (call : CallFacts D) (replied : ReplyFacts K D)
       → m.life ≡ Some x → is_allowed x m.outstanding_work call ≡ true
-      → told ≡ answer same elect x m.outstanding_work call → left ≡ with_call same elect x m call
-      → says_nothing told ≡ true → IsLeftByCall call m left
-  answered_left x m left (TriggerTimeout view reason now) told alive allowed tells leaves says =
+      → replied ≡ answer same elect x m.outstanding_work call → left ≡ with_call same elect x m call
+      → says_nothing replied ≡ true → IsLeftByCall call m left
+  answered_left x m left (TriggerTimeout view reason now) replied alive allowed tells leaves says =
       inr (record {
         before = x;
         after = after_trigger_timeout x view reason now;
@@ -167,27 +167,28 @@ module _ {K L D : Type 0} (same : D → D → Bool) (elect : Elect L) where
         same = leaves ∙ ap (λ entries. record m
             { life = Some (after_trigger_timeout x view reason now); entries = entries }) (append-nil m.entries);
       })
-  answered_left x m left (Certified view success now) told alive allowed tells leaves says =
+  answered_left x m left (Certified view success now) replied alive allowed tells leaves says =
       inr (verdict_noted same elect x m view success now left alive allowed
       (none_judged K success (certified_answer x view) (sym (ap says_nothing tells) ∙ says)) leaves)
-  answered_left x m left _ told alive allowed tells leaves says =
+  answered_left x m left _ replied alive allowed tells leaves says =
       absurd (false≢true (sym (ap says_nothing tells) ∙ says))
 
   -- an ignored call
-  pub dropped_left : (m left : MemberFacts K L D) (call : CallFacts D) (told : ReplyFacts K D)
-      → IsCall same elect m call told left → says_nothing told ≡ true → IsLeftByCall call m left
+  pub dropped_left : (m left : MemberFacts K L D) (call : CallFacts D) (replied : ReplyFacts K D)
+      → IsCall same elect m call replied left → says_nothing replied ≡ true → IsLeftByCall call m left
   unfolding IsCall
-  dropped_left m left call told is_call says = by_life m.life refl is_call
+  dropped_left m left call replied is_call says = by_life m.life refl is_call
     where
       by_test : (x : StateFacts K L D) → m.life ≡ Some x → (b : Bool) (due : Option Fault)
           → is_allowed x m.outstanding_work call ≡ b
-          → told ≡ cond b (unless_refused due (answer same elect x m.outstanding_work call)) NotAllowed
+          → replied ≡ cond b (unless_refused due (answer same elect x m.outstanding_work call)) NotAllowed
           → left ≡ cond b (unless_retained due m (with_call same elect x m call)) m → IsLeftByCall call m left
       by_test x alive false due allowed tells leaves = same_left call m left leaves
       by_test x alive true (Some due) allowed tells leaves = same_left call m left leaves
-      by_test x alive true None allowed tells leaves = answered_left x m left call told alive allowed tells leaves says
+      by_test x alive true None allowed tells leaves = answered_left x m left call replied alive allowed tells leaves
+          says
 
-      by_life : (life : Option (StateFacts K L D)) → m.life ≡ life → AnswersAlive same elect life m call told left
+      by_life : (life : Option (StateFacts K L D)) → m.life ≡ life → AnswersAlive same elect life m call replied left
           → IsLeftByCall call m left
       by_life None gone (tells, leaves) = same_left call m left leaves
       by_life (Some x) alive (inl (tells, leaves)) =

@@ -23,7 +23,7 @@ use Rattle.engine_outbox.specs.declared.output.Work.{Work}
 use Rattle.engine_votes.specs.declared.votes.Vote.{Vote}
 use Rattle.engine_outbox.specs.SubjectActions.{IsActionOn}
 use Rattle.engine_outbox.specs.Finalizations.{ReportsRising}
-use Rattle.engine_outbox.specs.Outboxes.{IsLawfulOutbox, HasBecome, HasStayed, IsStored, IsReplaced, IsRepeated, IsPassedIf, IsTold, QueuesMore}
+use Rattle.engine_outbox.specs.Outboxes.{IsLawfulOutbox, HasBecome, HasStayed, IsStored, IsReplaced, IsRepeated, IsPassedIf, IsReported, QueuesMore}
 use Rattle.engine_outbox.specs.Outputs.{entries_in, storing}
 use Rattle.engine_outbox.specs.Journals.{journal_of, IsRecordOf, IsBeginningOf}
 use Rattle.engine_outbox.specs.Signatures.{StaysSigned}
@@ -31,20 +31,20 @@ use Rattle.engine_outbox.specs.Continuity.{IsJournaled, StaysTraced, Continues, 
 use Rattle.engine_outbox.proofs.Finalizations.{stayed_tells, become_tells, storing_tells_none}
 use Rattle.engine_outbox.proofs.Continuity.{does_nothing, risen_not}
 use Rattle.engine_outbox.proofs.Journals.{behind_others, stored_behind, still_begun, stored_too, stored_whole, copied_votes}
-use Rattle.engine_outbox.proofs.EmittedVotes.{leave_plain, leave_stored, leave_replaced, leave_told, was_stored, none_is_new}
+use Rattle.engine_outbox.proofs.EmittedVotes.{leave_plain, leave_stored, leave_replaced, leave_replied, was_stored, none_is_new}
 use Rattle.engine_outbox.specs.EmittedVotes.{AllAreReturned}
 use Rattle.engine_outbox.specs.RecordReach.{ReachesTo}
 use Rattle.engine_outbox.proofs.RecordReach.{reaches_still}
 
 -- the last finalized view is the highest one that was reported
-abbrev pub HasToldLast : {S L D K G C : Type 0} → Journaled S L D K G C → Type 0
-HasToldLast member = IfSome member.member.facts.life (λ x. member.outbox.told ≡ x.finalized)
+abbrev pub HasReportedLast : {S L D K G C : Type 0} → Journaled S L D K G C → Type 0
+HasReportedLast member = IfSome member.member.facts.life (λ x. member.outbox.reported ≡ x.finalized)
 
-pub told_last_still : {S L D K G C : Type 0} (old new : Journaled S L D K G C) → new.member ≡ old.member
-    → new.outbox.told ≡ old.outbox.told → HasToldLast old → HasToldLast new
-told_last_still old new same_member same_told last =
-    subst (λ t. IfSome new.member.facts.life (λ x. t ≡ x.finalized)) (sym same_told)
-    (subst (λ m. IfSome m.facts.life (λ x. old.outbox.told ≡ x.finalized)) (sym same_member) last)
+pub replied_last_still : {S L D K G C : Type 0} (old new : Journaled S L D K G C) → new.member ≡ old.member
+    → new.outbox.reported ≡ old.outbox.reported → HasReportedLast old → HasReportedLast new
+replied_last_still old new same_member same_replied last =
+    subst (λ t. IfSome new.member.facts.life (λ x. t ≡ x.finalized)) (sym same_replied)
+    (subst (λ m. IfSome m.facts.life (λ x. old.outbox.reported ≡ x.finalized)) (sym same_member) last)
 
 module _ {S L D K G C : Type 0} (bytes_of : C → List ℕ) (old new : Journaled S L D K G C) where
   abbrev pub Keeps : Type 0
@@ -68,11 +68,11 @@ module _ {S L D K G C : Type 0} (bytes_of : C → List ℕ) (old new : Journaled
       ∙ behind_others (before given) (output.Finalized p ∷ [])
   journal_where given p false is = ap (λ q. journal_of (given ++ q)) is.0
 
-  journal_told : (given : List (Output S D Stored K G C)) (finalized : Option (Proposal D))
-      → IsTold finalized old.outbox new.outbox
+  journal_replied : (given : List (Output S D Stored K G C)) (finalized : Option (Proposal D))
+      → IsReported finalized old.outbox new.outbox
       → journal_of (given ++ new.outbox.queue.items) ≡ journal_of (before given)
-  journal_told given None is = ap (λ q. journal_of (given ++ q)) is.0
-  journal_told given (Some p) is = journal_where given p (nat_lt old.outbox.told p.round.view) is
+  journal_replied given None is = ap (λ q. journal_of (given ++ q)) is.0
+  journal_replied given (Some p) is = journal_where given p (nat_lt old.outbox.reported p.round.view) is
 
   -- a call, and what it reports as final
   pub called : new.stored ≡ old.stored → new.reach ≡ old.reach → new.failed ≡ old.failed
@@ -80,18 +80,20 @@ module _ {S L D K G C : Type 0} (bytes_of : C → List ℕ) (old new : Journaled
       → (votes : List (SignedVote D G)) → new.member.votes ≡ old.member.votes ++ votes
       → stored_of new.member.facts ≡ stored_of old.member.facts
       → ((given : List (Output S D Stored K G C)) → IsLawfulOutbox given old.outbox → IsLawfulOutbox given new.outbox)
-      → (finalized : Option (Proposal D)) → IsTold finalized old.outbox new.outbox → (HasToldLast old → HasToldLast new)
+      → (finalized : Option (Proposal D)) → IsReported finalized old.outbox new.outbox
+      → (HasReportedLast old → HasReportedLast new)
       → Keeps
   called same_stored same_reach same_failed grown votes voted same lawful finalized tells last given kept = record {
     lawful = lawful given kept.lawful;
     stored = λ lives.
         subst (λ journal. IsBeginningOf bytes_of new.member new.stored journal)
-        (sym (journal_told given finalized tells))
+        (sym (journal_replied given finalized tells))
         (subst (λ n. IsBeginningOf bytes_of new.member n (journal_of (before given))) (sym same_stored)
         (still_begun bytes_of old.member old.stored (journal_of (before given)) (kept.stored (sym same_failed ∙ lives))
         new.member grown.0 votes grown.1 voted same));
-    emitted = λ lives. leave_told given old.outbox new.outbox finalized tells (kept.emitted (sym same_failed ∙ lives));
-    told = last kept.told;
+    emitted = λ lives. leave_replied given old.outbox new.outbox finalized tells
+        (kept.emitted (sym same_failed ∙ lives));
+    reported = last kept.reported;
     reaching = subst (λ count. ReachesTo new.reach count new.member.facts.entries) (sym same_stored)
         (subst (λ reach. ReachesTo reach old.stored new.member.facts.entries) (sym same_reach)
         (reaches_still old.reach old.stored old.member.facts new.member.facts grown kept.reaching));
@@ -109,7 +111,7 @@ module _ {S L D K G C : Type 0} (bytes_of : C → List ℕ) (old new : Journaled
   same_journal : (given : List (Output S D Stored K G C)) → IsJournaled bytes_of given old → new.member ≡ old.member
       → new.stored ≡ old.stored → new.reach ≡ old.reach → new.failed ≡ old.failed
       → journal_of (given ++ new.outbox.queue.items) ≡ journal_of (before given) → IsLawfulOutbox given new.outbox
-      → (AllAreReturned (before given) → AllAreReturned (given ++ new.outbox.queue.items)) → HasToldLast new
+      → (AllAreReturned (before given) → AllAreReturned (given ++ new.outbox.queue.items)) → HasReportedLast new
       → IsJournaled bytes_of given new
   same_journal given kept same_member same_stored same_reach same_failed same lawful emitted last = record {
     lawful = lawful;
@@ -119,7 +121,7 @@ module _ {S L D K G C : Type 0} (bytes_of : C → List ℕ) (old new : Journaled
         (subst (λ member. IsBeginningOf bytes_of member old.stored (journal_of (before given))) (sym same_member)
         (kept.stored (sym same_failed ∙ lives))));
     emitted = λ lives. emitted (kept.emitted (sym same_failed ∙ lives));
-    told = last;
+    reported = last;
     reaching = subst (λ member. ReachesTo new.reach new.stored member.facts.entries) (sym same_member)
         (subst (λ count. ReachesTo new.reach count old.member.facts.entries) (sym same_stored)
         (subst (λ reach. ReachesTo reach old.stored old.member.facts.entries) (sym same_reach) kept.reaching));
@@ -134,7 +136,7 @@ module _ {S L D K G C : Type 0} (bytes_of : C → List ℕ) (old new : Journaled
     kept_as_it_was stayed given kept = same_journal given kept same_member same_stored same_reach same_failed
         (ap (λ q. journal_of (given ++ q)) stayed.0) (lawful given kept.lawful)
         (subst (λ q. AllAreReturned (given ++ q)) (sym stayed.0))
-        (told_last_still old new same_member stayed.2 kept.told)
+        (replied_last_still old new same_member stayed.2 kept.reported)
 
     -- work was
     pub pushed : (work : Work S D K G C) → HasBecome (output.Work work ∷ []) old.outbox.repeat old.outbox new.outbox
@@ -144,7 +146,7 @@ module _ {S L D K G C : Type 0} (bytes_of : C → List ℕ) (old new : Journaled
         (ap journal_of (queued given (output.Work work ∷ []) old.outbox.repeat become)
         ∙ behind_others (before given) (output.Work work ∷ []))
         (lawful given kept.lawful) (leaves_with given (output.Work work) become refl)
-        (told_last_still old new same_member become.told_is kept.told)
+        (replied_last_still old new same_member become.reported_is kept.reported)
 
     voted : (vote : Vote D G) → HasBecome (output.Vote vote ∷ []) old.outbox.repeat old.outbox new.outbox → Keeps
     voted vote become given kept =
@@ -152,7 +154,7 @@ module _ {S L D K G C : Type 0} (bytes_of : C → List ℕ) (old new : Journaled
         (ap journal_of (queued given (output.Vote vote ∷ []) old.outbox.repeat become)
         ∙ behind_others (before given) (output.Vote vote ∷ []))
         (lawful given kept.lawful) (leaves_with given (output.Vote vote) become refl)
-        (told_last_still old new same_member become.told_is kept.told)
+        (replied_last_still old new same_member become.reported_is kept.reported)
 
     repeated_by : (view : ℕ) (repeat : Option (Vote D G)) (sent : Bool)
         → IsRepeated view repeat sent old.outbox new.outbox → Keeps
@@ -216,7 +218,7 @@ module _ {S L D K G C : Type 0} (bytes_of : C → List ℕ) (old new : Journaled
             (is.1.0 ∙ fresh_entries) (copied_votes bytes_of fresh is.0.items is.1 ∙ fresh_votes))));
         emitted = λ lives. subst AllAreReturned (sym (queued given (storing is.0) _ is.2))
             (leave_stored (before given) is.0 (kept.emitted (sym same_failed ∙ lives)));
-        told = told_last_still old new same_member is.2.told_is kept.told;
+        reported = replied_last_still old new same_member is.2.reported_is kept.reported;
         reaching = subst (λ member. ReachesTo new.reach new.stored member.facts.entries) (sym same_member)
             (reaches kept.reaching);
       }
@@ -227,7 +229,8 @@ module _ {S L D K G C : Type 0} (bytes_of : C → List ℕ) (old new : Journaled
       → (all : List (Artifact S D K G C)) → new.stored ≡ length all → entries_of bytes_of all ≡ new.member.facts.entries
       → votes_of all ≡ new.member.votes
       → IsReplaced bytes_of all (stored_of new.member.facts) old.outbox new.outbox
-      → (new.failed ≡ false → AllAreReturned (given ++ new.outbox.queue.items)) → (HasToldLast old → HasToldLast new)
+      → (new.failed ≡ false → AllAreReturned (given ++ new.outbox.queue.items))
+      → (HasReportedLast old → HasReportedLast new)
       → ReachesTo new.reach new.stored new.member.facts.entries → IsJournaled bytes_of given old
       → IsJournaled bytes_of given new
   replaced given lawful all counted all_entries all_votes is emitted last reaches kept = record {
@@ -240,7 +243,7 @@ module _ {S L D K G C : Type 0} (bytes_of : C → List ℕ) (old new : Journaled
         (record { entries = is.0.items; beside = Some (stored_of new.member.facts) })) (sym counted)
         (stored_whole bytes_of new.member all is.0.items all_entries all_votes is.1));
     emitted = emitted;
-    told = last kept.told;
+    reported = last kept.reported;
     reaching = reaches;
   }
 
@@ -266,13 +269,13 @@ module _ {S L D K G C : Type 0} (bytes_of : C → List ℕ) (old new : Journaled
   pub ended : new.failed ≡ true → (ReachesTo old.reach old.stored old.member.facts.entries
       → ReachesTo new.reach new.stored new.member.facts.entries)
       → ((given : List (Output S D Stored K G C)) → IsLawfulOutbox given old.outbox → IsLawfulOutbox given new.outbox)
-      → (HasToldLast old → HasToldLast new) → Keeps
+      → (HasReportedLast old → HasReportedLast new) → Keeps
   ended failed reaches lawful last given kept =
       record {
         lawful = lawful given kept.lawful;
         stored = λ lives. cc;
         emitted = λ lives. cc;
-        told = last kept.told;
+        reported = last kept.reported;
         reaching = reaches kept.reaching;
       }
 
@@ -291,7 +294,7 @@ does_no_more {same = same} {elect = elect} {taken = taken} old new same_member k
           (does_nothing old.member.facts);
       traced = traces;
       signed = signs;
-      told = tells;
+      reported = tells;
       queued = queues;
       risen = subst (λ m. WhileAlive HasRisen old.member.facts.life m.facts.life) (sym same_member)
           (risen_not old.member.facts);

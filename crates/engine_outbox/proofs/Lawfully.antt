@@ -12,7 +12,7 @@ use Rattle.engine_votes.specs.declared.votes.Vote.{Vote}
 use Rattle.engine_outbox.specs.Entries.{votes_of_entries, newest_from}
 use Rattle.engine_outbox.specs.Finalizations.{finals_in, RiseByView, EndsAt}
 use Rattle.engine_outbox.specs.Outputs.{stored_in, storing, AreBehind}
-use Rattle.engine_outbox.specs.Outboxes.{IsLawfulOutbox, HasBecome, HasStayed, IsStored, IsReplaced, IsRepeated, IsPassedIf, IsTold}
+use Rattle.engine_outbox.specs.Outboxes.{IsLawfulOutbox, HasBecome, HasStayed, IsStored, IsReplaced, IsRepeated, IsPassedIf, IsReported}
 use Rattle.engine_outbox.proofs.Behind.{votes_in-append, newest_recorded, stored_in-append, joined, storing_behind, stored_by}
 use Rattle.engine_votes.proofs.Contains.{contains_left}
 use Rattle.engine_outbox.proofs.Finalizations.{finalized_in-append, storing_tells_none, rising_further, ends_with}
@@ -57,8 +57,8 @@ module _ {S D J K G C : Type 0} (given : List (Output S D J K G C)) (old new : O
         repeat = subst (λ outs. MayRepeat outs new.repeat) (sym same)
             (subst (MayRepeat (before ++ more)) (sym become.repeat_is) may);
         rising = subst RiseByView (sym finals) lawful.rising;
-        told = subst (λ ps. EndsAt new.told ps) (sym finals)
-            (subst (λ v. EndsAt v (finals_in before)) (sym become.told_is) lawful.told);
+        reported = subst (λ ps. EndsAt new.reported ps) (sym finals)
+            (subst (λ v. EndsAt v (finals_in before)) (sym become.reported_is) lawful.reported);
       }
 
   wider : (more : List (Output S D J K G C)) (repeat : Option (Vote D G)) → MayRepeat before repeat
@@ -80,9 +80,9 @@ module _ {S D J K G C : Type 0} (given : List (Output S D J K G C)) (old new : O
     repeat = subst (λ q. MayRepeat (given ++ q) new.repeat) (sym stayed.0)
         (subst (MayRepeat before) (sym stayed.1) lawful.repeat);
     rising = subst (λ q. RiseByView (finals_in (given ++ q))) (sym stayed.0) lawful.rising;
-    told =
-        subst (λ q. EndsAt new.told (finals_in (given ++ q))) (sym stayed.0)
-        (subst (λ v. EndsAt v (finals_in before)) (sym stayed.2) lawful.told);
+    reported =
+        subst (λ q. EndsAt new.reported (finals_in (given ++ q))) (sym stayed.0)
+        (subst (λ v. EndsAt v (finals_in before)) (sym stayed.2) lawful.reported);
   }
 
   pub stored_lawful : (bytes_of : C → List ℕ) (fresh : List (Artifact S D K G C)) → IsStored bytes_of fresh old new
@@ -113,39 +113,39 @@ module _ {S D J K G C : Type 0} (given : List (Output S D J K G C)) (old new : O
   pushed_lawful work become = more_lawful (output.Work work ∷ []) old.repeat become (tt, tt)
       (wider (output.Work work ∷ []) old.repeat lawful.repeat) refl
 
-  told_where : (p : Proposal D) (t : Bool) → nat_lt old.told p.round.view ≡ t → IsPassedIf t p old new
+  replied_where : (p : Proposal D) (t : Bool) → nat_lt old.reported p.round.view ≡ t → IsPassedIf t p old new
       → IsLawfulOutbox given new
-  told_where p false e is = stayed_lawful is
-  told_where p true e is =
+  replied_where p false e is = stayed_lawful is
+  replied_where p true e is =
       let tells = output.Finalized p ∷ [] in
       let same = seam tells is.0 in
       let finals : finals_in (given ++ new.queue.items) ≡ finals_in before ++ p ∷ [] = ap finals_in same
       ∙ finalized_in-append before tells in
-      let above : old.told < p.round.view = grind (arith, nat_tests, e) in
+      let above : old.reported < p.round.view = grind (arith, nat_tests, e) in
       record {
         behind = subst (AreBehind []) (sym same) (joined [] before tells lawful.behind (tt, tt));
         repeat = subst (λ outs. MayRepeat outs new.repeat) (sym same)
             (subst (MayRepeat (before ++ tells)) (sym is.1) (wider tells old.repeat lawful.repeat));
         rising = subst RiseByView (sym finals)
-            (rising_further old.told (finals_in before) p lawful.rising lawful.told above);
-        told = subst (λ ps. EndsAt new.told ps) (sym finals)
+            (rising_further old.reported (finals_in before) p lawful.rising lawful.reported above);
+        reported = subst (λ ps. EndsAt new.reported ps) (sym finals)
             (subst (λ v. EndsAt v (finals_in before ++ p ∷ [])) (sym is.2) (ends_with (finals_in before) p));
       }
 
-  pub told_lawful : (finalized : Option (Proposal D)) → IsTold finalized old new → IsLawfulOutbox given new
-  told_lawful None is = stayed_lawful is
-  told_lawful (Some p) is = told_where p (nat_lt old.told p.round.view) refl is
+  pub replied_lawful : (finalized : Option (Proposal D)) → IsReported finalized old new → IsLawfulOutbox given new
+  replied_lawful None is = stayed_lawful is
+  replied_lawful (Some p) is = replied_where p (nat_lt old.reported p.round.view) refl is
 
   -- what is returned
   pub given_lawful : (out : Option (Output S D J K G C)) → old.queue.items ≡ option_to_list out ++ new.queue.items
-      → new.repeat ≡ old.repeat → new.told ≡ old.told → IsLawfulOutbox (given ++ option_to_list out) new
-  given_lawful out front same same_told =
+      → new.repeat ≡ old.repeat → new.reported ≡ old.reported → IsLawfulOutbox (given ++ option_to_list out) new
+  given_lawful out front same same_replied =
       let outs : before ≡ (given ++ option_to_list out) ++ new.queue.items = ap (λ q. given ++ q) front
       ∙ sym (append_assoc given (option_to_list out) new.queue.items) in
       record {
         behind = subst (AreBehind []) outs lawful.behind;
         repeat = subst (λ all. MayRepeat all new.repeat) outs (subst (MayRepeat before) (sym same) lawful.repeat);
         rising = subst (λ all. RiseByView (finals_in all)) outs lawful.rising;
-        told = subst (λ all. EndsAt new.told (finals_in all)) outs
-            (subst (λ v. EndsAt v (finals_in before)) (sym same_told) lawful.told);
+        reported = subst (λ all. EndsAt new.reported (finals_in all)) outs
+            (subst (λ v. EndsAt v (finals_in before)) (sym same_replied) lawful.reported);
       }

@@ -5,7 +5,7 @@ use Rattle.engine_outbox.specs.declared.outbox.Outbox.{Outbox}
 use Rattle.engine_outbox.specs.declared.output.Output.{Output}
 use Rattle.engine_outbox.specs.declared.output.Output.TheVariants as output
 use Rattle.engine_votes.specs.declared.votes.Vote.{Vote}
-use Rattle.engine_outbox.specs.Outboxes.{HasBecome, HasStayed, IsRepeated, IsPassedIf, IsTold, QueuesMore}
+use Rattle.engine_outbox.specs.Outboxes.{HasBecome, HasStayed, IsRepeated, IsPassedIf, IsReported, QueuesMore}
 
 module _ {S D J K G C : Type 0} where
   pub queues_none : (a : Outbox S D J K G C) → QueuesMore a a
@@ -32,10 +32,10 @@ module _ {S D J K G C : Type 0} where
   repeated_more view (Some vote) old new false is = stayed_more old new is.1
   repeated_more view None old new sent is = stayed_more old new is.1
 
-  pub told_more : (finalized : Option (Proposal D)) (old new : Outbox S D J K G C) → IsTold finalized old new
+  pub replied_more : (finalized : Option (Proposal D)) (old new : Outbox S D J K G C) → IsReported finalized old new
       → QueuesMore old new
-  told_more None old new is = stayed_more old new is
-  told_more (Some proposal) old new is = by_view (nat_lt old.told proposal.round.view) is
+  replied_more None old new is = stayed_more old new is
+  replied_more (Some proposal) old new is = by_view (nat_lt old.reported proposal.round.view) is
     where
       by_view : (b : Bool) → IsPassedIf b proposal old new → QueuesMore old new
       by_view true is = record { more = output.Finalized proposal ∷ []; queue_is = is.0 }

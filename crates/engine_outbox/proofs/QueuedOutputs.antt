@@ -8,7 +8,7 @@ use Rattle.engine_outbox.specs.declared.outbox.Outbox.{Outbox}
 use Rattle.engine_outbox.specs.declared.output.Output.{Output}
 use Rattle.engine_outbox.specs.declared.output.Output.TheVariants as output
 use Rattle.engine_outbox.specs.Entries.{votes_of_entries}
-use Rattle.engine_outbox.specs.Outboxes.{HasStayed, IsRepeated, IsReplaced, IsStored, IsTold, IsPassedIf, QueuesNoWork}
+use Rattle.engine_outbox.specs.Outboxes.{HasStayed, IsRepeated, IsReplaced, IsStored, IsReported, IsPassedIf, QueuesNoWork}
 use Rattle.engine_outbox.specs.Outputs.{storing, work_in}
 
 module _ (S J K C : Type 0) {D G : Type 0} where
@@ -45,10 +45,10 @@ module _ {S D J K G C : Type 0} where
   replaced_no_work bytes_of all beside old new is =
       queued_no_work (output.Replace is.0 beside ∷ []) old new refl is.2.queue
 
-  pub told_no_work : (finalized : Option (Proposal D)) (old new : Outbox S D J K G C) → IsTold finalized old new
+  pub replied_no_work : (finalized : Option (Proposal D)) (old new : Outbox S D J K G C) → IsReported finalized old new
       → QueuesNoWork old new
-  told_no_work None old new is = stayed_no_work old new is
-  told_no_work (Some proposal) old new is = by_view (nat_lt old.told proposal.round.view) is
+  replied_no_work None old new is = stayed_no_work old new is
+  replied_no_work (Some proposal) old new is = by_view (nat_lt old.reported proposal.round.view) is
     where
       by_view : (b : Bool) → IsPassedIf b proposal old new → QueuesNoWork old new
       by_view true is = queued_no_work (output.Finalized proposal ∷ []) old new refl is.0

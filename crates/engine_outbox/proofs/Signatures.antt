@@ -8,7 +8,7 @@ use Rattle.simplex_types.specs.declared.types.messages.Proposal.{Proposal}
 use Rattle.simplex_types.specs.declared.types.messages.Subject.{Subject}
 use Rattle.simplex_voter.specs.Facts.{StateFacts, Elect}
 use Rattle.simplex_record.specs.Votes.{SignedVote, votes_of}
-use Rattle.simplex_member.specs.Calls.{CallFacts, ConstructNullify, ConstructFinalize, ConstructNotarize, ReplyFacts, Refused, told}
+use Rattle.simplex_member.specs.Calls.{CallFacts, ConstructNullify, ConstructFinalize, ConstructNotarize, ReplyFacts, Refused, reply_facts}
 use Rattle.simplex_member.specs.Journal.{votes_since}
 use Rattle.simplex_member.specs.MemberFacts.{MemberFacts, IsCall, AnswersAlive}
 use Rattle.simplex_member.specs.ReplySignatures.{IsSignedReply, signed_reply}
@@ -27,7 +27,7 @@ use Rattle.engine_outbox.specs.declared.journaled.Journaled.{Journaled}
 use Rattle.engine_outbox.specs.declared.output.Output.{Output}
 use Rattle.engine_outbox.specs.declared.output.Output.TheVariants as output
 use Rattle.engine_outbox.specs.Entries.{votes_of_entries}
-use Rattle.engine_outbox.specs.Outboxes.{HasStayed, IsRepeated, IsReplaced, IsStored, IsTold, IsPassedIf}
+use Rattle.engine_outbox.specs.Outboxes.{HasStayed, IsRepeated, IsReplaced, IsStored, IsReported, IsPassedIf}
 use Rattle.engine_outbox.specs.Outputs.{stored_in, storing}
 use Rattle.engine_outbox.specs.Signatures.{SignsBy, AreSigned, StaysSigned}
 use Rattle.engine_outbox.specs.HostStops.{votes_recorded}
@@ -64,7 +64,7 @@ module _ {K D G : Type 0} (is_signature : K → Subject D → G → Type 0) (i :
   -- a vote that is returned
   pub answer_signed : {S L C : Type 0} (bytes_of : C → List ℕ) (r : Reply S D K G C) (x : StateFacts K L D)
       → ((signer : ℕ) → x.me ≡ Some signer → (signer ≡ i) × (slice_get x.members signer ≡ Some key))
-      → ((m : ℕ) (v : Subject D) → Contains (signed_in (told bytes_of r)) (Signs m v) → x.me ≡ Some m)
+      → ((m : ℕ) (v : Subject D) → Contains (signed_in (reply_facts bytes_of r)) (Signs m v) → x.me ≡ Some m)
       → IsSignedReply is_signature r x → AreSigned is_signature i key (votes_recorded (signed_reply r))
   answer_signed bytes_of (reply.Notarize None) x signs named is = no_signed
   answer_signed bytes_of (reply.Notarize (Some vote)) x signs named is =
@@ -82,7 +82,8 @@ module _ {K D G : Type 0} (is_signature : K → Subject D → G → Type 0) (i :
   answer_signed bytes_of _ x signs named is = no_signed
 
   -- a member that has failed answers none
-  pub none_answered : {S C : Type 0} (bytes_of : C → List ℕ) (r : Reply S D K G C) (f : _) → told bytes_of r ≡ Refused f
+  pub none_answered : {S C : Type 0} (bytes_of : C → List ℕ) (r : Reply S D K G C) (f : _)
+      → reply_facts bytes_of r ≡ Refused f
       → AreSigned is_signature i key (votes_recorded (signed_reply r))
   none_answered bytes_of (reply.Notarize vote) f is = absurd (cc)
   none_answered bytes_of (reply.Nullify vote) f is = absurd (cc)
@@ -113,9 +114,9 @@ record SameKey {K L D : Type 0} (x y : StateFacts K L D) : Type 0 where
   members : y.members ≡ x.members
 
 module _ {K L D : Type 0} (same : D → D → Bool) (elect : Elect L) where
-  key_stays : (m : MemberFacts K L D) (call : CallFacts D) (told : ReplyFacts K D) (left : MemberFacts K L D)
-      → IsCall same elect m call told left → WhileAlive SameKey m.life left.life
-  key_stays = each_call same elect (λ call told. SameKey) (λ call fault x. record { me = refl; members = refl })
+  key_stays : (m : MemberFacts K L D) (call : CallFacts D) (replied : ReplyFacts K D) (left : MemberFacts K L D)
+      → IsCall same elect m call replied left → WhileAlive SameKey m.life left.life
+  key_stays = each_call same elect (λ call replied. SameKey) (λ call fault x. record { me = refl; members = refl })
       (λ call x. record { me = refl; members = refl })
       (λ call x o allowed. let goes = call_goes same elect x o call in record { me = goes.me; members = goes.members })
 
@@ -128,27 +129,29 @@ module _ {K L D : Type 0} (same : D → D → Bool) (elect : Elect L) where
       let was = signs signer (sym stays.me ∙ me) in
       (was.0, ap (λ (ks : List K). slice_get ks signer) stays.members ∙ was.1)
 
-  pub call_signs : (i : ℕ) (key : K) (m : MemberFacts K L D) (call : CallFacts D) (told : ReplyFacts K D)
-      (left : MemberFacts K L D) → IsCall same elect m call told left → SignsBy i key m → SignsBy i key left
-  call_signs i key m call told left is = signs_still i key m.life left.life (key_stays m call told left is)
+  pub call_signs : (i : ℕ) (key : K) (m : MemberFacts K L D) (call : CallFacts D) (replied : ReplyFacts K D)
+      (left : MemberFacts K L D) → IsCall same elect m call replied left → SignsBy i key m → SignsBy i key left
+  call_signs i key m call replied left is = signs_still i key m.life left.life (key_stays m call replied left is)
 
   -- the vote of an answer
   pub call_signed : {S G C : Type 0} (is_signature : K → Subject D → G → Type 0) (i : ℕ) (key : K)
       (bytes_of : C → List ℕ) (m left : MemberFacts K L D) (call : CallFacts D) (r : Reply S D K G C)
-      → IsCall same elect m call (told bytes_of r) left → ExactAt same elect m.life (Calls call) (told bytes_of r)
+      → IsCall same elect m call (reply_facts bytes_of r) left
+      → ExactAt same elect m.life (Calls call) (reply_facts bytes_of r)
       → IfSome m.life (IsSignedReply is_signature r) → SignsBy i key m
       → AreSigned is_signature i key (votes_recorded (signed_reply r))
   unfolding IsCall
   call_signed is_signature i key bytes_of m left call r is exact good signs = by_life m.life is exact good signs
     where
-      by_life : (life : Option (StateFacts K L D)) → AnswersAlive same elect life m call (told bytes_of r) left
-          → ExactAt same elect life (Calls call) (told bytes_of r) → IfSome life (IsSignedReply is_signature r)
+      by_life : (life : Option (StateFacts K L D)) → AnswersAlive same elect life m call (reply_facts bytes_of r) left
+          → ExactAt same elect life (Calls call) (reply_facts bytes_of r) → IfSome life (IsSignedReply is_signature r)
           → IfSome life (λ x. (signer : ℕ) → x.me ≡ Some signer
           → (signer ≡ i) × (slice_get x.members signer ≡ Some key))
           → AreSigned is_signature i key (votes_recorded (signed_reply r))
       by_life None answered exact good signs = none_answered is_signature i key bytes_of r _ answered.0
       by_life (Some x) answered exact good signs =
-          answer_signed is_signature i key bytes_of r x signs (exact_signer same elect x call (told bytes_of r) exact)
+          answer_signed is_signature i key bytes_of r x signs
+          (exact_signer same elect x call (reply_facts bytes_of r) exact)
           good
 
 module _ {S L D K G C : Type 0} (is_signature : K → Subject D → G → Type 0) (old new : Journaled S L D K G C) where
@@ -189,15 +192,15 @@ module _ {S L D K G C : Type 0} (is_signature : K → Subject D → G → Type 0
     pub signed_stayed : HasStayed old.outbox new.outbox → StaysSigned is_signature old new
     signed_stayed stayed = signed_plain [] refl (stayed.0 ∙ sym (append-nil old.outbox.queue.items)) signs recorded
 
-    told_where : (p : Proposal D) (is_above : Bool) → IsPassedIf is_above p old.outbox new.outbox
+    replied_where : (p : Proposal D) (is_above : Bool) → IsPassedIf is_above p old.outbox new.outbox
         → StaysSigned is_signature old new
-    told_where p true is = signed_plain (output.Finalized p ∷ []) refl is.0 signs recorded
-    told_where p false is = signed_stayed is
+    replied_where p true is = signed_plain (output.Finalized p ∷ []) refl is.0 signs recorded
+    replied_where p false is = signed_stayed is
 
-    pub signed_told : (finalized : Option (Proposal D)) → IsTold finalized old.outbox new.outbox
+    pub signed_replied : (finalized : Option (Proposal D)) → IsReported finalized old.outbox new.outbox
         → StaysSigned is_signature old new
-    signed_told None is = signed_stayed is
-    signed_told (Some p) is = told_where p (nat_lt old.outbox.told p.round.view) is
+    signed_replied None is = signed_stayed is
+    signed_replied (Some p) is = replied_where p (nat_lt old.outbox.reported p.round.view) is
 
   module _ (same_member : new.member ≡ old.member) where
     signs_so : (i : ℕ) (key : K) → SignsBy i key old.member.facts → SignsBy i key new.member.facts
@@ -260,8 +263,9 @@ module _ {S L D K G C : Type 0} (is_signature : K → Subject D → G → Type 0
   pub called_signed : (votes : List (SignedVote D G)) → new.member.votes ≡ old.member.votes ++ votes
       → ((i : ℕ) (key : K) → SignsBy i key old.member.facts → SignsBy i key new.member.facts)
       → ((i : ℕ) (key : K) → SignsBy i key old.member.facts → AreSigned is_signature i key (votes_recorded votes))
-      → (finalized : Option (Proposal D)) → IsTold finalized old.outbox new.outbox → StaysSigned is_signature old new
-  called_signed votes voted signs good finalized tells = signed_told signs
+      → (finalized : Option (Proposal D)) → IsReported finalized old.outbox new.outbox
+      → StaysSigned is_signature old new
+  called_signed votes voted signs good finalized tells = signed_replied signs
       (λ i key by recorded. subst (AreSigned is_signature i key)
       (sym (ap votes_recorded voted ∙ recorded_more old.member.votes votes))
       (both_signed is_signature i key (votes_recorded old.member.votes) (votes_recorded votes) recorded

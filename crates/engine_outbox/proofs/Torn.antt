@@ -30,7 +30,7 @@ use Rattle.engine_outbox.specs.declared.output.Output.{Output}
 use Rattle.engine_outbox.specs.declared.output.Output.TheVariants as output
 use Rattle.engine_outbox.specs.Entries.{votes_of_entries}
 use Rattle.engine_outbox.specs.Journals.{Journal, journal_of, IsRecordOf, IsBeginningOf}
-use Rattle.engine_outbox.specs.Outboxes.{IsTold, IsPassedIf}
+use Rattle.engine_outbox.specs.Outboxes.{IsReported, IsPassedIf}
 use Rattle.engine_outbox.specs.Outputs.{stored_in}
 use Rattle.engine_outbox.specs.HostStops.{vote_as, votes_recorded, WereSigned, MayStopAfter, MayStopAmid}
 use Rattle.engine_outbox.proofs.Behind.{stored_in-append}
@@ -72,10 +72,10 @@ module _ {K L D : Type 0} (same : D → D → Bool) (elect : Elect L) where
   grows_not : (m left : MemberFacts K L D) → left.entries ≡ m.entries → GrowsByOne m left
   grows_not m left is = ([], is ∙ sym (append-nil m.entries), omega arith)
 
-  pub call_grows : (m left : MemberFacts K L D) (call : CallFacts D) (told : ReplyFacts K D)
-      → IsCall same elect m call told left → GrowsByOne m left
+  pub call_grows : (m left : MemberFacts K L D) (call : CallFacts D) (replied : ReplyFacts K D)
+      → IsCall same elect m call replied left → GrowsByOne m left
   unfolding IsCall
-  call_grows m left call told is_call = by_life m.life is_call
+  call_grows m left call replied is_call = by_life m.life is_call
     where
       entries_now : (n : MemberFacts K L D) → left ≡ n → left.entries ≡ n.entries
       entries_now n is = ap (λ (k : MemberFacts K L D). k.entries) is
@@ -87,7 +87,8 @@ module _ {K L D : Type 0} (same : D → D → Bool) (elect : Elect L) where
       by_test x true None leaves =
           (recorded_by same elect x call, entries_now (with_call same elect x m call) leaves, recorded_few x call)
 
-      by_life : (life : Option (StateFacts K L D)) → AnswersAlive same elect life m call told left → GrowsByOne m left
+      by_life : (life : Option (StateFacts K L D)) → AnswersAlive same elect life m call replied left
+          → GrowsByOne m left
       by_life None (tells, leaves) = grows_not m left (entries_now m leaves)
       by_life (Some x) (inl (tells, leaves)) = by_test x (is_allowed x m.outstanding_work call) (fault_of x call) leaves
       by_life (Some x) (inr (allowed, tells, inl (room, leaves))) = grows_not m left (entries_now m leaves)
@@ -164,8 +165,8 @@ module _ {S D J K G C : Type 0} (given : List (Output S D J K G C)) (old new : O
   pub same_queue : new.queue.items ≡ old.queue.items → WritesAlike
   same_queue is = (ap (λ q. journal_of (given ++ q)) (sym is), ap (λ q. stored_in (given ++ q)) (sym is))
 
-  told_where : (p : Proposal D) (is_above : Bool) → IsPassedIf is_above p old new → WritesAlike
-  told_where p true is =
+  replied_where : (p : Proposal D) (is_above : Bool) → IsPassedIf is_above p old new → WritesAlike
+  replied_where p true is =
       let more : List (Output S D J K G C) = output.Finalized p ∷ [] in
       let queued : given ++ new.queue.items ≡ (given ++ old.queue.items) ++ more = ap (λ q. given ++ q) is.0
       ∙ sym (append_assoc given old.queue.items more) in (
@@ -173,11 +174,11 @@ module _ {S D J K G C : Type 0} (given : List (Output S D J K G C)) (old new : O
         sym (ap stored_in queued ∙ stored_in-append (given ++ old.queue.items) more
             ∙ append-nil (stored_in (given ++ old.queue.items))),
       )
-  told_where p false is = same_queue is.0
+  replied_where p false is = same_queue is.0
 
-  pub told_alike : (finalized : Option (Proposal D)) → IsTold finalized old new → WritesAlike
-  told_alike None is = same_queue is.0
-  told_alike (Some p) is = told_where p (nat_lt old.told p.round.view) is
+  pub replied_alike : (finalized : Option (Proposal D)) → IsReported finalized old new → WritesAlike
+  replied_alike None is = same_queue is.0
+  replied_alike (Some p) is = replied_where p (nat_lt old.reported p.round.view) is
 
 -- ---- amid what the record has grown by
 

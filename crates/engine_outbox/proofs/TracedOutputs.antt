@@ -27,7 +27,7 @@ use Rattle.engine_outbox.specs.declared.output.Work.{Work}
 use Rattle.engine_outbox.specs.Finalizations.{finals_in, finals_by, WereAccepted, ReportsRising}
 use Rattle.engine_outbox.specs.Continuity.{IsTraced, StaysTraced}
 use Rattle.engine_outbox.specs.Journals.{Journal, journal_of, written, IsRecordOf}
-use Rattle.engine_outbox.specs.Outboxes.{HasBecome, HasStayed, IsStored, IsReplaced, IsRepeated, IsTold}
+use Rattle.engine_outbox.specs.Outboxes.{HasBecome, HasStayed, IsStored, IsReplaced, IsRepeated, IsReported}
 use Rattle.engine_outbox.specs.Outputs.{entries_in, stored_in, storing}
 use Rattle.engine_outbox.specs.HostStops.{votes_recorded, WereSigned, MayStopAfterEach, MayStopAmid}
 use Rattle.engine_outbox.proofs.Behind.{stored_in-append}
@@ -35,8 +35,8 @@ use Rattle.engine_outbox.proofs.Finalizations.{accepted_rising, become_tells, st
 use Rattle.engine_outbox.proofs.Journals.{behind_others, copied_votes, stored_too, is_record}
 use Rattle.engine_outbox.proofs.Kept.{Keeps, counted}
 use Rattle.engine_outbox.proofs.EmittedVotes.{all_signed}
-use Rattle.engine_outbox.proofs.HostStops.{signed_still, signed_both, signed_left, recorded_more, stop_last, stops_still, stops_plain, stops_stored, stops_replaced, stops_told}
-use Rattle.engine_outbox.proofs.Torn.{GrowsByOne, WritesAlike, among_last, amid_alike, amid_called, amid_none, amid_store, same_queue, told_alike}
+use Rattle.engine_outbox.proofs.HostStops.{signed_still, signed_both, signed_left, recorded_more, stop_last, stops_still, stops_plain, stops_stored, stops_replaced, stops_replied}
+use Rattle.engine_outbox.proofs.Torn.{GrowsByOne, WritesAlike, among_last, amid_alike, amid_called, amid_none, amid_store, same_queue, replied_alike}
 
 module _ {D G : Type 0} where
   -- the one vote of an answer was signed by it
@@ -85,7 +85,7 @@ module _ {S L D K G C : Type 0} (same : D → D → Bool) (elect : Elect L) (byt
       → GrowsByOne old.member.facts new.member.facts → stored_of new.member.facts ≡ stored_of old.member.facts
       → (votes : List (SignedVote D G)) → new.member.votes ≡ old.member.votes ++ votes
       → WereSigned more (votes_recorded votes)
-      → (finalized : Option (Proposal D)) → IsTold finalized old.outbox new.outbox
+      → (finalized : Option (Proposal D)) → IsReported finalized old.outbox new.outbox
       → ReportsRising (finals_by more) old.outbox new.outbox → StaysTraced same elect bytes_of more old new
   traced_call more same_failed same_stored keeps done olds olds_entries olds_votes grown beside votes voted signed
       finalized tells rising term_length i earlier given all is =
@@ -98,13 +98,14 @@ module _ {S L D K G C : Type 0} (same : D → D → Bool) (elect : Elect L) (byt
       let still : old.failed ≡ false → MayStopAfterEach same elect bytes_of term_length i earlier (all ++ more) before =
       λ lived.
       stops_still same elect bytes_of term_length i earlier all more before (is.stops lived) in
-      let alike = told_alike given old.outbox new.outbox finalized tells in
+      let alike = replied_alike given old.outbox new.outbox finalized tells in
       record {
         kept = keeps given is.kept;
         done = done term_length i all is.done;
         signed = now_signed;
         finals = accepted_rising given old.outbox new.outbox all more rising is.finals;
-        stops = λ lives. stops_told same elect bytes_of term_length i earlier (all ++ more) given old.outbox new.outbox
+        stops = λ lives. stops_replied same elect bytes_of term_length i earlier
+            (all ++ more) given old.outbox new.outbox
             finalized tells (still (sym same_failed ∙ lives));
         amid = λ lives.
             let lived = sym same_failed ∙ lives in
@@ -221,8 +222,8 @@ module _ {S L D K G C : Type 0} (same : D → D → Bool) (elect : Elect L) (byt
       pub traced_plain : (out : Output S D Stored K G C) (repeat : Option (Vote D G)) → entries_in out ≡ []
           → finals_in (out ∷ []) ≡ [] → ((journal : Journal S D Stored K G C) → written journal out ≡ journal)
           → HasBecome (out ∷ []) repeat old.outbox new.outbox → Traces
-      traced_plain out repeat none untold unwritten become =
-          with_queue (become_tells (out ∷ []) repeat old.outbox new.outbox untold become)
+      traced_plain out repeat none unreplied unwritten become =
+          with_queue (become_tells (out ∷ []) repeat old.outbox new.outbox unreplied become)
           (λ term_length i earlier given all is lives.
           let before = given ++ old.outbox.queue.items in
           subst (MayStopAfterEach same elect bytes_of term_length i earlier all) (queued given (out ∷ []) repeat become)

@@ -46,7 +46,7 @@ module _ {S L D K G C : Type 0} (bytes_of : C → List ℕ) where
     pub stored : member.failed ≡ false
         → IsBeginningOf bytes_of member.member member.stored (journal_of (given ++ member.outbox.queue.items))
     pub emitted : member.failed ≡ false → AllAreReturned (given ++ member.outbox.queue.items)
-    pub told : IfSome member.member.facts.life (λ x. member.outbox.told ≡ x.finalized)
+    pub reported : IfSome member.member.facts.life (λ x. member.outbox.reported ≡ x.finalized)
     pub reaching : ReachesTo member.reach member.stored member.member.facts.entries
 
   -- all of the record is queued to be stored, or was
@@ -124,7 +124,7 @@ module _ {S L D K G C : Type 0} (same : D → D → Bool) (elect : Elect L) (byt
     pub done : ExtendsHistory same elect old.member.facts more new.member.facts
     pub traced : StaysTraced same elect bytes_of more old new
     pub signed : StaysSigned is_signature old new
-    pub told : ReportsRising (finals_by more) old.outbox new.outbox
+    pub reported : ReportsRising (finals_by more) old.outbox new.outbox
     pub queued : QueuesMore old.outbox new.outbox
     pub risen : WhileAlive HasRisen old.member.facts.life new.member.facts.life
 

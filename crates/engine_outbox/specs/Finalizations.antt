@@ -50,10 +50,10 @@ module _ {S D J K G C : Type 0} where
   -- each of these proposals whose view is above all that were reported is queued to be reported as final, and nothing
   -- else is
   pub record ReportsRising (finals : List (Proposal D)) (old new : Outbox S D J K G C) : Type 0 where
-    pub queued : finals_in new.queue.items ≡ finals_in old.queue.items ++ rising_above old.told finals
-    pub told : new.told ≡ raised_to old.told finals
+    pub queued : finals_in new.queue.items ≡ finals_in old.queue.items ++ rising_above old.reported finals
+    pub reported : new.reported ≡ raised_to old.reported finals
 
   -- these were returned, and no other proposal is queued to be reported as final
   pub record ReportsNoMore (out : List (Output S D J K G C)) (old new : Outbox S D J K G C) : Type 0 where
     pub queued : finals_in old.queue.items ≡ finals_in (out ++ new.queue.items)
-    pub told : new.told ≡ old.told
+    pub reported : new.reported ≡ old.reported

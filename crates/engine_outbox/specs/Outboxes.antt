@@ -21,18 +21,18 @@ module _ {S D J K G C : Type 0} where
     pub behind : AreBehind [] (given ++ box.queue.items)
     pub repeat : IfSome box.repeat (λ vote. Contains (votes_of_entries (stored_in (given ++ box.queue.items))) vote)
     pub rising : RiseByView (finals_in (given ++ box.queue.items))
-    pub told : EndsAt box.told (finals_in (given ++ box.queue.items))
+    pub reported : EndsAt box.reported (finals_in (given ++ box.queue.items))
 
   -- these are appended to what was queued, and this vote may be repeated
   pub record HasBecome (more : List (Output S D J K G C)) (repeat : Option (Vote D G))
       (old new : Outbox S D J K G C) : Type 0 where
     pub queue : new.queue.items ≡ old.queue.items ++ more
     pub repeat_is : new.repeat ≡ repeat
-    pub told_is : new.told ≡ old.told
+    pub reported_is : new.reported ≡ old.reported
 
   -- nothing has changed
   abbrev pub HasStayed : Outbox S D J K G C → Outbox S D J K G C → Type 0
-  HasStayed old new = (new.queue.items ≡ old.queue.items) × (new.repeat ≡ old.repeat) × (new.told ≡ old.told)
+  HasStayed old new = (new.queue.items ≡ old.queue.items) × (new.repeat ≡ old.repeat) × (new.reported ≡ old.reported)
 
   -- what was queued stays, with more after it
   pub record QueuesMore (old new : Outbox S D J K G C) : Type 0 where
@@ -71,10 +71,10 @@ module _ {S D J K G C : Type 0} where
   abbrev pub IsPassedIf : (is_above : Bool) → Proposal D → Outbox S D J K G C → Outbox S D J K G C → Type 0
   IsPassedIf true proposal old new =
       (new.queue.items ≡ old.queue.items ++ output.Finalized proposal ∷ []) × (new.repeat ≡ old.repeat)
-      × (new.told ≡ proposal.round.view)
+      × (new.reported ≡ proposal.round.view)
   IsPassedIf false proposal old new = HasStayed old new
 
   -- it is if there is one, of a view above all that were reported
-  abbrev pub IsTold : Option (Proposal D) → Outbox S D J K G C → Outbox S D J K G C → Type 0
-  IsTold (Some proposal) old new = IsPassedIf (nat_lt old.told proposal.round.view) proposal old new
-  IsTold None old new = HasStayed old new
+  abbrev pub IsReported : Option (Proposal D) → Outbox S D J K G C → Outbox S D J K G C → Type 0
+  IsReported (Some proposal) old new = IsPassedIf (nat_lt old.reported proposal.round.view) proposal old new
+  IsReported None old new = HasStayed old new

@@ -53,7 +53,7 @@ pub struct Journaled<S: CertificateScheme, L: Elector<S>, D: Digest> {
 
 impl<S: Scheme<D>, L: Elector<S>, D: Digest> Journaled<S, L, D> {
     ghost use Rattle.simplex_voter.specs.Refusals.{is_started};
-    ghost use Rattle.simplex_member.specs.Calls.{told};
+    ghost use Rattle.simplex_member.specs.Calls.{reply_facts};
     ghost use Rattle.simplex_member.specs.MemberFacts.{IsCall};
     ghost use Rattle.simplex_record.specs.Entries.{entries_of};
     ghost use Rattle.simplex_record.specs.Votes.{votes_of};
@@ -78,7 +78,7 @@ impl<S: Scheme<D>, L: Elector<S>, D: Digest> Journaled<S, L, D> {
     ///
     /// - `kept`: nothing was returned.
     /// - `whole`: all of the record is queued.
-    /// - `told`: no proposal is queued to be reported as final.
+    /// - `reported`: no proposal is queued to be reported as final.
     /// - `begins`: nothing else is queued.
     /// - `traced`: what the member has done before traces it, if each vote of its record was signed by then
     ///   (`IsTraced`).
@@ -91,7 +91,7 @@ impl<S: Scheme<D>, L: Elector<S>, D: Digest> Journaled<S, L, D> {
         ensures traced { IfOk result (BeginsTraced D.eq L.elect S.certificate_bytes member) }
         ensures signed { IfOk result (BeginsSigned S.IsSignature member) }
         ensures whole { IfOk result (λ j. IsWhole S.certificate_bytes j) }
-        ensures told { IfOk result ReportsNothing }
+        ensures reported { IfOk result ReportsNothing }
         ensures member { IfOk result (λ j. j.member ≡ member) }
         ensures begins { IfOk result (λ j. BeginsWith S.certificate_bytes member j.outbox.queue.items) }
     {
@@ -124,10 +124,10 @@ impl<S: Scheme<D>, L: Elector<S>, D: Digest> Journaled<S, L, D> {
         ensures quiet { certificates_in call ≡ []
             → Continues D.eq L.elect S.certificate_bytes S.IsSignature None self.old self.new }
         ensures answered { IsCall D.eq L.elect self.old.member.facts (asked S.certificate_bytes call)
-            (told S.certificate_bytes result) self.new.member.facts }
-        ensures refused { IsTrue (is_refused (told S.certificate_bytes result))
+            (reply_facts S.certificate_bytes result) self.new.member.facts }
+        ensures refused { IsTrue (is_refused (reply_facts S.certificate_bytes result))
             → self.new.member.facts ≡ self.old.member.facts }
-        ensures dropped { IsTrue (says_nothing (told S.certificate_bytes result))
+        ensures dropped { IsTrue (says_nothing (reply_facts S.certificate_bytes result))
             → IsLeftByCall (asked S.certificate_bytes call) self.old.member.facts self.new.member.facts }
         ensures outbox { self.new.outbox ≡ self.old.outbox }
     {
@@ -152,9 +152,10 @@ impl<S: Scheme<D>, L: Elector<S>, D: Digest> Journaled<S, L, D> {
             (Some (certificate_subject (certificate_facts S.certificate_bytes certificate))) self.old self.new }
         ensures signed { StaysSigned S.IsSignature self.old self.new }
         ensures answered { IfOk result (λ reply. IsCall D.eq L.elect self.old.member.facts
-            (certificate_call (certificate_facts S.certificate_bytes certificate) now) (told S.certificate_bytes reply)
+            (certificate_call (certificate_facts S.certificate_bytes certificate) now)
+            (reply_facts S.certificate_bytes reply)
             self.new.member.facts) }
-        ensures refused { IfOk result (λ reply. IsTrue (is_refused (told S.certificate_bytes reply))
+        ensures refused { IfOk result (λ reply. IsTrue (is_refused (reply_facts S.certificate_bytes reply))
             → self.new.member.facts ≡ self.old.member.facts) }
         ensures unchanged { OnErr result (IsUnchanged self.old self.new) }
         ensures no_work { QueuesNoWork self.old.outbox self.new.outbox }
@@ -172,9 +173,10 @@ impl<S: Scheme<D>, L: Elector<S>, D: Digest> Journaled<S, L, D> {
             (Some (certificate_subject (certificate_facts S.certificate_bytes certificate))) self.old self.new }
         ensures signed { StaysSigned S.IsSignature self.old self.new }
         ensures answered { IsCall D.eq L.elect self.old.member.facts
-            (certificate_call (certificate_facts S.certificate_bytes certificate) now) (told S.certificate_bytes result)
+            (certificate_call (certificate_facts S.certificate_bytes certificate) now)
+            (reply_facts S.certificate_bytes result)
             self.new.member.facts }
-        ensures refused { IsTrue (is_refused (told S.certificate_bytes result))
+        ensures refused { IsTrue (is_refused (reply_facts S.certificate_bytes result))
             → self.new.member.facts ≡ self.old.member.facts }
         ensures no_work { QueuesNoWork self.old.outbox self.new.outbox }
     {
@@ -291,7 +293,7 @@ impl<S: Scheme<D>, L: Elector<S>, D: Digest> Journaled<S, L, D> {
     /// Returns the next output to carry out.
     ///
     /// - `kept`: the returned output is appended to the list of outputs.
-    /// - `told`: no other proposal is queued to be reported as final.
+    /// - `reported`: no other proposal is queued to be reported as final.
     /// - `front`: the output was the first in the queue.
     /// - `traced`, `signed`: the list stays traced, and the stored votes stay signed under the member's key.
     pub fn next(&mut self) -> Option<Output<S, D, Stored>>
@@ -299,7 +301,7 @@ impl<S: Scheme<D>, L: Elector<S>, D: Digest> Journaled<S, L, D> {
             → IsJournaled S.certificate_bytes (given ++ option_to_list result) self.new }
         ensures traced { EmitsTraced D.eq L.elect S.certificate_bytes (option_to_list result) self.old self.new }
         ensures signed { EmitsSigned S.IsSignature (option_to_list result) self.old self.new }
-        ensures told { ReportsNoMore (option_to_list result) self.old.outbox self.new.outbox }
+        ensures reported { ReportsNoMore (option_to_list result) self.old.outbox self.new.outbox }
         ensures front { self.old.outbox.queue.items ≡ option_to_list result ++ self.new.outbox.queue.items }
         ensures none { IsNone result → self.new.outbox.queue.items ≡ [] }
         ensures same { (self.new.member ≡ self.old.member) × (self.new.stored ≡ self.old.stored)

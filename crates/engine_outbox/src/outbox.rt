@@ -27,26 +27,26 @@ pub struct Outbox<S: CertificateScheme, D, J> {
     /// The newest vote to nullify among the stored entries.
     repeat: Option<Vote<D, S::Signature>>,
     /// The highest view whose proposal was reported as final, or the one up to which none is.
-    told: View,
+    reported: View,
 }
 
 impl<S: CertificateScheme, D: Digest, J: Drop> Outbox<S, D, J> {
     ghost use Rattle.engine_outbox.specs.Outputs.{AreBehind};
     ghost use Rattle.engine_outbox.specs.Finalizations.{finals_in, RiseByView};
-    ghost use Rattle.engine_outbox.specs.Outboxes.{IsLawfulOutbox, HasBecome, HasStayed, IsStored, IsReplaced, IsRepeated, HasRoom, IsPassedIf, IsTold, QueuesMore};
+    ghost use Rattle.engine_outbox.specs.Outboxes.{IsLawfulOutbox, HasBecome, HasStayed, IsStored, IsReplaced, IsRepeated, HasRoom, IsPassedIf, IsReported, QueuesMore};
 
     /// Returns an empty outbox. It never reports a proposal of this view or below as final.
     ///
     /// - `begins`: nothing was returned.
-    pub fn new(alloc: Global, told: View) -> Outbox<S, D, J>
-        ensures empty { (result.queue.items ≡ []) × (result.repeat ≡ None) × (result.told ≡ told) }
+    pub fn new(alloc: Global, reported: View) -> Outbox<S, D, J>
+        ensures empty { (result.queue.items ≡ []) × (result.repeat ≡ None) × (result.reported ≡ reported) }
         ensures begins { IsLawfulOutbox [] result }
     {
         Outbox {
             alloc,
             queue: VecDeque::new(alloc),
             repeat: None,
-            told,
+            reported,
         }
     }
 
@@ -107,7 +107,7 @@ impl<S: CertificateScheme, D: Digest, J: Drop> Outbox<S, D, J> {
     /// Reports a proposal as final, if there is one, and none of its view or above was reported.
     pub fn tell(&mut self, finalized: Option<Proposal<D>>)
         requires { HasRoom self.old }
-        ensures told { IsTold finalized self.old self.new }
+        ensures reported { IsReported finalized self.old self.new }
         ensures grown { QueuesMore self.old self.new }
         ensures continues { (given : _) → IsLawfulOutbox given self.old → IsLawfulOutbox given self.new }
     {
@@ -121,7 +121,7 @@ impl<S: CertificateScheme, D: Digest, J: Drop> Outbox<S, D, J> {
         ensures front { self.old.queue.items ≡ option_to_list result ++ self.new.queue.items }
         ensures none { IsNone result → self.new.queue.items ≡ [] }
         ensures repeat { self.new.repeat ≡ self.old.repeat }
-        ensures told { self.new.told ≡ self.old.told }
+        ensures reported { self.new.reported ≡ self.old.reported }
         ensures continues { (given : _) → IsLawfulOutbox given self.old
             → IsLawfulOutbox (given ++ option_to_list result) self.new }
     {
@@ -198,7 +198,7 @@ impl<S: CertificateScheme, D: Digest, J: Drop> Outbox<S, D, J> {
     /// Queues a proposal that is final, if there is one.
     fn queue_final(&mut self, finalized: Option<Proposal<D>>)
         requires { HasRoom self.old }
-        ensures { IsTold finalized self.old self.new }
+        ensures { IsReported finalized self.old self.new }
     {
         if let Some(proposal) = &finalized {
             self.queue_above(proposal)
@@ -208,10 +208,10 @@ impl<S: CertificateScheme, D: Digest, J: Drop> Outbox<S, D, J> {
     /// Queues a proposal that is final, if none of its view or above was reported.
     fn queue_above(&mut self, proposal: &Proposal<D>)
         requires { HasRoom self.old }
-        ensures { IsPassedIf (nat_lt self.old.told proposal.now.round.view) proposal.now self.old self.new }
+        ensures { IsPassedIf (nat_lt self.old.reported proposal.now.round.view) proposal.now self.old self.new }
     {
-        if self.told < proposal.round.view {
-            self.told = proposal.round.view;
+        if self.reported < proposal.round.view {
+            self.reported = proposal.round.view;
             self.queue.push_back_reserved(Output::Finalized(*proposal));
         }
     }
@@ -238,7 +238,7 @@ impl<S: CertificateScheme, D: Digest, J: Drop> Outbox<S, D, J> {
     /// Notes a vote to nullify, if there is one.
     fn note(&mut self, newest: Option<Vote<D, S::Signature>>)
         ensures queue { self.new.queue ≡ self.old.queue }
-        ensures told { self.new.told ≡ self.old.told }
+        ensures reported { self.new.reported ≡ self.old.reported }
         ensures noted { self.new.repeat ≡ option_map_or Some newest self.old.repeat }
     {
         if let Some(vote) = newest {

@@ -9,13 +9,15 @@ use Rattle.engine_planner.specs.PlanStates.{HasPlanned, touching, watching}
 module _ {S D K G C : Type 0} where
   -- the resolver receives it, and then the view is touched
   pub taken_in : (bytes : D → List ℕ) (bytes_of : C → List ℕ) (now : ℕ) (taken : Certificate S D K G C)
-      (old heard new : Plan S D K G C)
-      → heard ≡ record old { repair = heard.repair } → IsResolverNotified bytes bytes_of now taken old heard.repair
-      → HasPlanned (touching (certificate_view taken)) (watching heard) new → IsTakenIn bytes bytes_of now taken old new
-  taken_in bytes bytes_of now taken old heard new same hears planned =
+      (old notified new : Plan S D K G C)
+      → notified ≡ record old { repair = notified.repair }
+      → IsResolverNotified bytes bytes_of now taken old notified.repair
+      → HasPlanned (touching (certificate_view taken)) (watching notified) new
+      → IsTakenIn bytes bytes_of now taken old new
+  taken_in bytes bytes_of now taken old notified new same hears planned =
       let kept = ap (λ (p : Plan S D K G C). p.repair) planned.same in
       record {
-        heard = subst (IsResolverNotified bytes bytes_of now taken old) (sym kept) hears;
+        notified = subst (IsResolverNotified bytes bytes_of now taken old) (sym kept) hears;
         planned =
             subst (λ r. HasPlanned (touching (certificate_view taken)) (watching (record old { repair = r })) new)
             (sym kept)

@@ -35,7 +35,7 @@ use Rattle.engine_fetches.specs.OutstandingFetches.{after_effects, holds, is_mis
 use Rattle.engine_fetches.proofs.OpenedFetches.{open_asked}
 use Rattle.engine_outbox.specs.declared.output.Work.TheVariants as work
 use Rattle.engine_outbox.specs.CertificateCalls.{certificate_call}
-use Rattle.engine_planner.specs.declared.plan.builds.Building.{Building}
+use Rattle.engine_planner.specs.declared.plan.builds.PendingBuild.{PendingBuild}
 use Rattle.engine_planner.specs.declared.plan.Plan.{Plan}
 use Rattle.engine_planner.specs.declared.plan.Step.{Step}
 use Rattle.engine_planner.specs.declared.plan.Step.TheVariants as step
@@ -158,7 +158,7 @@ module _ {S D K G C : Type 0} where
       → ((kind : FetchKind) (view : ℕ) → asks old kind view ≡ true → over kind view ≡ false → asks new kind view ≡ true)
       → KeepsFetching [] over [] old new
   keeps_asking {old = old} over same still = record {
-    told = same;
+    received = same;
     still = λ kind view is un. still kind view (or_nothing (asks old kind view) is)
         (not_or (over kind view) false un).0;
   }
@@ -169,7 +169,7 @@ module _ {S D K G C : Type 0} where
       → ((kind : FetchKind) (view : ℕ) → list_any (is_missing_certificate kind view) given ≡ false)
       → KeepsFetching [] over calls old new → KeepsFetching given over calls old new
   asks_beside {old = old} given none keeps = record {
-    told = keeps.told;
+    received = keeps.received;
     still = λ kind view is. keeps.still kind view (ap (λ b. asks old kind view || b) (sym (none kind view)) ∙ is);
   }
 
@@ -177,7 +177,11 @@ module _ {S D K G C : Type 0} where
   pub asks_over : {old new : Plan S D K G C} {given : List (Cause S D K G C)} {calls : List Call}
       (over : FetchKind → ℕ → Bool) → KeepsFetching given never calls old new → KeepsFetching given over calls old new
   asks_over over keeps =
-      record { told = keeps.told; still = λ kind view is un. keeps.still kind view is (not_or (over kind view) _ un).1 }
+      record {
+        received = keeps.received;
+        still = λ kind view is un. keeps.still kind view is
+            (not_or (over kind view) _ un).1;
+      }
 
   pub asks_where_same : {old new : Plan S D K G C} (over : FetchKind → ℕ → Bool) → new ≡ old
       → KeepsFetching [] over [] old new
@@ -193,10 +197,10 @@ module _ {S D K G C : Type 0} where
       {calls more : List Call} → KeepsFetching given over calls a b → KeepsFetching [] over more b c
       → KeepsFetching given over (calls ++ more) a c
   asks_further {a = a} {b = b} {c = c} {over = over} {calls = calls} {more = more} first second = record {
-    told = made_on a.repair.resolver b.repair.resolver c.repair.resolver calls more first.told second.told;
+    received = made_on a.repair.resolver b.repair.resolver c.repair.resolver calls more first.received second.received;
     still = λ kind view is un.
         let parts = not_or (over kind view) _ un in
-        let ended = ended_on a.repair.resolver b.repair.resolver calls more first.told kind view parts.1 in
+        let ended = ended_on a.repair.resolver b.repair.resolver calls more first.received kind view parts.1 in
         second.still kind view (or_left (asks b kind view) false
         (first.still kind view is
         (ap (λ t. t || ended_by a.repair.resolver.state calls kind view) parts.0 ∙ ended.0)))
@@ -208,10 +212,10 @@ module _ {S D K G C : Type 0} where
       {calls more : List Call} → KeepsFetching [] over calls a b → KeepsFetching given over more b c
       → KeepsFetching given over (calls ++ more) a c
   asks_then {a = a} {b = b} {c = c} {given = given} {over = over} {calls = calls} {more = more} first second = record {
-    told = made_on a.repair.resolver b.repair.resolver c.repair.resolver calls more first.told second.told;
+    received = made_on a.repair.resolver b.repair.resolver c.repair.resolver calls more first.received second.received;
     still = λ kind view is un.
         let parts = not_or (over kind view) _ un in
-        let ended = ended_on a.repair.resolver b.repair.resolver calls more first.told kind view parts.1 in
+        let ended = ended_on a.repair.resolver b.repair.resolver calls more first.received kind view parts.1 in
         second.still kind view
         (elim (or_cases (asks a kind view) (list_any (is_missing_certificate kind view) given) is) [
           | inl before ↦ or_left (asks b kind view) (list_any (is_missing_certificate kind view) given)
@@ -351,7 +355,7 @@ module _ {S D K G C : Type 0} where
 
   -- ---- answers
 
-  blocks_planned : {more : List (Step S D K G C)} {builds : List (Building D K)} {old new : Plan S D K G C}
+  blocks_planned : {more : List (Step S D K G C)} {builds : List (PendingBuild D K)} {old new : Plan S D K G C}
       → HasBuilds more builds old new → KeepsFetching [] never [] old new
   blocks_planned {more = more} {old = old} {new = new} is =
       keeps_asking never (ap (λ (p : Plan S D K G C). p.repair.resolver) is.same)
@@ -362,12 +366,12 @@ module _ {S D K G C : Type 0} where
   pub as_watched : {given : List (Cause S D K G C)} {over : FetchKind → ℕ → Bool} {calls : List Call}
       {old new : Plan S D K G C} → KeepsFetching given over calls (watching old) new
       → KeepsFetching given over calls old new
-  as_watched keeps = record { told = keeps.told; still = keeps.still }
+  as_watched keeps = record { received = keeps.received; still = keeps.still }
 
   as_timed : {given : List (Cause S D K G C)} {over : FetchKind → ℕ → Bool} {calls : List Call}
       {old new : Plan S D K G C} {moment : ℕ} → KeepsFetching given over calls (record old { timeout = moment }) new
       → KeepsFetching given over calls old new
-  as_timed keeps = record { told = keeps.told; still = keeps.still }
+  as_timed keeps = record { received = keeps.received; still = keeps.still }
 
   consequence_asks : (what : Consequence D) (old new : Plan S D K G C) → IsConsequence what old new
       → KeepsFetching [] never [] old new
@@ -395,7 +399,7 @@ module _ {S D K G C : Type 0} where
           → HasPlanned (cond b [] more) old new → KeepsFetching (MissingCertificate (fetch_kind lacks) at ∷ []) never []
           old new
       by_test true is_open planned = record {
-        told = ap (λ (p : Plan S D K G C). p.repair.resolver) planned.same;
+        received = ap (λ (p : Plan S D K G C). p.repair.resolver) planned.same;
         still = λ kind view is un. planned_still kind view planned
             (elim (or_cases (asks old kind view) ((same_kind (fetch_kind lacks) kind && at == view) || false) is) [
               | inl before ↦ before
@@ -406,7 +410,7 @@ module _ {S D K G C : Type 0} where
             ]);
       }
       by_test false is_open planned = record {
-        told = ap (λ (p : Plan S D K G C). p.repair.resolver) planned.same;
+        received = ap (λ (p : Plan S D K G C). p.repair.resolver) planned.same;
         still = λ kind view is un.
             elim (or_cases (asks old kind view) ((same_kind (fetch_kind lacks) kind && at == view) || false) is) [
               | inl before ↦ planned_still kind view planned before
@@ -438,7 +442,7 @@ module _ {S D K G C : Type 0} where
       → KeepsFetching (map (λ p. WorkItem (work.Certify p)) proposals ++ map
       (λ (it : CertificateFetch). MissingCertificate fetch.Notarization it.view) wanted) never [] old new
   candidates_asks now proposals wanted old new is = record {
-    told = is.fetched.resolver;
+    received = is.fetched.resolver;
     still = λ kind view asked un.
         elim (or_cases (asks old kind view) (list_any (is_missing_certificate kind view) (offers ++ lacks)) asked) [
           | inl before ↦ asks_on kind view old new
@@ -462,11 +466,11 @@ module _ {S D K G C : Type 0} where
       lacks = map (λ (it : CertificateFetch). MissingCertificate fetch.Notarization it.view) wanted
 
   -- the resolver received it, and then steps are planned
-  told_asks : {moment : ℕ} {it : Call} {more : List (Step S D K G C)} {old new : Plan S D K G C}
+  replied_asks : {moment : ℕ} {it : Call} {more : List (Step S D K G C)} {old new : Plan S D K G C}
       → IsRepaired moment it old.repair new.repair
       → HasPlanned more (watching (record old { repair = new.repair })) new → KeepsFetching [] never (it ∷ []) old new
-  told_asks {moment = moment} {it = it} {more = more} {old = old} {new = new} is planned = record {
-    told = (new.repair.resolver, is.made, refl);
+  replied_asks {moment = moment} {it = it} {more = more} {old = old} {new = new} is planned = record {
+    received = (new.repair.resolver, is.made, refl);
     still = λ kind view asked un. planned_still kind view {old = watching (record old { repair = new.repair })} planned
         (asks_on kind view old (record old { repair = new.repair })
         (λ before. ap (is_fetch_open kind view) is.fetches_now
@@ -482,7 +486,7 @@ module _ {S D K G C : Type 0} where
         → KeepsFetching [] never (cond b [] (verdict bytes (notarization_facts bytes_of notarization) is_success ∷ []))
         old new
     verdict_asks true is_success notarization old new is = asks_where_same never is
-    verdict_asks false is_success notarization old new is = told_asks {old = old} is.repaired is.planned
+    verdict_asks false is_success notarization old new is = replied_asks {old = old} is.repaired is.planned
 
     judged_asks : (asked : CallFacts D) (is_success : Bool) (notarization : Option (Notarization S D K G C))
         (old new : Plan S D K G C)
@@ -512,12 +516,12 @@ module _ {S D K G C : Type 0} where
         none kind view true = refl
         none kind view false = refl
 
-    unheard : (asked : Task D) (is_new : Bool) {given : List (Cause S D K G C)} {old new : Plan S D K G C}
+    unnotified : (asked : Task D) (is_new : Bool) {given : List (Cause S D K G C)} {old new : Plan S D K G C}
         → KeepsFetching given never [] old new
         → KeepsFetching given never (cond is_new (views_received bytes (call_of asked now)) []) old new
-    unheard asked true {given = given} {old = old} {new = new} keeps =
+    unnotified asked true {given = given} {old = old} {new = new} keeps =
         subst (λ calls. KeepsFetching given never calls old new) (sym (no_task_hands_in bytes now asked)) keeps
-    unheard asked false keeps = keeps
+    unnotified asked false keeps = keeps
 
     -- the answer to a task is followed
     pub followed_asks : (asked : Task D) (answer : Reply S D K G C) (old new : Plan S D K G C)
@@ -541,11 +545,12 @@ module _ {S D K G C : Type 0} where
     followed_asks asked (reply.Timeout moment reason) old new is =
         timeout_asks moment reason (call_of asked now) old new is
     followed_asks asked reply.NotAllowed old new is = consequence_asks (after_refusal asked) old new is
-    followed_asks asked (reply.Added is_new None) old new is = unheard asked is_new (asks_where_same never is)
+    followed_asks asked (reply.Added is_new None) old new is = unnotified asked is_new (asks_where_same never is)
     followed_asks asked (reply.Added is_new (Some leader)) old new is =
-        unheard asked is_new (asks_beside (shown_by (call_of asked now) leader)
+        unnotified asked is_new (asks_beside (shown_by (call_of asked now) leader)
         (shows_none S G C (call_of asked now) leader) (asks_where_same never is))
-    followed_asks asked (reply.AddedNullification is_new) old new is = unheard asked is_new (asks_where_same never is)
+    followed_asks asked (reply.AddedNullification is_new) old new is = unnotified asked is_new
+        (asks_where_same never is)
     followed_asks asked (reply.Notarize vote) old new is = asks_where_same never is
     followed_asks asked (reply.Finalize vote) old new is = asks_where_same never is
     followed_asks asked (reply.Views views) old new is = asks_where_same never is
@@ -554,9 +559,9 @@ module _ {S D K G C : Type 0} where
     followed_asks asked reply.Unit old new is = asks_where_same never is
 
     -- a certificate was received
-    without_asks : (told : Certificate S D K G C) (kind : FetchKind) (view : ℕ) (xs : List Fetch)
-        → is_notarized kind view (update bytes (certificate_facts bytes_of told)) ≡ false
-        → is_fetch_open kind view xs ≡ true → is_fetch_open kind view (without told xs) ≡ true
+    without_asks : (received : Certificate S D K G C) (kind : FetchKind) (view : ℕ) (xs : List Fetch)
+        → is_notarized kind view (update bytes (certificate_facts bytes_of received)) ≡ false
+        → is_fetch_open kind view xs ≡ true → is_fetch_open kind view (without received xs) ≡ true
     without_asks (certificate.Nullification n) kind view xs un is = is
     without_asks (certificate.Finalization f) kind view xs un is = is
     without_asks (certificate.Notarization n) kind view xs un is =
@@ -575,11 +580,11 @@ module _ {S D K G C : Type 0} where
         → KeepsFetching [] never (cond b [] (update bytes (certificate_facts bytes_of accepted) ∷ [])) old new
     taken_in true accepted old new is = asks_where_same never is
     taken_in false accepted old new is = record {
-      told = (new.repair.resolver, is.heard.made, refl);
+      received = (new.repair.resolver, is.notified.made, refl);
       still = λ kind view asked un. planned_still kind view {old = watching (record old { repair = new.repair })}
           is.planned
           (asks_on kind view old (record old { repair = new.repair })
-          (λ before. ap (is_fetch_open kind view) is.heard.fetched
+          (λ before. ap (is_fetch_open kind view) is.notified.fetched
           ∙ without_asks accepted kind view (after_effects moment (effects old.repair.resolver.state it)
           old.repair.fetches.wanted.items) (not_or (is_notarized kind view it) _ (not_or _ false un).0).0
           (open_through kind view moment (effects old.repair.resolver.state it) old.repair.fetches.wanted.items before
@@ -594,18 +599,18 @@ module _ {S D K G C : Type 0} where
         moment = later bytes bytes_of now old
 
     -- what the resolver receives is of the certificate
-    heard_as : (handed : Certificate S D K G C)
+    notified_as : (handed : Certificate S D K G C)
         → views_received bytes (certificate_call (certificate_facts bytes_of handed) now)
         ≡ cond (certificate_view handed == 0) [] (update bytes (certificate_facts bytes_of handed) ∷ [])
-    heard_as (certificate.Notarization n) = refl
-    heard_as (certificate.Nullification n) = refl
-    heard_as (certificate.Finalization f) = refl
+    notified_as (certificate.Notarization n) = refl
+    notified_as (certificate.Nullification n) = refl
+    notified_as (certificate.Finalization f) = refl
 
     new_asks : (b : Bool) (handed : Certificate S D K G C) (old new : Plan S D K G C)
         → IsNewFollowed bytes bytes_of now b handed old new
         → KeepsFetching [] never
         (cond b (views_received bytes (certificate_call (certificate_facts bytes_of handed) now)) []) old new
-    new_asks true handed old new is = subst (λ calls. KeepsFetching [] never calls old new) (sym (heard_as handed))
+    new_asks true handed old new is = subst (λ calls. KeepsFetching [] never calls old new) (sym (notified_as handed))
         (taken_in (certificate_view handed == 0) handed old new is)
     new_asks false handed old new is = asks_where_same never is
 
@@ -650,7 +655,7 @@ module _ {S D K G C : Type 0} where
       → OnOk r (KeepsFetching (MissingCertificate k v ∷ []) never [] old new)
   resolves_asks (Err e) k v first moment old new is opens refused = tt
   resolves_asks (Ok x) k v first moment old new is opens refused = record {
-    told = opens.resolver;
+    received = opens.resolver;
     still =
         λ kind view asked un. elim (or_cases (asks old kind view) ((same_kind k kind && v == view) || false) asked) [
           | inl before ↦ asks_on kind view old new
@@ -666,14 +671,14 @@ module _ {S D K G C : Type 0} where
   }
 
   -- missing certificates are still asked for
-  pub lets_go_asks : {X E : Type 0} {L : Type 0} (r : Result X E) (x : StateFacts K L D) (old new : Plan S D K G C)
+  pub dropped_asks : {X E : Type 0} {L : Type 0} (r : Result X E) (x : StateFacts K L D) (old new : Plan S D K G C)
       → new ≡ record old { repair = new.repair }
       → OnOk r (HasPassed x.finalized (filter (is_missing old.repair.resolver.open_fetches x)
       old.repair.fetches.wanted.items) old.repair new.repair)
       → OnOk r (KeepsFetching []
       (λ kind view. holds new.repair.resolver.open_fetches x kind view || nat_le view x.finalized) [] old new)
-  lets_go_asks (Err e) x old new is passes = tt
-  lets_go_asks {L = L} (Ok done) x old new is passes =
+  dropped_asks (Err e) x old new is passes = tt
+  dropped_asks {L = L} (Ok done) x old new is passes =
       subst (λ (r : LawfulResolverFacts). KeepsFetching []
       (λ kind view. holds r.open_fetches x kind view || nat_le view x.finalized) [] old new) (sym passes.resolver)
       (keeps_asking (λ kind view. holds wanted x kind view || nat_le view x.finalized) passes.resolver

@@ -2,12 +2,12 @@
 use Rattle.std.proofs.Common.{◌≡◌, ◌∙◌, refl, ap, sym, ℕ, inl, inr, Bool, true, false, not, cond, ◌||◌, ◌==◌, List, [], ◌∷◌, ◌++◌, map}
 use Rattle.std.specs.List.{list_any}
 use Rattle.std.proofs.lemmas.Bool.{false≢true, and_from, and_parts, eq-eqb, eqb-true, false_from_ne_true, not_from_false, not-true, or_cases, or_from, or_left, or_parts, or_right}
-use Rattle.engine_planner.specs.declared.plan.builds.Building.{Building}
-use Rattle.engine_planner.specs.Blocks.{views_built, one_a_view, all_but_at, in_place, told_by, waits_for}
+use Rattle.engine_planner.specs.declared.plan.builds.PendingBuild.{PendingBuild}
+use Rattle.engine_planner.specs.Blocks.{views_built, one_a_view, all_but_at, in_place, reported_by, waits_for}
 
 module _ {K D : Type 0} where
   -- what some of those that stay pass, some of all do
-  pub views_left : (test : ℕ → Bool) (view : ℕ) (builds : List (Building D K))
+  pub views_left : (test : ℕ → Bool) (view : ℕ) (builds : List (PendingBuild D K))
       → list_any test (views_built (all_but_at view builds)) ≡ true → list_any test (views_built builds) ≡ true
   views_left test view [] some = some
   views_left test view (b ∷ rest) some = by_keep (not (b.context.round.view == view)) (views_left test view rest) some
@@ -23,7 +23,7 @@ module _ {K D : Type 0} where
       by_keep false left some = or_right (test b.context.round.view) _ (left some)
 
   -- none of the view is left
-  none_left : (view : ℕ) (builds : List (Building D K))
+  none_left : (view : ℕ) (builds : List (PendingBuild D K))
       → list_any (λ v. v == view) (views_built (all_but_at view builds)) ≡ false
   none_left view [] = refl
   none_left view (b ∷ rest) = by_test (b.context.round.view == view) refl (none_left view rest)
@@ -36,7 +36,7 @@ module _ {K D : Type 0} where
       by_test false other none = or_from (b.context.round.view == view) _ other none
 
   -- those that stay are of different views still
-  pub left_once : (view : ℕ) (builds : List (Building D K)) → one_a_view builds ≡ true
+  pub left_once : (view : ℕ) (builds : List (PendingBuild D K)) → one_a_view builds ≡ true
       → one_a_view (all_but_at view builds) ≡ true
   left_once view [] once = once
   left_once view (b ∷ rest) once = by_keep (not (b.context.round.view == view)) (left_once view rest parts.1)
@@ -56,7 +56,7 @@ module _ {K D : Type 0} where
       by_keep false left = left
 
   -- one more, of another view
-  more_once : (builds : List (Building D K)) (b : Building D K) → one_a_view builds ≡ true
+  more_once : (builds : List (PendingBuild D K)) (b : PendingBuild D K) → one_a_view builds ≡ true
       → list_any (λ v. v == b.context.round.view) (views_built builds) ≡ false → one_a_view (builds ++ b ∷ []) ≡ true
   more_once [] b once none = refl
   more_once (first ∷ rest) b once none =
@@ -72,7 +72,7 @@ module _ {K D : Type 0} where
       other_way v w other = false_from_ne_true (w == v)
           (λ at. false≢true (sym other ∙ eq-eqb v w (sym (eqb-true w v at))))
 
-      none_with : (test : ℕ → Bool) (builds : List (Building D K)) (b : Building D K)
+      none_with : (test : ℕ → Bool) (builds : List (PendingBuild D K)) (b : PendingBuild D K)
           → list_any test (views_built builds) ≡ false → test b.context.round.view ≡ false
           → list_any test (views_built (builds ++ b ∷ [])) ≡ false
       none_with test [] b none other = or_from (test b.context.round.view) _ other refl
@@ -80,30 +80,30 @@ module _ {K D : Type 0} where
           let parts = or_parts (test c.context.round.view) _ none in
           or_from (test c.context.round.view) _ parts.0 (none_with test rest b parts.1 other)
 
-  pub put_once : (builds : List (Building D K)) (b : Building D K) → one_a_view builds ≡ true
+  pub put_once : (builds : List (PendingBuild D K)) (b : PendingBuild D K) → one_a_view builds ≡ true
       → one_a_view (in_place b builds) ≡ true
   put_once builds b once =
       more_once (all_but_at b.context.round.view builds) b (left_once b.context.round.view builds once)
       (none_left b.context.round.view builds)
 
   -- the views stay, of whichever the application was asked
-  pub views_told : (view : ℕ) (builds : List (Building D K))
-      → views_built (map (told_by view) builds) ≡ views_built builds
-  views_told view [] = refl
-  views_told view (b ∷ rest) = ap (λ views. b.context.round.view ∷ views) (views_told view rest)
+  pub views_replied : (view : ℕ) (builds : List (PendingBuild D K))
+      → views_built (map (reported_by view) builds) ≡ views_built builds
+  views_replied view [] = refl
+  views_replied view (b ∷ rest) = ap (λ views. b.context.round.view ∷ views) (views_replied view rest)
 
-  pub told_once : (view : ℕ) (builds : List (Building D K)) → one_a_view builds ≡ true
-      → one_a_view (map (told_by view) builds) ≡ true
-  told_once view [] once = once
-  told_once view (b ∷ rest) once =
+  pub replied_once : (view : ℕ) (builds : List (PendingBuild D K)) → one_a_view builds ≡ true
+      → one_a_view (map (reported_by view) builds) ≡ true
+  replied_once view [] once = once
+  replied_once view (b ∷ rest) once =
       let same : ℕ → Bool = λ v. v == b.context.round.view in
       let parts = and_parts (not (list_any same (views_built rest))) (one_a_view rest) once in
-      and_from (not (list_any same (views_built (map (told_by view) rest)))) _
-      (ap (λ views. not (list_any same views)) (views_told view rest) ∙ parts.0)
-      (told_once view rest parts.1)
+      and_from (not (list_any same (views_built (map (reported_by view) rest)))) _
+      (ap (λ views. not (list_any same views)) (views_replied view rest) ∙ parts.0)
+      (replied_once view rest parts.1)
 
   -- a block of another view waits still
-  pub left_waiting : (view other : ℕ) → (view == other) ≡ false → (builds : List (Building D K))
+  pub left_waiting : (view other : ℕ) → (view == other) ≡ false → (builds : List (PendingBuild D K))
       → list_any (waits_for other) builds ≡ true → list_any (waits_for other) (all_but_at view builds) ≡ true
   left_waiting view other differs [] waits = waits
   left_waiting view other differs (b ∷ rest) waits =

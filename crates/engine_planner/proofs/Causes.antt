@@ -14,10 +14,10 @@ use Rattle.engine_fetches.specs.Repairs.{HasFetches, HasPassed}
 use Rattle.engine_fetches.specs.OutstandingFetches.{fetching, wants, OpensNoOther}
 use Rattle.engine_fetches.proofs.OpenedFetches.{open_fetching, open_once, opens_left}
 use Rattle.engine_outbox.specs.declared.output.Work.TheVariants as work
-use Rattle.engine_planner.specs.declared.plan.builds.Building.{Building}
+use Rattle.engine_planner.specs.declared.plan.builds.PendingBuild.{PendingBuild}
 use Rattle.engine_planner.specs.declared.plan.Plan.{Plan}
 use Rattle.engine_planner.specs.declared.plan.Step.{Step}
-use Rattle.engine_planner.specs.Blocks.{has_waited, is_asked_at, told_by}
+use Rattle.engine_planner.specs.Blocks.{has_waited, is_asked_at, reported_by}
 use Rattle.engine_planner.specs.BuildPlans.{asking_for, stopping, HasBuilds}
 use Rattle.engine_planner.specs.ViewChanges.{asking_by}
 use Rattle.engine_planner.specs.Consequences.{later}
@@ -129,8 +129,8 @@ module _ {S D K G C : Type 0} where
 
   -- ---- blocks
 
-  module _ (keep : Building D K → Bool) where
-    pub blocks_left : (builds : List (Building D K))
+  module _ (keep : PendingBuild D K → Bool) where
+    pub blocks_left : (builds : List (PendingBuild D K))
         → AreAmong {A = Cause S D K G C} (of_blocks (filter keep builds)) (of_blocks builds)
     blocks_left [] = among_still []
     blocks_left (b ∷ builds) = by_test (keep b) (blocks_left builds)
@@ -141,13 +141,13 @@ module _ {S D K G C : Type 0} where
         by_test true left = among_both (among_still (of_block b.context)) left
         by_test false left = among_further left (among_last (of_block b.context) (of_blocks builds))
 
-  pub of_blocks-append : (builds more : List (Building D K))
+  pub of_blocks-append : (builds more : List (PendingBuild D K))
       → of_blocks {S = S} {G = G} {C = C} (builds ++ more) ≡ of_blocks builds ++ of_blocks more
   of_blocks-append [] more = refl
   of_blocks-append (b ∷ builds) more = ap (λ rest. of_block b.context ++ rest) (of_blocks-append builds more)
 
   -- one must stop that was asked for
-  stop_of : (view : ℕ) (builds : List (Building D K)) → list_any (is_asked_at view) builds ≡ true
+  stop_of : (view : ℕ) (builds : List (PendingBuild D K)) → list_any (is_asked_at view) builds ≡ true
       → AreAmong {A = Cause S D K G C} (WorkItem (work.StopBuilding view) ∷ []) (of_blocks builds)
   stop_of view [] none = absurd (false≢true none)
   stop_of view (b ∷ builds) is = elim (or_cases (is_asked_at view b) (list_any (is_asked_at view) builds) is) [
@@ -160,7 +160,7 @@ module _ {S D K G C : Type 0} where
     | inr later ↦ among_further (stop_of view builds later) (among_last (of_block b.context) (of_blocks builds))
   ]
 
-  pub stopping_of : (view : ℕ) (builds : List (Building D K))
+  pub stopping_of : (view : ℕ) (builds : List (PendingBuild D K))
       → AreAmong {A = Cause S D K G C} (of_steps (stopping view (list_any (is_asked_at view) builds)))
       (of_blocks builds)
   stopping_of view builds = by_test (list_any (is_asked_at view) builds) refl
@@ -176,20 +176,20 @@ module _ {S D K G C : Type 0} where
       (WorkItem (work.StopBuilding context.round.view) ∷ [])
   asking_of context false = among_none (of_block context)
 
-  pub asking_all : (view : ℕ) (builds : List (Building D K))
+  pub asking_all : (view : ℕ) (builds : List (PendingBuild D K))
       → AreAmong {A = Cause S D K G C} (of_steps (asking_by view builds)) (of_blocks builds)
   asking_all view [] = among_still []
   asking_all view (b ∷ builds) =
       among_further (among_all (of_steps-append (asking_for b.context (has_waited view b)) (asking_by view builds)))
       (among_both (asking_of b.context (has_waited view b)) (asking_all view builds))
 
-  pub told_blocks : (view : ℕ) (builds : List (Building D K))
-      → of_blocks {S = S} {G = G} {C = C} (map (told_by view) builds) ≡ of_blocks builds
-  told_blocks view [] = refl
-  told_blocks view (b ∷ builds) = ap (λ rest. of_block b.context ++ rest) (told_blocks view builds)
+  pub replied_blocks : (view : ℕ) (builds : List (PendingBuild D K))
+      → of_blocks {S = S} {G = G} {C = C} (map (reported_by view) builds) ≡ of_blocks builds
+  replied_blocks view [] = refl
+  replied_blocks view (b ∷ builds) = ap (λ rest. of_block b.context ++ rest) (replied_blocks view builds)
 
   -- blocks are built, of these matters
-  pub built : {more : List (Step S D K G C)} {builds : List (Building D K)} {old new : Plan S D K G C}
+  pub built : {more : List (Step S D K G C)} {builds : List (PendingBuild D K)} {old new : Plan S D K G C}
       {all : List (Cause S D K G C)} → HasBuilds more builds old new
       → AreAmong (planned_causes old) all → AreAmong (of_steps more) all → AreAmong (of_blocks builds) all
       → AreAmong (planned_causes new) all

@@ -16,7 +16,7 @@ use Rattle.simplex_voter.specs.declared.voter.propose.ProposalRequest.{ProposalR
 use Rattle.simplex_voter.specs.declared.voter.propose.ProposalRequest.TheVariants.{Prepare, Propose}
 use Rattle.simplex_voter.specs.declared.voter.verify.Verify.{Verify}
 use Rattle.simplex_voter.specs.declared.voter.verify.Verify.TheVariants as verify
-use Rattle.simplex_member.specs.Calls.{Requested, Standing, told}
+use Rattle.simplex_member.specs.Calls.{Requested, Standing, reply_facts}
 use Rattle.simplex_member.specs.declared.member.calls.Reply.{Reply}
 use Rattle.simplex_member.specs.declared.member.calls.Reply.TheVariants as reply
 use Rattle.engine_planner.specs.declared.plan.Plan.{Plan}
@@ -126,7 +126,7 @@ module _ {S D K G C : Type 0} (old new : Plan S D K G C) where
 
   pub followed_plans : (bytes : D → List ℕ) (bytes_of : C → List ℕ) (now : ℕ) (asked : Task D)
       (answer : Reply S D K G C)
-      → IsFollowed bytes bytes_of now asked answer old new → PlansAnswer asked (told bytes_of answer) old new
+      → IsFollowed bytes bytes_of now asked answer old new → PlansAnswer asked (reply_facts bytes_of answer) old new
   followed_plans bytes bytes_of now asked (reply.Flag is_taken) is =
       plans_none (consequence_plans (after_flag asked is_taken) is)
   followed_plans bytes bytes_of now asked (reply.Triggered is_latched) is =
@@ -176,7 +176,7 @@ module _ {S D K G C : Type 0} (bytes : D → List ℕ) (bytes_of : C → List �
       by_genesis true is = plans_same old new is
       by_genesis false is =
           plans_behind old new (touching (certificate_view certificate)) is.planned.steps
-          (ap beside_of is.planned.same ∙ repaired_beside old new.repair is.heard.peers is.heard.retry)
+          (ap beside_of is.planned.same ∙ repaired_beside old new.repair is.notified.peers is.notified.retry)
 
   pub certificate_followed : (old new : Plan S D K G C) (certificate : Certificate S D K G C) (answer : Reply S D K G C)
       → IsCertificateFollowed bytes bytes_of now certificate answer old new → KeepsPlanned old new

@@ -31,7 +31,7 @@ use Rattle.engine_fetches.specs.OutstandingFetches.{after_effects, fetching, wan
 use Rattle.engine_fetches.proofs.OpenedFetches.{open_asked, opens_after, opens_further, opens_left}
 use Rattle.engine_outbox.specs.declared.output.Work.TheVariants as work
 use Rattle.engine_outbox.specs.CertificateCalls.{certificate_call}
-use Rattle.engine_planner.specs.declared.plan.builds.Building.{Building}
+use Rattle.engine_planner.specs.declared.plan.builds.PendingBuild.{PendingBuild}
 use Rattle.engine_planner.specs.declared.plan.early.Early.{Early}
 use Rattle.engine_planner.specs.declared.plan.Plan.{Plan}
 use Rattle.engine_planner.specs.declared.plan.Step.{Step}
@@ -48,7 +48,7 @@ use Rattle.engine_planner.specs.Causes.{Cause, WorkItem, MissingCertificate, Arr
 use Rattle.engine_planner.specs.PlanStates.{HasPlanned, touching, watching}
 use Rattle.engine_planner.specs.PlannedWork.{AreAmong}
 use Rattle.engine_planner.proofs.PlannedWork.{among_all, among_both, among_further, among_more, among_still}
-use Rattle.engine_planner.proofs.Causes.{among_each, among_last, among_none, asking_all, asking_of, blocks_left, built, each_part, fetches_alone, in_blocks, in_early, in_fetches, in_steps, more_steps, no_other, notarizations, of_blocks-append, of_steps-append, planned_alone, planned_more, repair_left, same_plan, still_blocks, still_early, still_fetches, stopping_of, told_blocks}
+use Rattle.engine_planner.proofs.Causes.{among_each, among_last, among_none, asking_all, asking_of, blocks_left, built, each_part, fetches_alone, in_blocks, in_early, in_fetches, in_steps, more_steps, no_other, notarizations, of_blocks-append, of_steps-append, planned_alone, planned_more, repair_left, same_plan, still_blocks, still_early, still_fetches, stopping_of, replied_blocks}
 
 -- ---- other views
 
@@ -91,12 +91,12 @@ module _ {S D K G C : Type 0} where
       (among_further (among_all (of_steps-append (touching view) (asking ++ offers) ∙ of_steps-append asking offers))
       (among_each (among_further (asking_all view builds) (in_blocks old))
       (among_further (offered view early) (in_early old)))))
-      (among_further (among_all (ap of_blocks is.blocks ∙ told_blocks view builds)) (in_blocks old))
+      (among_further (among_all (ap of_blocks is.blocks ∙ replied_blocks view builds)) (in_blocks old))
       (among_further (among_all (ap of_early is.early))
       (among_further (early_left (λ (e : Early D). nat_lt view e.view) early) (in_early old)))
       (still_fetches old new (ap (λ (p : Plan S D K G C). p.repair) is.same))
     where
-      builds : List (Building D K)
+      builds : List (PendingBuild D K)
       builds = old.builds.buildings.items
 
       early : List (Early D)
@@ -129,7 +129,7 @@ module _ {S D K G C : Type 0} where
   asked_of_peer None = refl
   asked_of_peer (Some ask) = refl
 
-  watched_none : (current : ℕ) (builds : List (Building D K))
+  watched_none : (current : ℕ) (builds : List (PendingBuild D K))
       → of_steps {S = S} {D = D} {K = K} {G = G} {C = C} (watching_all current builds) ≡ []
   watched_none current [] = refl
   watched_none current (b ∷ builds) = one (nat_lt b.context.round.view current) ∙ watched_none current builds
@@ -141,7 +141,7 @@ module _ {S D K G C : Type 0} where
       one true = refl
       one false = refl
 
-  watched_where : (b : Bool) (current : ℕ) (builds : List (Building D K))
+  watched_where : (b : Bool) (current : ℕ) (builds : List (PendingBuild D K))
       → of_steps {S = S} {D = D} {K = K} {G = G} {C = C} (watching_where b current builds) ≡ []
   watched_where true current builds = watched_none current builds
   watched_where false current builds = refl
@@ -214,14 +214,14 @@ module _ {S D K G C : Type 0} where
       each_part new
       (among_further (among_all (ap (λ (p : Plan S D K G C). of_steps p.steps.items) is.same)) (in_steps old))
       (among_further (among_all (ap of_blocks is.blocks))
-      (among_further (blocks_left (λ (b : Building D K). not (b.context.round.view == view))
+      (among_further (blocks_left (λ (b : PendingBuild D K). not (b.context.round.view == view))
       old.builds.buildings.items) (in_blocks old)))
       (still_early old new (ap (λ (p : Plan S D K G C). p.early) is.same))
       (still_fetches old new (ap (λ (p : Plan S D K G C). p.repair) is.same))
 
   left_blocks : (view : ℕ) (plan : Plan S D K G C)
       → AreAmong (of_blocks (all_but_at view plan.builds.buildings.items)) (planned_causes plan)
-  left_blocks view plan = among_further (blocks_left (λ (b : Building D K). not (b.context.round.view == view))
+  left_blocks view plan = among_further (blocks_left (λ (b : PendingBuild D K). not (b.context.round.view == view))
       plan.builds.buildings.items) (in_blocks plan)
 
   stopped : (view : ℕ) (old new : Plan S D K G C) → IsStopped view old new
@@ -399,9 +399,9 @@ module _ {S D K G C : Type 0} where
       (among_further (among_last offers lacks) (among_last (planned_causes old) (offers ++ lacks))))))
 
   -- the resolver received it
-  told_fetches : {moment : ℕ} {call : Call} {old new : Repair} → IsRepaired moment call old new
+  replied_fetches : {moment : ℕ} {call : Call} {old new : Repair} → IsRepaired moment call old new
       → AreAmong {A = Cause S D K G C} (of_repair new) (of_repair old)
-  told_fetches {moment = moment} {call = call} {old = old} {new = new} is =
+  replied_fetches {moment = moment} {call = call} {old = old} {new = new} is =
       let es = effects old.resolver.state call in
       among_further (among_all (ap (of_fetches new.resolver.open_fetches) is.fetches_now))
       (no_other old.resolver.open_fetches new.resolver.open_fetches old.fetches.wanted.items
@@ -424,7 +424,7 @@ module _ {S D K G C : Type 0} where
     verdict_above true is_success notarization old new is = same_plan is
     verdict_above false is_success notarization old new is =
         among_further (planned_alone {old = watching (record old { repair = new.repair })} refl is.planned)
-        (repaired_alone old (record old { repair = new.repair }) refl (told_fetches is.repaired))
+        (repaired_alone old (record old { repair = new.repair }) refl (replied_fetches is.repaired))
 
     verdict_on : (is_success : Bool) (notarization : Option (Notarization S D K G C)) (old new : Plan S D K G C)
         → IsVerdictFollowed bytes bytes_of now is_success notarization old new
@@ -486,14 +486,14 @@ module _ {S D K G C : Type 0} where
     followed_by asked call reply.Unit old new is = gives_anyway old new [] (same_plan is)
 
     -- so is the answer to a certificate
-    told_on : (told : Certificate S D K G C) (old : Plan S D K G C) (repair : Repair)
-        → IsResolverNotified bytes bytes_of now told old repair
+    replied_on : (replied : Certificate S D K G C) (old : Plan S D K G C) (repair : Repair)
+        → IsResolverNotified bytes bytes_of now replied old repair
         → AreAmong {A = Cause S D K G C} (of_repair repair) (of_repair old.repair)
-    told_on told old repair is =
+    replied_on replied old repair is =
         among_further (among_all (ap (of_fetches repair.resolver.open_fetches) is.fetched))
         (no_other old.repair.resolver.open_fetches repair.resolver.open_fetches old.repair.fetches.wanted.items
-        (without told (after_effects moment es old.repair.fetches.wanted.items))
-        (by_certificate told old.repair.resolver.open_fetches repair.resolver.open_fetches
+        (without replied (after_effects moment es old.repair.fetches.wanted.items))
+        (by_certificate replied old.repair.resolver.open_fetches repair.resolver.open_fetches
         old.repair.fetches.wanted.items (after_effects moment es old.repair.fetches.wanted.items)
         (opens_after moment old.repair.resolver.open_fetches repair.resolver.open_fetches es
         old.repair.fetches.wanted.items is.made.applied)))
@@ -502,10 +502,10 @@ module _ {S D K G C : Type 0} where
         moment = later bytes bytes_of now old
 
         es : List Effect
-        es = effects_due bytes bytes_of now told old
+        es = effects_due bytes bytes_of now replied old
 
-        by_certificate : (told : Certificate S D K G C) (before now : List ℕ) (xs ys : List Fetch)
-            → OpensNoOther before xs now ys → OpensNoOther before xs now (without told ys)
+        by_certificate : (replied : Certificate S D K G C) (before now : List ℕ) (xs ys : List Fetch)
+            → OpensNoOther before xs now ys → OpensNoOther before xs now (without replied ys)
         by_certificate (certificate.Notarization n) before now xs ys opens =
             opens_further before now now xs ys _ opens
             (opens_left now ys (λ f. not (is_of fetch.Notarization n.proposal.round.view f)))
@@ -517,7 +517,7 @@ module _ {S D K G C : Type 0} where
     taken_above true accepted old new is = same_plan is
     taken_above false accepted old new is =
         among_further (planned_alone {old = watching (record old { repair = new.repair })} refl is.planned)
-        (repaired_alone old (record old { repair = new.repair }) refl (told_on accepted old new.repair is.heard))
+        (repaired_alone old (record old { repair = new.repair }) refl (replied_on accepted old new.repair is.notified))
 
     new_on : (b : Bool) (taken : Certificate S D K G C) (old new : Plan S D K G C)
         → IsNewFollowed bytes bytes_of now b taken old new → AreAmong (planned_causes new) (planned_causes old)

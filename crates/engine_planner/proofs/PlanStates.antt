@@ -20,9 +20,9 @@ module _ {S D K G C : Type 0} where
   pub stopped : (view : ℕ) (is_reported : Bool) (old mid new : Plan S D K G C)
       → is_reported ≡ list_any (is_asked_at view) old.builds.buildings.items → IsEnded view old mid
       → HasPlanned (stopping view is_reported) mid new → IsStopped view old new
-  stopped view is_reported old mid new told ended planned = record {
+  stopped view is_reported old mid new replied ended planned = record {
     steps = planned.steps ∙ ap (λ (p : Plan S D K G C). p.steps.items ++ stopping view is_reported) ended.same
-        ∙ ap (λ b. old.steps.items ++ stopping view b) told;
+        ∙ ap (λ b. old.steps.items ++ stopping view b) replied;
     blocks = ap (λ (p : Plan S D K G C). p.builds.buildings.items) planned.same ∙ ended.blocks;
     same = planned.same ∙ ap (λ (p : Plan S D K G C). record p { steps = new.steps }) ended.same
         ∙ ap (λ b. record old { steps = new.steps; builds = b })

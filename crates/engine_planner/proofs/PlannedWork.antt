@@ -17,7 +17,7 @@ use Rattle.engine_fetches.specs.Repairs.{HasFetches, HasPassed}
 use Rattle.simplex_member.specs.Calls.{ReplyFacts}
 use Rattle.engine_outbox.specs.declared.output.Work.{Work}
 use Rattle.engine_outbox.specs.declared.output.Work.TheVariants as work
-use Rattle.engine_planner.specs.declared.plan.builds.Building.{Building}
+use Rattle.engine_planner.specs.declared.plan.builds.PendingBuild.{PendingBuild}
 use Rattle.engine_planner.specs.declared.plan.Plan.{Plan}
 use Rattle.engine_planner.specs.declared.plan.Step.{Step}
 use Rattle.engine_planner.specs.declared.plan.Step.TheVariants as step
@@ -131,8 +131,8 @@ module _ {S D K G C : Type 0} where
       → has_block works was view ≡ true → has_block planned is view ≡ true
   has_further {works = works} {planned = planned} was is view among waiting has =
       elim (or_cases (list_any (is_build_of view) works) (awaits was view) has) [
-        | inl told ↦ or_left (list_any (is_build_of view) planned) (awaits is view)
-            (among.found (is_build_of view) told)
+        | inl replied ↦ or_left (list_any (is_build_of view) planned) (awaits is view)
+            (among.found (is_build_of view) replied)
         | inr waits ↦ waiting waits
       ]
 
@@ -239,7 +239,7 @@ module _ {S D K G C : Type 0} where
     found = among_further (among_all (append-nil (work_planned old.steps.items)))
         (planned_behind old.steps.items new.steps.items (asking_for context is_reported) is.steps);
     building = λ other waits un. elim (cases_Bool (context.round.view == other)) [
-      | inl at ↦ by_told is_reported refl other at
+      | inl at ↦ by_replied is_reported refl other at
       | inr differs ↦ (elim (or_cases (context.round.view == other || false) (awaits (beside_of old) other) waits) [
         | inl at ↦ absurd (no_other other differs at)
         | inr before ↦ by_waiting other differs
@@ -251,7 +251,7 @@ module _ {S D K G C : Type 0} where
           let still = all_but_at context.round.view old.builds.buildings.items in
           elim (any_either test (views_built still) (context.round.view ∷ [])
           (ap (list_any test)
-          (sym (map-append (λ (building : Building D K). building.context.round.view) still (block ∷ [])))
+          (sym (map-append (λ (building : PendingBuild D K). building.context.round.view) still (block ∷ [])))
           ∙ ap (λ builds. list_any test (views_built builds)) (sym is.blocks) ∙ some)) [
             | inl before ↦ any_right test (context.round.view ∷ []) (views_built old.builds.buildings.items)
                 (views_left test context.round.view old.builds.buildings.items before)
@@ -263,7 +263,7 @@ module _ {S D K G C : Type 0} where
     ignored = ap (λ (plan : Plan S D K G C). plan.ignored) is.same;
   }
     where
-      block : Building D K
+      block : PendingBuild D K
       block = record { context = context; is_reported = is_reported }
 
       no_other : (other : ℕ) → (context.round.view == other) ≡ false → (context.round.view == other || false) ≡ true → ⊥
@@ -272,21 +272,21 @@ module _ {S D K G C : Type 0} where
       alone_still : new.is_alone ≡ old.is_alone
       alone_still = ap (λ (plan : Plan S D K G C). plan.is_alone) is.same
 
-      planned : (told : Bool) → is_reported ≡ told
+      planned : (replied : Bool) → is_reported ≡ replied
           → work_planned new.steps.items ≡ work_planned old.steps.items ++ work_planned
-          (asking_for {S = S} {D = D} {K = K} {G = G} {C = C} context told)
-      planned told now = planned_now old.steps.items new.steps.items (asking_for context told)
+          (asking_for {S = S} {D = D} {K = K} {G = G} {C = C} context replied)
+      planned replied now = planned_now old.steps.items new.steps.items (asking_for context replied)
           (is.steps ∙ ap (λ t. old.steps.items ++ asking_for context t) now)
 
       -- the block that is requested
-      by_told : (told : Bool) → is_reported ≡ told → (other : ℕ) → (context.round.view == other) ≡ true
+      by_replied : (replied : Bool) → is_reported ≡ replied → (other : ℕ) → (context.round.view == other) ≡ true
           → has_block (work_planned new.steps.items) (beside_of new) other ≡ true
-      by_told true now other at =
+      by_replied true now other at =
           or_left (list_any (is_build_of other) (work_planned new.steps.items)) (awaits (beside_of new) other)
           (ap (list_any (is_build_of other)) (planned true now)
           ∙ any_right (is_build_of other) (work_planned old.steps.items) (work.Build context ∷ [])
           (or_left (context.round.view == other) false at))
-      by_told false now other at =
+      by_replied false now other at =
           or_right (list_any (is_build_of other) (work_planned new.steps.items)) (awaits (beside_of new) other)
           (and_from new.is_alone _ (alone_still ∙ alone now)
           (ap (list_any (waits_for other)) is.blocks
@@ -382,43 +382,43 @@ module _ {S D K G C : Type 0} where
   plans_opened opened kept old new (Ok x) is opens refuses = plans_repaired old new is opens.peers opens.retry
   plans_opened opened kept old new (Err e) is opens refuses = plans_repaired old new is refuses.peers refuses.retry
 
-  pub plans_let_go : {X : Type 0} (view : ℕ) (kept : List Fetch) (old new : Plan S D K G C) (r : Result X Fault)
+  pub plans_dropped : {X : Type 0} (view : ℕ) (kept : List Fetch) (old new : Plan S D K G C) (r : Result X Fault)
       → new ≡ record old { repair = new.repair } → OnOk r (HasPassed view kept old.repair new.repair)
       → IfErr r (λ fault. (fault ≡ Failed) × (new ≡ old)) → KeepsPlanned old new
-  plans_let_go view kept old new (Ok x) is closes refuses = plans_repaired old new is closes.peers closes.retry
-  plans_let_go view kept old new (Err e) is closes refuses = plans_same old new refuses.1
+  plans_dropped view kept old new (Ok x) is closes refuses = plans_repaired old new is closes.peers closes.retry
+  plans_dropped view kept old new (Err e) is closes refuses = plans_same old new refuses.1
 
   pub plans_begun : (old new : Plan S D K G C) → new ≡ record old { is_timeout_due = true; is_prune_due = true }
       → KeepsPlanned old new
   plans_begun old new is = plans_beside old (record old { is_timeout_due = true; is_prune_due = true }) new is refl refl
 
   -- what is planned after a change of something else
-  pub plans_then : (a b c : Plan S D K G C) (asked : Task D) (told : ReplyFacts K D) → KeepsPlanned a b
-      → PlansAnswer asked told b c → PlansAnswer asked told a c
-  plans_then a b c asked told first second = record {
+  pub plans_then : (a b c : Plan S D K G C) (asked : Task D) (replied : ReplyFacts K D) → KeepsPlanned a b
+      → PlansAnswer asked replied b c → PlansAnswer asked replied a c
+  plans_then a b c asked replied first second = record {
     early = early_further (beside_of a) (beside_of b) (beside_of c) first.early second.early second.reached;
-    found = among_further (among_both first.found (among_still (work_of told))) second.found;
+    found = among_further (among_both first.found (among_still (work_of replied))) second.found;
     building = λ view waits un.
-        elim (or_cases (list_any (λ v. v == view) (views_requested told)) (awaits (beside_of a) view) waits) [
+        elim (or_cases (list_any (λ v. v == view) (views_requested replied)) (awaits (beside_of a) view) waits) [
           | inl now ↦ second.building view
-              (or_left (list_any (λ v. v == view) (views_requested told)) (awaits (beside_of b) view) now) un
+              (or_left (list_any (λ v. v == view) (views_requested replied)) (awaits (beside_of b) view) now) un
           | inr before ↦ has_further (beside_of b) (beside_of c) view
-              (among_further (among_more (work_planned b.steps.items) (work_of told)) second.found)
-              (λ left. second.building view (or_right (list_any (λ v. v == view) (views_requested told))
+              (among_further (among_more (work_planned b.steps.items) (work_of replied)) second.found)
+              (λ left. second.building view (or_right (list_any (λ v. v == view) (views_requested replied))
               (awaits (beside_of b) view) left) un) (first.building view before refl)
         ];
-    views = among_further second.views (among_both (among_still (views_requested told)) first.views);
+    views = among_further second.views (among_both (among_still (views_requested replied)) first.views);
     reached = second.reached ∙ first.reached;
     constants = second.constants ∙ first.constants;
     ignored = second.ignored ∙ first.ignored;
   }
 
   -- where other views were come to before the first
-  pub plans_seen : (a b c : Plan S D K G C) (asked : Task D) (told : ReplyFacts K D) → KeepsPlannedThen a b
-      → PlansAnswer asked told b c → PlansAnswerThen asked told a c
-  plans_seen a b c asked told first second =
-      subst (λ views. PlansAnswer asked told (record a { views = views }) c) (sym second.reached)
-      (plans_then (record a { views = b.views }) b c asked told first second)
+  pub plans_seen : (a b c : Plan S D K G C) (asked : Task D) (replied : ReplyFacts K D) → KeepsPlannedThen a b
+      → PlansAnswer asked replied b c → PlansAnswerThen asked replied a c
+  plans_seen a b c asked replied first second =
+      subst (λ views. PlansAnswer asked replied (record a { views = views }) c) (sym second.reached)
+      (plans_then (record a { views = b.views }) b c asked replied first second)
 
   pub keeps_seen : (a b c : Plan S D K G C) → KeepsPlannedThen a b → KeepsPlanned b c → KeepsPlannedThen a c
   keeps_seen a b c first second = subst (λ views. KeepsPlanned (record a { views = views }) c) (sym second.reached)

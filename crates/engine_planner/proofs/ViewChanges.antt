@@ -10,12 +10,12 @@ use Rattle.engine_planner.specs.declared.plan.Step.{Step}
 use Rattle.engine_planner.specs.declared.plan.Views.{Views}
 use Rattle.engine_planner.specs.declared.plan.early.Early.{Early}
 use Rattle.engine_planner.specs.BuildPlans.{asking_for, HasBuilds}
-use Rattle.engine_planner.specs.declared.plan.builds.Building.{Building}
-use Rattle.engine_planner.specs.Blocks.{has_waited, told_by, views_built, waits_for}
+use Rattle.engine_planner.specs.declared.plan.builds.PendingBuild.{PendingBuild}
+use Rattle.engine_planner.specs.Blocks.{has_waited, reported_by, views_built, waits_for}
 use Rattle.engine_planner.specs.ViewChanges.{asking_by, offering, HasEntered, HasEnteredWhere, IsPassedWhere, HasSeen}
 use Rattle.engine_planner.specs.PlanStates.{HasPlanned, touching, watching}
 use Rattle.engine_planner.specs.PlannedWork.{awaits, beside_of, is_early, constants_of, is_build_of, work_planned, KeepsPlanned, KeepsPlannedThen}
-use Rattle.engine_planner.proofs.Blocks.{views_told}
+use Rattle.engine_planner.proofs.Blocks.{views_replied}
 use Rattle.engine_planner.proofs.PlannedWork.{among_all, any_left, any_right, keeps_further, planned-append, planned_behind, plans_beside, plans_same, repaired_beside}
 
 -- what some result in, one after the other, is queued up to one more of them
@@ -44,11 +44,11 @@ module _ (S G C : Type 0) {K D : Type 0} where
   is_asked other steps = list_any (is_build_of {S = S} {D = D} {K = K} {G = G} {C = C} other) (work_planned steps)
 
   -- a block that waits is asked for, or waits still
-  abbrev AsksOrWaits : ℕ → ℕ → List (Building D K) → Type 0
+  abbrev AsksOrWaits : ℕ → ℕ → List (PendingBuild D K) → Type 0
   AsksOrWaits view other builds =
-      (is_asked other (asking_by view builds) || list_any (waits_for other) (map (told_by view) builds)) ≡ true
+      (is_asked other (asking_by view builds) || list_any (waits_for other) (map (reported_by view) builds)) ≡ true
 
-  asked_or_waits : (view other : ℕ) (builds : List (Building D K)) → list_any (waits_for other) builds ≡ true
+  asked_or_waits : (view other : ℕ) (builds : List (PendingBuild D K)) → list_any (waits_for other) builds ≡ true
       → AsksOrWaits view other builds
   asked_or_waits view other [] waits = waits
   asked_or_waits view other (b ∷ rest) waits =
@@ -56,40 +56,42 @@ module _ (S G C : Type 0) {K D : Type 0} where
         | inl this ↦ (let parts = and_parts (not b.is_reported) (b.context.round.view == other) this in
             by_time (nat_le b.context.round.view view) refl (not-true b.is_reported parts.0) parts.1)
         | inr that ↦ elim (or_cases (is_asked other (asking_by view rest))
-            (list_any (waits_for other) (map (told_by view) rest)) (asked_or_waits view other rest that)) [
+            (list_any (waits_for other) (map (reported_by view) rest)) (asked_or_waits view other rest that)) [
               | inl is ↦ or_left (is_asked other (asking_by view (b ∷ rest)))
-                  (list_any (waits_for other) (map (told_by view) (b ∷ rest)))
+                  (list_any (waits_for other) (map (reported_by view) (b ∷ rest)))
                   (ap (list_any (is_build_of {S = S} {D = D} {K = K} {G = G} {C = C} other))
                   (planned-append (asking_for b.context (has_waited view b)) (asking_by view rest))
                   ∙ any_right (is_build_of {S = S} {D = D} {K = K} {G = G} {C = C} other)
                   (work_planned (asking_for b.context (has_waited view b))) (work_planned (asking_by view rest)) is)
               | inr is ↦ or_right (is_asked other (asking_by view (b ∷ rest)))
-                  (list_any (waits_for other) (map (told_by view) (b ∷ rest)))
-                  (or_right (waits_for other (told_by view b)) (list_any (waits_for other) (map (told_by view) rest))
+                  (list_any (waits_for other) (map (reported_by view) (b ∷ rest)))
+                  (or_right (waits_for other (reported_by view b))
+                  (list_any (waits_for other) (map (reported_by view) rest))
                   is)
             ]
       ]
     where
       by_time : (in_time : Bool) → nat_le b.context.round.view view ≡ in_time → b.is_reported ≡ false
           → (b.context.round.view == other) ≡ true → AsksOrWaits view other (b ∷ rest)
-      by_time true is untold at =
+      by_time true is unreplied at =
           let waited : has_waited view b ≡ true =
-          and_from (not b.is_reported) (nat_le b.context.round.view view) (ap not untold) is in
+          and_from (not b.is_reported) (nat_le b.context.round.view view) (ap not unreplied) is in
           or_left (is_asked other (asking_by view (b ∷ rest)))
-          (list_any (waits_for other) (map (told_by view) (b ∷ rest)))
+          (list_any (waits_for other) (map (reported_by view) (b ∷ rest)))
           (ap (λ w. is_asked other (asking_for b.context w ++ asking_by view rest)) waited
           ∙ or_left (b.context.round.view == other) (is_asked other (asking_by view rest)) at)
-      by_time false is untold at =
+      by_time false is unreplied at =
           or_right (is_asked other (asking_by view (b ∷ rest)))
-          (list_any (waits_for other) (map (told_by view) (b ∷ rest)))
-          (or_left (waits_for other (told_by view b)) (list_any (waits_for other) (map (told_by view) rest))
+          (list_any (waits_for other) (map (reported_by view) (b ∷ rest)))
+          (or_left (waits_for other (reported_by view b)) (list_any (waits_for other) (map (reported_by view) rest))
           (and_from (not (b.is_reported || nat_le b.context.round.view view)) (b.context.round.view == other)
-          (ap not (or_from b.is_reported (nat_le b.context.round.view view) untold is)) at))
+          (ap not (or_from b.is_reported (nat_le b.context.round.view view) unreplied is)) at))
 
 module _ {S D K G C : Type 0} where
   -- the view is touched, and then comes what waited for it
   pub entered : (view : ℕ) (old mid then new : Plan S D K G C) → HasPlanned (touching view) (watching old) mid
-      → HasBuilds (asking_by view mid.builds.buildings.items) (map (told_by view) mid.builds.buildings.items) mid then
+      → HasBuilds (asking_by view mid.builds.buildings.items)
+      (map (reported_by view) mid.builds.buildings.items) mid then
       → new.steps.items ≡ then.steps.items ++ offering view then.early.proposals.items
       → new.early.proposals.items ≡ filter (λ (early : Early D). nat_lt view early.view) then.early.proposals.items
       → new ≡ record then { steps = new.steps; early = new.early } → HasEntered view old new
@@ -99,7 +101,7 @@ module _ {S D K G C : Type 0} where
         ∙ ap (λ s. s ++ offers) (built.steps ∙ ap (λ s. s ++ asking_by view mid.builds.buildings.items) touched.steps
         ∙ ap (λ b. (old.steps.items ++ touching view) ++ asking_by view b) were_built);
     blocks = ap (λ (p : Plan S D K G C). p.builds.buildings.items) same ∙ built.blocks
-        ∙ ap (map (told_by view)) were_built;
+        ∙ ap (map (reported_by view)) were_built;
     early = early ∙ ap (filter (λ (e : Early D). nat_lt view e.view)) was_early;
     same = same
         ∙ ap (λ (p : Plan S D K G C). record p { steps = new.steps; early = new.early }) built.same
@@ -136,7 +138,7 @@ module _ {S D K G C : Type 0} where
     building = λ other waits un.
         let parts = and_parts old.is_alone (list_any (waits_for other) old.builds.buildings.items) waits in
         elim (or_cases (list_any (is_build_of other) (work_planned asks))
-        (list_any (waits_for other) (map (told_by old.views.current) old.builds.buildings.items))
+        (list_any (waits_for other) (map (reported_by old.views.current) old.builds.buildings.items))
         (asked_or_waits S G C old.views.current other old.builds.buildings.items parts.1)) [
           | inl asked ↦ or_left (list_any (is_build_of other) (work_planned new.steps.items))
               (awaits (beside_of new) other) (all_planned other asked)
@@ -145,7 +147,7 @@ module _ {S D K G C : Type 0} where
               (and_from new.is_alone _ (ap (λ (plan : Plan S D K G C). plan.is_alone) is.same ∙ parts.0)
               (ap (list_any (waits_for other)) is.blocks ∙ left))
         ];
-    views = among_all (ap views_built is.blocks ∙ views_told old.views.current old.builds.buildings.items);
+    views = among_all (ap views_built is.blocks ∙ views_replied old.views.current old.builds.buildings.items);
     reached = ap (λ (plan : Plan S D K G C). plan.views) is.same;
     constants = ap constants_of is.same;
     ignored = ap (λ (plan : Plan S D K G C). plan.ignored) is.same;

@@ -2,7 +2,7 @@
 use Rattle.std.specs.Prelude.{◌≡◌, ℕ, Bool, List, [], ◌∷◌, ◌++◌, if◌then◌else◌}
 use Rattle.std.specs.List.{list_any}
 use Rattle.simplex_types.specs.declared.types.messages.Context.{Context}
-use Rattle.engine_planner.specs.declared.plan.builds.Building.{Building}
+use Rattle.engine_planner.specs.declared.plan.builds.PendingBuild.{PendingBuild}
 use Rattle.engine_planner.specs.declared.plan.Plan.{Plan}
 use Rattle.engine_planner.specs.declared.plan.Step.{Step}
 use Rattle.engine_planner.specs.declared.plan.Step.TheVariants.{Push}
@@ -19,7 +19,7 @@ module _ {S D K G C : Type 0} where
   asking_for context is_reported = if is_reported then Push (Build context) ∷ [] else []
 
   -- these steps are appended to those that were queued, these blocks are to be built, and nothing else has changed
-  pub record HasBuilds (more : List (Step S D K G C)) (builds : List (Building D K))
+  pub record HasBuilds (more : List (Step S D K G C)) (builds : List (PendingBuild D K))
       (old new : Plan S D K G C) : Type 0 where
     pub steps : new.steps.items ≡ old.steps.items ++ more
     pub blocks : new.builds.buildings.items ≡ builds

@@ -17,7 +17,7 @@ use Rattle.engine_fetches.specs.Fetches.{fetch_kind}
 use Rattle.engine_fetches.specs.OutstandingFetches.{wants}
 use Rattle.engine_outbox.specs.declared.output.Work.{Work}
 use Rattle.engine_outbox.specs.declared.output.Work.TheVariants.{Broadcast, Verify, Build, StopBuilding, Certify, Fetch as AskPeer, ProposedTwice}
-use Rattle.engine_planner.specs.declared.plan.builds.Building.{Building}
+use Rattle.engine_planner.specs.declared.plan.builds.PendingBuild.{PendingBuild}
 use Rattle.engine_planner.specs.declared.plan.early.Early.{Early}
 use Rattle.engine_planner.specs.declared.plan.Plan.{Plan}
 use Rattle.engine_planner.specs.declared.plan.Step.{Step}
@@ -55,7 +55,7 @@ module _ {S D K G C : Type 0} where
   abbrev pub of_block : Context D K → List (Cause S D K G C)
   of_block context = WorkItem (Build context) ∷ WorkItem (StopBuilding context.round.view) ∷ []
 
-  abbrev pub of_blocks : List (Building D K) → List (Cause S D K G C)
+  abbrev pub of_blocks : List (PendingBuild D K) → List (Cause S D K G C)
   of_blocks [] = []
   of_blocks (building ∷ rest) = of_block building.context ++ of_blocks rest
 

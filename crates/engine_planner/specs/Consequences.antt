@@ -186,20 +186,21 @@ module _ {S D K G C : Type 0} (bytes : D → List ℕ) (bytes_of : C → List �
 
   -- the resolver's effects for a certificate
   abbrev pub effects_due : Certificate S D K G C → Plan S D K G C → List Effect
-  effects_due told old = effects old.repair.resolver.state (update bytes (certificate_facts bytes_of told))
+  effects_due replied old = effects old.repair.resolver.state (update bytes (certificate_facts bytes_of replied))
 
   -- it receives one
-  pub record IsResolverNotified (told : Certificate S D K G C) (old : Plan S D K G C) (repair : Repair) : Type 0 where
-    pub made : IsMade (update bytes (certificate_facts bytes_of told)) old.repair.resolver
-        (effects_due told old) repair.resolver
-    pub fetched : repair.fetches.wanted.items ≡ without told
-        (after_effects (later old) (effects_due told old) old.repair.fetches.wanted.items)
+  pub record IsResolverNotified (replied : Certificate S D K G C) (old : Plan S D K G C)
+      (repair : Repair) : Type 0 where
+    pub made : IsMade (update bytes (certificate_facts bytes_of replied)) old.repair.resolver
+        (effects_due replied old) repair.resolver
+    pub fetched : repair.fetches.wanted.items ≡ without replied
+        (after_effects (later old) (effects_due replied old) old.repair.fetches.wanted.items)
     pub peers : repair.fetches.peers ≡ old.repair.fetches.peers
     pub retry : repair.fetches.retry ≡ old.repair.fetches.retry
 
   -- a new certificate: the resolver receives it, and something of the view has changed
   pub record IsTakenIn (accepted : Certificate S D K G C) (old new : Plan S D K G C) : Type 0 where
-    pub heard : IsResolverNotified accepted old new.repair
+    pub notified : IsResolverNotified accepted old new.repair
     pub planned : HasPlanned (touching (certificate_view accepted)) (watching (record old { repair = new.repair })) new
 
   -- the same if it is not of genesis

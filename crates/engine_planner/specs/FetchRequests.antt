@@ -107,6 +107,6 @@ received_by bytes bytes_of _ asked = []
 pub record KeepsFetching {S D K G C : Type 0} (given : List (Cause S D K G C)) (over : FetchKind → ℕ → Bool)
     (calls : List Call) (old new : Plan S D K G C)
     : Type 0 where
-  pub told : AreMade old.repair.resolver calls new.repair.resolver
+  pub received : AreMade old.repair.resolver calls new.repair.resolver
   pub still : IsStill (with_missing_certificate (asks old) given)
       (λ kind view. over kind view || ended_by old.repair.resolver.state calls kind view) (asks new)

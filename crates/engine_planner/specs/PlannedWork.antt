@@ -13,7 +13,7 @@ use Rattle.engine_planner.specs.declared.plan.Step.{Step}
 use Rattle.engine_planner.specs.declared.plan.Step.TheVariants.{Push}
 use Rattle.engine_planner.specs.declared.plan.Views.{Views}
 use Rattle.engine_planner.specs.declared.plan.early.Early.{Early}
-use Rattle.engine_planner.specs.declared.plan.builds.Building.{Building}
+use Rattle.engine_planner.specs.declared.plan.builds.PendingBuild.{PendingBuild}
 use Rattle.engine_planner.specs.declared.task.Task.{Task}
 use Rattle.engine_planner.specs.Blocks.{views_built, waits_for}
 use Rattle.engine_planner.specs.Consequences.{Consequence, Nothing, Built, Stopped, Ended, after_flag, after_watch, after_refusal}
@@ -48,7 +48,7 @@ module _ {K D : Type 0} where
 
   -- so nothing is built in this view any more
   abbrev pub ends : Task D → ReplyFacts K D → ℕ → Bool
-  ends asked told = ended_in (consequence_of asked told)
+  ends asked replied = ended_in (consequence_of asked replied)
 
   -- the view of the block that a reply requests
   abbrev pub views_requested : ReplyFacts K D → List ℕ
@@ -86,7 +86,7 @@ module _ {S D K G C : Type 0} where
 -- lifetime, and how many inputs were ignored
 pub record Beside (K D : Type 0) : Type 0 where
   pub reached : Views
-  pub blocks : List (Building D K)
+  pub blocks : List (PendingBuild D K)
   pub early : List (Early D)
   pub constants : Constants
   pub ignored : ℕ
@@ -141,11 +141,12 @@ module _ {S D K G C : Type 0} where
 
   -- what the reply to a task asks for is planned too
   abbrev pub PlansAnswer : Task D → ReplyFacts K D → Plan S D K G C → Plan S D K G C → Type 0
-  PlansAnswer asked told old new =
-      IsPlanned (views_requested told) (ends asked told) (work_planned old.steps.items ++ work_of told) (beside_of old)
+  PlansAnswer asked replied old new =
+      IsPlanned (views_requested replied) (ends asked replied) (work_planned old.steps.items ++ work_of replied)
+      (beside_of old)
       (work_planned new.steps.items)
       (beside_of new)
 
   -- the same after the views changed
   abbrev pub PlansAnswerThen : Task D → ReplyFacts K D → Plan S D K G C → Plan S D K G C → Type 0
-  PlansAnswerThen asked told old new = PlansAnswer asked told (record old { views = new.views }) new
+  PlansAnswerThen asked replied old new = PlansAnswer asked replied (record old { views = new.views }) new

@@ -3,7 +3,7 @@ use Rattle.std.specs.Prelude.{◌≡◌, ℕ, nat_lt, Bool, true, false, List, [
 use Rattle.engine_fetches.specs.declared.fetches.Ask.{Ask}
 use Rattle.engine_fetches.specs.Requests.{IsAsking}
 use Rattle.engine_outbox.specs.declared.output.Work.TheVariants.{Fetch}
-use Rattle.engine_planner.specs.declared.plan.builds.Building.{Building}
+use Rattle.engine_planner.specs.declared.plan.builds.PendingBuild.{PendingBuild}
 use Rattle.engine_planner.specs.declared.plan.Plan.{Plan}
 use Rattle.engine_planner.specs.declared.plan.Step.{Step}
 use Rattle.engine_planner.specs.declared.plan.Step.TheVariants as step
@@ -12,18 +12,18 @@ use Rattle.engine_planner.specs.declared.task.Task.TheVariants.{PendingHandoffAb
 use Rattle.engine_planner.specs.PlanStates.{HasPlanned}
 
 -- a block of a view below the current one is abandoned; for another the member is asked whether it must be
-abbrev pub watching_one : {K D : Type 0} → ℕ → Building D K → Task D
+abbrev pub watching_one : {K D : Type 0} → ℕ → PendingBuild D K → Task D
 watching_one current building =
     let view = building.context.round.view in
     if nat_lt view current then ReleaseProposalRequest view else PendingHandoffAbandonment view
 
 module _ {S D K G C : Type 0} where
   -- the same for each block to build
-  abbrev pub watching_all : ℕ → List (Building D K) → List (Step S D K G C)
-  watching_all current builds = map (λ (building : Building D K). step.Ask (watching_one current building)) builds
+  abbrev pub watching_all : ℕ → List (PendingBuild D K) → List (Step S D K G C)
+  watching_all current builds = map (λ (building : PendingBuild D K). step.Ask (watching_one current building)) builds
 
   -- the same if something has changed since the last time
-  abbrev pub watching_where : Bool → ℕ → List (Building D K) → List (Step S D K G C)
+  abbrev pub watching_where : Bool → ℕ → List (PendingBuild D K) → List (Step S D K G C)
   watching_where is_due current builds = if is_due then watching_all current builds else []
 
   -- a fetch is asked for

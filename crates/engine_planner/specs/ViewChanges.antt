@@ -3,19 +3,19 @@ use Rattle.std.specs.Prelude.{◌≡◌, ℕ, Bool, true, false, not, ◌==◌, 
 use Rattle.engine_fetches.specs.declared.repair.Repair.{Repair}
 use Rattle.engine_fetches.specs.Fetches.{passed}
 use Rattle.engine_fetches.specs.Repairs.{HasPassed}
-use Rattle.engine_planner.specs.declared.plan.builds.Building.{Building}
+use Rattle.engine_planner.specs.declared.plan.builds.PendingBuild.{PendingBuild}
 use Rattle.engine_planner.specs.declared.plan.Plan.{Plan}
 use Rattle.engine_planner.specs.declared.plan.Step.{Step}
 use Rattle.engine_planner.specs.declared.plan.Step.TheVariants.{Offer}
 use Rattle.engine_planner.specs.declared.plan.Views.{Views}
 use Rattle.engine_planner.specs.declared.plan.early.Early.{Early}
-use Rattle.engine_planner.specs.Blocks.{has_waited, told_by}
+use Rattle.engine_planner.specs.Blocks.{has_waited, reported_by}
 use Rattle.engine_planner.specs.BuildPlans.{asking_for}
 use Rattle.engine_planner.specs.PlanStates.{touching, watching}
 
 module _ {S D K G C : Type 0} where
   -- the application is asked for the blocks that have waited
-  abbrev pub asking_by : ℕ → List (Building D K) → List (Step S D K G C)
+  abbrev pub asking_by : ℕ → List (PendingBuild D K) → List (Step S D K G C)
   asking_by view [] = []
   asking_by view (building ∷ rest) = asking_for building.context (has_waited view building) ++ asking_by view rest
 
@@ -32,7 +32,7 @@ module _ {S D K G C : Type 0} where
   pub record HasEntered (view : ℕ) (old new : Plan S D K G C) : Type 0 where
     pub steps : new.steps.items ≡ old.steps.items ++ touching view ++ asking_by view old.builds.buildings.items
         ++ offering view old.early.proposals.items
-    pub blocks : new.builds.buildings.items ≡ map (told_by view) old.builds.buildings.items
+    pub blocks : new.builds.buildings.items ≡ map (reported_by view) old.builds.buildings.items
     pub early : new.early.proposals.items ≡ filter (λ (early : Early D). nat_lt view early.view)
         old.early.proposals.items
     pub same : new ≡ record (watching old) { steps = new.steps; builds = new.builds; early = new.early }

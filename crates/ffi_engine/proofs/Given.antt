@@ -52,14 +52,14 @@ traced_given out before r old new traced (inl it) alive =
 traced_given out before r old new traced (inr it) alive = absurd (false≢true (sym alive ∙ it.0))
 
 -- what the member waits for is not lost
-pub has_told : (out : HostOutput) (before : FlatStored) (r : FlatOutput) (old new : HeldEngine)
+pub has_replied : (out : HostOutput) (before : FlatStored) (r : FlatOutput) (old new : HeldEngine)
     → ((given : List HostOutput) → HasReportedAll given old.engine → HasReportedAll (given ++ out ∷ []) new.engine)
     → IsReturned out before r new
     → new.is_lost ≡ false → (given : List HostOutput) → HasReportedAll given old.engine
     → HasReportedAll (given ++ option_to_list new.last) new.engine
-has_told out before r old new tells (inl it) alive given told =
-    subst (λ last. HasReportedAll (given ++ option_to_list last) new.engine) (sym it.0.last) (tells given told)
-has_told out before r old new tells (inr it) alive given told = absurd (false≢true (sym alive ∙ it.0))
+has_replied out before r old new tells (inl it) alive given reported =
+    subst (λ last. HasReportedAll (given ++ option_to_list last) new.engine) (sym it.0.last) (tells given reported)
+has_replied out before r old new tells (inr it) alive given reported = absurd (false≢true (sym alive ∙ it.0))
 
 -- and no work is lost
 pub works_given : (out : HostOutput) (before : FlatStored) (r : FlatOutput) (old new : HeldEngine)

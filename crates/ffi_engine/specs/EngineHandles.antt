@@ -43,7 +43,7 @@ use Rattle.ffi_engine.specs.declared.flat.FlatInput.{FlatInput}
 use Rattle.ffi_engine.specs.declared.flat.FlatOutput.{FlatOutput}
 use Rattle.ffi_engine.specs.declared.flat.FlatTaken.{FlatTaken}
 use Rattle.ffi_engine.specs.declared.input_kind.InputKind.TheVariants as of
-use Rattle.ffi_engine.specs.Inputs.{PassesBytes, HasInputNumbers, HostInput, IsNoInput, IsToldAs, input_number}
+use Rattle.ffi_engine.specs.Inputs.{PassesBytes, HasInputNumbers, HostInput, IsNoInput, IsPassedAs, input_number}
 use Rattle.ffi_engine.specs.Outputs.{HasOutputOf, HostEngine, HostOutput, other_signature, first_bytes_in}
 
 -- nothing was returned or loaded yet, and nothing is lost
@@ -128,7 +128,7 @@ pub record IsInputPassed (now : ℕ) (old : HeldEngine) (f : FlatInput) (bytes :
     (new : HeldEngine) : Type 0 where
   pub input : HostInput
   pub numbers : HasInputNumbers f
-  pub is_reported : IsToldAs f bytes input
+  pub is_reported : IsPassedAs f bytes input
   pub taken : Takes now input old r new
 
 -- the input was passed to the engine, or nothing was
@@ -237,7 +237,8 @@ pub record IsAsked (now : ℕ) (old : HeldEngine) (r : FlatOutput) (new : HeldEn
   -- the output is appended to all that were returned
   pub given : (given : List HostOutput) → IsAllReturned given old → IsAllReturned (given ++ option_to_list new.last) new
   -- no other proposal is queued to be reported as final
-  pub told : new.is_lost ≡ false → ReportsNoMore (option_to_list new.last) old.engine.core.outbox new.engine.core.outbox
+  pub reported : new.is_lost ≡ false
+      → ReportsNoMore (option_to_list new.last) old.engine.core.outbox new.engine.core.outbox
   -- what the member has done traces the output
   pub traced : new.is_lost ≡ false
       → EmitsOn same_host_payload host_leader certificate_bytes (IsOrder bytes_in_digest) None (option_to_list new.last)

@@ -54,7 +54,7 @@ pub record HasReturnedNothing (f : FlatSettings) (held : HeldEngine) : Type 0 wh
   pub signed : BeginsSigned (IsOrder bytes_in_digest) held.engine.core.member held.engine.core
   pub whole : IsWhole certificate_bytes held.engine.core
   pub queued : BeginsWith certificate_bytes held.engine.core.member held.engine.core.outbox.queue.items
-  pub told : ReportsNothing held.engine.core
+  pub reported : ReportsNothing held.engine.core
   pub bounded : HoldsNoneAhead host_keys held.engine.core held.engine.batcher
   pub due_work : HasReportedAll [] held.engine
   pub none_at_hand : pending_causes held.engine ≡ []

@@ -83,19 +83,19 @@ abbrev pub IsNoInputKind : ℕ → Type 0
 IsNoInputKind number = (number ≡ 0) ⊎ (8 ≤ number)
 
 -- the input that a flat one represents, with these bytes
-abbrev pub IsToldAs : FlatInput → List ℕ → HostInput → Type 0
-IsToldAs f bytes (input.Proposal from q) =
+abbrev pub IsPassedAs : FlatInput → List ℕ → HostInput → Type 0
+IsPassedAs f bytes (input.Proposal from q) =
     (f.kind ≡ input_number of.Proposal) × (from ≡ f.subject.member) × IsFlatProposal f.subject.proposal q
-IsToldAs f bytes (input.Vote v) = (f.kind ≡ input_number of.Vote) × IsVote f.subject bytes v
-IsToldAs f bytes (input.Certificate c) = (f.kind ≡ input_number of.Certificate) × IsCertificate f.subject bytes c
-IsToldAs f bytes (input.Verified v success) =
+IsPassedAs f bytes (input.Vote v) = (f.kind ≡ input_number of.Vote) × IsVote f.subject bytes v
+IsPassedAs f bytes (input.Certificate c) = (f.kind ≡ input_number of.Certificate) × IsCertificate f.subject bytes c
+IsPassedAs f bytes (input.Verified v success) =
     (f.kind ≡ input_number of.Verified) × (v ≡ f.view) × (flag_number success ≡ f.success)
-IsToldAs f bytes (input.Built c payload) =
+IsPassedAs f bytes (input.Built c payload) =
     (f.kind ≡ input_number of.Built) × IsContext f.context c × (c.leader.0 ≡ f.subject.member)
     × (bytes_in_digest payload ≡ f.subject.proposal.payload)
-IsToldAs f bytes (input.Certified v success) =
+IsPassedAs f bytes (input.Certified v success) =
     (f.kind ≡ input_number of.Certified) × (v ≡ f.view) × (flag_number success ≡ f.success)
-IsToldAs f bytes (input.GivenUp v reason) =
+IsPassedAs f bytes (input.GivenUp v reason) =
     (f.kind ≡ input_number of.GivenUp) × (v ≡ f.view) × (reason_number reason ≡ f.reason)
 
 -- it passes a signature or a certificate

@@ -29,7 +29,8 @@ pub struct FlatOptions {
     pub long_record: u64,
 }
 
-/// An input of an engine. `IsToldAs` says which fields each kind reads. The others may be anything, except `reason` and
+/// An input of an engine. `IsPassedAs` says which fields each kind reads. The others may be anything, except `reason`
+/// and
 /// `success`, which are checked for each kind.
 #[repr(C)]
 #[derive(Clone, Copy)]

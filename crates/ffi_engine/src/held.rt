@@ -169,13 +169,13 @@ impl HeldEngine {
         ensures read { IsReadAs output result self.new }
         ensures rest { self.new ≡ record self.old { last = self.new.last } }
     {
-        let told = flat_output(&output);
+        let flat = flat_output(&output);
         self.last = Some(output);
         FlatOutput {
             bytes: self.first_bytes().len() as u64,
             other_bytes: self.second_bytes().len() as u64,
             stored: self.stored,
-            ..told
+            ..flat
         }
     }
 

@@ -3,7 +3,7 @@
 ghost use Rattle.std.specs.Prelude.{◌≡◌, ◌≤◌, ◌<◌, IfOk, OnErr, MatchOption};
 ghost use Rattle.ffi_member.specs.Numbers.{flag_number, reason_number};
 ghost use Rattle.ffi_member.specs.Replies.{IsContext};
-ghost use Rattle.ffi_engine.specs.Inputs.{PassesBytes, HasKind, HasInputNumbers, IsCertificate, IsNoInput, IsNoKind, IsOn, IsToldAs, IsVote};
+ghost use Rattle.ffi_engine.specs.Inputs.{PassesBytes, HasKind, HasInputNumbers, IsCertificate, IsNoInput, IsNoKind, IsOn, IsPassedAs, IsVote};
 
 use crate::flat::{FlatInput, FlatSubject};
 use crate::input_kind::{InputKind, input_kind_of};
@@ -33,7 +33,7 @@ pub fn input_of(
 ) -> Result<Option<HostInput>, AllocError>
     ensures wanting { OnErr result (PassesBytes flat.now) }
     ensures made { IfOk result (λ made. MatchOption made (IsNoInput flat.now)
-        (λ input. HasInputNumbers flat.now × IsToldAs flat.now bytes.now input)) }
+        (λ input. HasInputNumbers flat.now × IsPassedAs flat.now bytes.now input)) }
 {
     let Some(reason) = reason_of(flat.reason) else {
         return Ok(None);
@@ -55,7 +55,7 @@ fn input_of_kind(
     requires success { (flag_number success ≡ flat.now.success) × (flat.now.success < 2) }
     ensures wanting { OnErr result (PassesBytes flat.now) }
     ensures made { IfOk result (λ made. MatchOption made (IsNoInput flat.now)
-        (λ input. HasInputNumbers flat.now × IsToldAs flat.now bytes.now input)) }
+        (λ input. HasInputNumbers flat.now × IsPassedAs flat.now bytes.now input)) }
 {
     let Some(kind) = input_kind_of(flat.kind) else {
         return Ok(None);

@@ -5,7 +5,7 @@
 ghost use Rattle.std.specs.Prelude.{◌≡◌};
 ghost use Rattle.std.specs.Borrow.{sem};
 ghost use Rattle.ffi_member.specs.declared.resolver_calls.HeldResolver.{HeldResolver};
-ghost use Rattle.ffi_member.specs.ResolverHandles.{AreOutstanding, IsEffectAt, IsHeard, IsServedFor, IsSettledAt};
+ghost use Rattle.ffi_member.specs.ResolverHandles.{AreOutstanding, IsEffectAt, IsReceived, IsServedFor, IsSettledAt};
 ghost use Rattle.ffi_member.specs.ShownFacts.{IsChunk};
 ghost use Rattle.ffi_exports.specs.HandleContents.{IsRead, resolver_at, resolver_left_at, resolver_owned_at};
 ghost use Rattle.ffi_exports.specs.OpenStatuses.{IsReplayStatus};
@@ -41,28 +41,28 @@ pub extern "C" fn simplex_resolver_start(
 #[unsafe(no_mangle)]
 pub unsafe extern "C" fn simplex_resolver_told(
     at: *mut u8,
-    told: &FlatResolverReply,
+    reply: &FlatResolverReply,
     certificate: &[u8],
 ) -> FlatEffects
     ghost held: { HeldResolver }
     requires* { sem 𝓛 (resolver_at at held) }
     ensures* { sem 𝓛 (resolver_left_at at (result.status ≡ 15)
-        (λ now. IsHeard held told.now certificate.now result now)) }
+        (λ now. IsReceived held reply.now certificate.now result now)) }
 {
     if at.is_null() {
         return null_handle::effects();
     }
     tell(
         unsafe { &mut *(at as *mut HeldResolver) },
-        told,
+        reply,
         certificate,
     )
 }
 
-fn tell(held: &mut HeldResolver, told: &FlatResolverReply, certificate: &[u8]) -> FlatEffects
-    ensures { IsHeard held.old told.now certificate.now result held.new }
+fn tell(held: &mut HeldResolver, reply: &FlatResolverReply, certificate: &[u8]) -> FlatEffects
+    ensures { IsReceived held.old reply.now certificate.now result held.new }
 {
-    held.told(told, certificate)
+    held.told(reply, certificate)
 }
 
 /// Returns an effect of the resolver's last input.

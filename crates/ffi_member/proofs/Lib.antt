@@ -1,4 +1,4 @@
 pub mod Frames
 pub mod Items
 pub mod Tested
-pub mod Told
+pub mod FlatVerdicts

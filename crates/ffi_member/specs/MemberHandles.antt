@@ -16,7 +16,7 @@ use Rattle.ffi_scheme.specs.HostLeaders.{leader_after}
 use Rattle.ffi_scheme.specs.Host.{IsOrder, certificate_bytes}
 use Rattle.simplex_member.specs.declared.member.calls.Reply.{Reply}
 use Rattle.simplex_member.specs.declared.member.calls.Reply.TheVariants as reply
-use Rattle.simplex_member.specs.Calls.{told}
+use Rattle.simplex_member.specs.Calls.{reply_facts}
 use Rattle.simplex_member.specs.MemberFacts.{IsCall}
 use Rattle.simplex_member.specs.ReplySignatures.{IsSignedReply, signed_reply}
 use Rattle.ffi_member.specs.declared.flat.FlatCall.{FlatCall}
@@ -47,9 +47,9 @@ pub record IsCallMade (old : Held) (f : FlatCall) (bytes : List ℕ) (r : FlatRe
   pub is_asked : IsAskedBy f bytes call
   -- the member replied to it, by its contract; its reply is stored
   pub made : IsCall same_host_payload host_leader old.member.facts call
-      (told certificate_bytes new.last) new.member.facts
+      (reply_facts certificate_bytes new.last) new.member.facts
   -- the flat reply represents that reply
-  pub tells : RepresentsReply r (told certificate_bytes new.last)
+  pub tells : RepresentsReply r (reply_facts certificate_bytes new.last)
   -- a vote in it is ordered, for exactly its own bytes
   pub ordered : IfSome old.member.facts.life (IsSignedReply (IsOrder bytes_in_digest) new.last)
   -- it comes last among the record's votes, with its order

@@ -43,7 +43,7 @@ pub record IsReplayedFrom (term_length : ℕ) (journal : List ℕ) (held : HeldR
   pub entries : List HostArtifact
   pub read : journal ≡ framed entries
   pub accepted : record_error (newest_first certificate_bytes entries) ≡ None
-  pub told : HasReceivedCalls term_length
+  pub received : HasReceivedCalls term_length
       (replay_calls (bytes_in_digest {n = 32}) certificate_bytes entries) held.resolver
   pub last : held.last.items ≡ []
   pub served : held.served.items ≡ []
@@ -86,7 +86,7 @@ pub record IsJudged (f : FlatResolverReply) (bytes : List ℕ) (call : Call) : T
   pub proposal : IsFlatProposal f.proposal notarization.proposal
   pub own : notarization.bytes ≡ bytes
   pub flag : flag_number success ≡ f.success
-  pub told : call ≡ verdict (bytes_in_digest {n = 32}) notarization success
+  pub received : call ≡ verdict (bytes_in_digest {n = 32}) notarization success
 
 -- the input: a certificate, or a verdict
 abbrev pub IsResolverCall : FlatResolverReply → List ℕ → Call → Type 0
@@ -106,7 +106,7 @@ pub record HasEffects (old : HeldResolver) (highest : ℕ) (call : Call) (r : Fl
   pub living : old.resolver.state.is_failed ≡ false
   pub views : highest < 2 ^ 63
   pub made : IsMade call old.resolver new.last.items new.resolver
-  pub told : ReceivesMore old.resolver call new.resolver
+  pub received : ReceivesMore old.resolver call new.resolver
   pub count : r.count ≡ length new.last.items
   pub fetches : r.fetches ≡ length new.resolver.open_fetches
 
@@ -121,8 +121,8 @@ HasFault old highest call r new =
     × (new.last.items ≡ [])
 
 -- the resolver receives a call that names no view above the highest, or it ends in a fault; what was served last stays
-abbrev pub IsHeardAs : HeldResolver → ℕ → Call → FlatEffects → HeldResolver → Type 0
-IsHeardAs old highest call r new =
+abbrev pub IsReceivedAs : HeldResolver → ℕ → Call → FlatEffects → HeldResolver → Type 0
+IsReceivedAs old highest call r new =
     (HasEffects old highest call r new ⊎ HasFault old highest call r new) × (new.served ≡ old.served)
 
 -- one of the numbers is not valid for a verdict, or a kind
@@ -130,26 +130,26 @@ abbrev pub IsNoResolverCall : FlatResolverReply → Type 0
 IsNoResolverCall f = (2 ≤ f.success) ⊎ ((1 ≤ f.proposal.round.view) × ((f.kind ≡ 0) ⊎ (5 ≤ f.kind)))
 
 -- each of them is valid, and the view is not that of genesis
-abbrev pub HasTold : FlatResolverReply → Type 0
-HasTold f = (0 < f.kind) × (f.kind < 5) × (f.success < 2) × (1 ≤ f.proposal.round.view)
+abbrev pub IsValidCall : FlatResolverReply → Type 0
+IsValidCall f = (0 < f.kind) × (f.kind < 5) × (f.success < 2) × (1 ≤ f.proposal.round.view)
 
 -- why nothing was passed to the resolver: the view is that of genesis, a number is not valid, or there was no memory
 -- for the certificate
-abbrev pub IsUntold : FlatResolverReply → FlatEffects → Type 0
-IsUntold f r =
+abbrev pub IsNotPassed : FlatResolverReply → FlatEffects → Type 0
+IsNotPassed f r =
     (HasNoEffects 5 r × (f.success < 2) × (f.proposal.round.view ≡ 0))
     ⊎ (HasNoEffects 6 r × IsNoResolverCall f)
-    ⊎ (HasNoEffects 7 r × HasTold f)
+    ⊎ (HasNoEffects 7 r × IsValidCall f)
 
 -- nothing was passed to the resolver, and everything is unchanged
 abbrev pub IsResolverNotNotified : HeldResolver → FlatResolverReply → FlatEffects → HeldResolver → Type 0
-IsResolverNotNotified old f r new = (new ≡ old) × IsUntold f r
+IsResolverNotNotified old f r new = (new ≡ old) × IsNotPassed f r
 
 -- what flat numbers pass to a resolver
-abbrev pub IsHeard : HeldResolver → FlatResolverReply → List ℕ → FlatEffects → HeldResolver → Type 0
-IsHeard old f bytes r new =
+abbrev pub IsReceived : HeldResolver → FlatResolverReply → List ℕ → FlatEffects → HeldResolver → Type 0
+IsReceived old f bytes r new =
     IsResolverNotNotified old f r new
-    ⊎ (HasTold f × ((call : Call) × IsResolverCall f bytes call × IsHeardAs old (highest_passed f) call r new))
+    ⊎ (IsValidCall f × ((call : Call) × IsResolverCall f bytes call × IsReceivedAs old (highest_passed f) call r new))
 
 -- why a fetch is opened, and what is settled
 abbrev pub why_number : FetchReason → ℕ

@@ -4,7 +4,7 @@
 ghost use Rattle.std.specs.Prelude.{◌≡◌, option_map};
 ghost use Rattle.simplex_types.specs.Certificates.{certificate_facts};
 ghost use Rattle.ffi_scheme.specs.Host.{certificate_bytes};
-ghost use Rattle.simplex_member.specs.Calls.{told, reply_notarize, reply_nullify, reply_finalize};
+ghost use Rattle.simplex_member.specs.Calls.{reply_facts, reply_notarize, reply_nullify, reply_finalize};
 ghost use Rattle.ffi_member.specs.Numbers.{abandoned_number, fault_status, flag_number, member_number, reason_number};
 ghost use Rattle.ffi_member.specs.Calls.{IsFlatProposal, flat_round};
 ghost use Rattle.ffi_member.specs.Replies.{HasAnswer, HasCertificate, HasFinalize, HasNotarize, HasNullify, HasRequest, HasWork, IsContext, RepresentsReply};
@@ -64,7 +64,7 @@ pub type HostReply = Reply<HostScheme, HostDigest>;
 
 /// Returns the flat form of a reply, without the parts that have no fixed size.
 pub fn flat_reply(reply: &HostReply) -> FlatReply
-    ensures { RepresentsReply result (told certificate_bytes reply.now) }
+    ensures { RepresentsReply result (reply_facts certificate_bytes reply.now) }
 {
     match reply {
         Reply::Unit => answered(UNIT),

@@ -88,9 +88,9 @@ impl Held {
         match call_of(self.alloc, flat, certificate) {
             Ok(Some(call)) => {
                 let reply = self.member.call(call);
-                let told = flat_reply(&reply);
+                let replied = flat_reply(&reply);
                 self.last = reply;
-                told
+                replied
             }
             Ok(None) => unanswered(STATUS_NO_CALL),
             Err(_) => unanswered(STATUS_NOT_MADE),

@@ -58,7 +58,7 @@ pub struct HeldResolver {
 }
 
 impl HeldResolver {
-    ghost use Rattle.ffi_member.specs.ResolverHandles.{AreOutstanding, IsReplayedFrom, IsEffectAt, IsHeard, IsHeardAs, IsNotReplayedFrom, IsServedFor, IsSettledAt};
+    ghost use Rattle.ffi_member.specs.ResolverHandles.{AreOutstanding, IsReplayedFrom, IsEffectAt, IsReceived, IsReceivedAs, IsNotReplayedFrom, IsServedFor, IsSettledAt};
 
     /// Starts a resolver from the bytes of a journal, with its first fetches open.
     pub fn start(
@@ -90,7 +90,7 @@ impl HeldResolver {
     /// Passes a newly accepted certificate, or a verdict, to the resolver. The functions below read the effects until
     /// the next input.
     pub fn told(&mut self, flat: &FlatResolverReply, certificate: &[u8]) -> FlatEffects
-        ensures { IsHeard self.old flat.now certificate.now result self.new }
+        ensures { IsReceived self.old flat.now certificate.now result self.new }
     {
         let Some(success) = flag_of(flat.success) else {
             return no_effects(STATUS_NO_CALL);
@@ -113,7 +113,7 @@ impl HeldResolver {
         requires success { flag_number success ≡ flat.now.success }
         requires fits { flat.now.success < 2 }
         requires view { 1 ≤ flat.now.proposal.round.view }
-        ensures { IsHeard self.old flat.now certificate.now result self.new }
+        ensures { IsReceived self.old flat.now certificate.now result self.new }
     {
         match notarization_of(self.alloc, &flat.proposal, certificate) {
             Ok(it) => self.certified(it, success),
@@ -123,7 +123,7 @@ impl HeldResolver {
 
     fn updated(&mut self, certificate: &HostCertified) -> FlatEffects
         requires { 1 ≤ certificate_view certificate.now }
-        ensures { IsHeardAs self.old (highest_view certificate.now)
+        ensures { IsReceivedAs self.old (highest_view certificate.now)
             (update bytes_in_digest (certificate_facts certificate_bytes certificate.now)) result self.new }
     {
         match self.resolver.updated(certificate) {
@@ -138,7 +138,7 @@ impl HeldResolver {
         success: bool,
     ) -> FlatEffects
         requires { 1 ≤ notarization.proposal.round.view }
-        ensures { IsHeardAs self.old (highest_named notarization.proposal)
+        ensures { IsReceivedAs self.old (highest_named notarization.proposal)
             (verdict bytes_in_digest (notarization_facts certificate_bytes notarization) success) result self.new }
     {
         match self.resolver.certified(notarization, success) {
@@ -149,7 +149,7 @@ impl HeldResolver {
 
     /// Stores the effects of an input.
     fn keep(&mut self, effects: Vec<Effect>) -> FlatEffects
-        ensures told { (result.status ≡ 0) × (result.count ≡ length effects.items)
+        ensures received { (result.status ≡ 0) × (result.count ≡ length effects.items)
             × (result.fetches ≡ length self.old.resolver.open_fetches) }
         ensures kept { self.new ≡ record self.old { last = effects } }
     {
@@ -165,7 +165,7 @@ impl HeldResolver {
 
     /// Clears the effects after an input that failed.
     fn lose(&mut self, fault: Fault) -> FlatEffects
-        ensures told { HasNoEffects (fault_status fault) result }
+        ensures received { HasNoEffects (fault_status fault) result }
         ensures kept { (self.new.resolver ≡ self.old.resolver) × (self.new.served ≡ self.old.served) }
         ensures none { self.new.last.items ≡ [] }
     {

@@ -9,14 +9,14 @@ use Rattle.simplex_member.specs.Journal.{stored_of}
 use Rattle.simplex_member.specs.MemberFacts.{MemberFacts, IsCall, AnswersAlive, unless_retained, with_call}
 
 module _ {K L D : Type 0} (same : D → D → Bool) (elect : Elect L) (m left : MemberFacts K L D) (call : CallFacts D)
-    (told : ReplyFacts K D) where
+    (replied : ReplyFacts K D) where
   by_definition : (x : StateFacts K L D) (b : Bool) (due : Option Fault)
       → stored_of (cond b (unless_retained due m (with_call same elect x m call)) m) ≡ stored_of m
   by_definition x true None = refl
   by_definition x true (Some due) = refl
   by_definition x false due = refl
 
-  by_life : (life : Option (StateFacts K L D)) → AnswersAlive same elect life m call told left
+  by_life : (life : Option (StateFacts K L D)) → AnswersAlive same elect life m call replied left
       → stored_of left ≡ stored_of m
   by_life None (_, left_so) = ap stored_of left_so
   by_life (Some x) (inl (_, left_so)) = ap stored_of left_so
@@ -24,6 +24,6 @@ module _ {K L D : Type 0} (same : D → D → Bool) (elect : Elect L) (m left : 
   by_life (Some x) (inr (_, _, inl (_, same_left))) = ap stored_of same_left
   by_life (Some x) (inr (_, _, inr (_, _, lost))) = ap stored_of lost
 
-  pub stored_stays : IsCall same elect m call told left → stored_of left ≡ stored_of m
+  pub stored_stays : IsCall same elect m call replied left → stored_of left ≡ stored_of m
   unfolding IsCall
   stored_stays made = by_life m.life made

@@ -23,28 +23,28 @@ use Rattle.laws_safety.specs.Traces.{TraceEvent, Signs}
 use Rattle.laws_safety.proofs.agreement.Claims.{finalized_notarized}
 use Rattle.laws_safety.proofs.networks.ComputedRuns.{rises}
 use Rattle.laws_safety.proofs.networks.Continuations.{AreExecutions, network_of, backed_so, each_one, each_one-true}
-use Rattle.laws_safety.proofs.networks.ScenarioSteps.{told_in, FitsIn, ran_as_told}
+use Rattle.laws_safety.proofs.networks.ScenarioSteps.{replied_in, FitsIn, ran_as_replied}
 use Rattle.laws_progress.specs.ViewCauses.{judged_of}
 use Rattle.laws_chains.specs.Chains.{WasOffered, VerdictsAreOnOffers}
 use Rattle.laws_chains.specs.EarlyLeaders.{elects_by, second_of, leading_early, idle, both_lead_early, HasNoParent}
 use Rattle.laws_chains.proofs.ViewsAhead.{AllOf, each_of, each_judged}
 use Rattle.laws_chains.proofs.Quorums.{two_from}
 
-first_told : told_in (leading_early 2 0) ≡ (leading_early 2 0).replies
+first_replied : replied_in (leading_early 2 0) ≡ (leading_early 2 0).replies
 unfolding first_recover_error recovered_state after_kept_entry may_drop pruned_entries standing propose_answer
     proposed_answer find_parent captured_parent_valid has_valid_parent_span ancestry_payload_for_child
     first_unnullified_view explicit_ancestry_payload optimistic_ancestry_payload is_handoff_parent is_voted_ancestor
     can_chain_on in_issuance_window is_admitted verification_matches parent_payload_for may_notarize may_nullify
     may_finalize has_conflicting_nullify required_certification_parent
-first_told = refl
+first_replied = refl
 
-second_told : told_in (leading_early 1 1) ≡ (leading_early 1 1).replies
+second_replied : replied_in (leading_early 1 1) ≡ (leading_early 1 1).replies
 unfolding first_recover_error recovered_state after_kept_entry may_drop pruned_entries standing propose_answer
     proposed_answer find_parent captured_parent_valid has_valid_parent_span ancestry_payload_for_child
     first_unnullified_view explicit_ancestry_payload optimistic_ancestry_payload is_handoff_parent is_voted_ancestor
     can_chain_on in_issuance_window is_admitted verification_matches parent_payload_for may_notarize may_nullify
     may_finalize has_conflicting_nullify required_certification_parent
-second_told = refl
+second_replied = refl
 
 -- the record at the restart
 abbrev votes_of : ℕ → List (ArtifactFacts ℕ)
@@ -77,15 +77,15 @@ begins elector me = record { terms = record { terms = refl; some = omega arith }
 
 first_ran : IsExecution nat_eq in_turn 2 0 (leading_early 2 0)
 unfolding first_recover_error
-first_ran = ran_as_told 2 0 (leading_early 2 0) (begins 2 0) (begins 7 0, tt) refl first_fits first_told
+first_ran = ran_as_replied 2 0 (leading_early 2 0) (begins 2 0) (begins 7 0, tt) refl first_fits first_replied
 
 second_ran : IsExecution nat_eq in_turn 2 1 (leading_early 1 1)
 unfolding first_recover_error
-second_ran = ran_as_told 2 1 (leading_early 1 1) (begins 1 1) (begins 7 1, tt) refl second_fits second_told
+second_ran = ran_as_replied 2 1 (leading_early 1 1) (begins 1 1) (begins 7 1, tt) refl second_fits second_replied
 
 idle_ran : IsExecution nat_eq in_turn 2 2 idle
 unfolding first_recover_error
-idle_ran = ran_as_told 2 2 idle (begins 2 2) tt refl tt refl
+idle_ran = ran_as_replied 2 2 idle (begins 2 2) tt refl tt refl
 
 few : FewFaulty both_lead_early
 few = inl (omega arith, omega arith)

@@ -54,17 +54,18 @@ none_in x h = absurd (omega (arith, h.1))
 module _ {K D : Type 0} where
   -- a proposal of the view is among the offers of these replies
   abbrev IsOfferedIn : List (ReplyFacts K D) → ℕ → Type 0
-  IsOfferedIn told v =
+  IsOfferedIn replied v =
       (offers : List (Proposal D)) × (fetches : List CertificateFetch) × (p : Proposal D)
-      × Contains told (Candidates offers fetches) × Contains offers p × (p.round.view ≡ v)
+      × Contains replied (Candidates offers fetches) × Contains offers p × (p.round.view ≡ v)
 
   -- so it is of each view whose offer is open
   abbrev AreOfferedIn : List (ReplyFacts K D) → OutstandingWork K D → Type 0
-  AreOfferedIn told o = (v : ℕ) → is_offered o v ≡ true → IsOfferedIn told v
+  AreOfferedIn replied o = (v : ℕ) → is_offered o v ≡ true → IsOfferedIn replied v
 
-  offered_more : (told more : List (ReplyFacts K D)) (v : ℕ) → IsOfferedIn told v → IsOfferedIn (told ++ more) v
-  offered_more told more v (offers, fetches, p, h, among, at) =
-      (offers, fetches, p, Contains-append_left told more (Candidates offers fetches) h, among, at)
+  offered_more : (replied more : List (ReplyFacts K D)) (v : ℕ) → IsOfferedIn replied v
+      → IsOfferedIn (replied ++ more) v
+  offered_more replied more v (offers, fetches, p, h, among, at) =
+      (offers, fetches, p, Contains-append_left replied more (Candidates offers fetches) h, among, at)
 
   -- what is open beside offers does not matter
   request_offers : (o : OutstandingWork K D) (request : Option (ProposalRequest D K)) (v : ℕ)
@@ -96,68 +97,68 @@ offered_now view (p ∷ rest) views is = elim (offered_now view rest (insert_key
 ]
 
 module _ {K L D : Type 0} (same : D → D → Bool) (elect : Elect L) where
-  answer_opens : (told : List (ReplyFacts K D)) (x : StateFacts K L D) (o : OutstandingWork K D) (call : CallFacts D)
-      → AreOfferedIn told o
-      → AreOfferedIn (told ++ answer same elect x o call ∷ []) (outstanding_work_after same elect x o call)
-  answer_opens told x o CertifyCandidates are v is =
+  answer_opens : (replied : List (ReplyFacts K D)) (x : StateFacts K L D) (o : OutstandingWork K D) (call : CallFacts D)
+      → AreOfferedIn replied o
+      → AreOfferedIn (replied ++ answer same elect x o call ∷ []) (outstanding_work_after same elect x o call)
+  answer_opens replied x o CertifyCandidates are v is =
       let offers = (candidates_answer same elect x).0 in
       let fetches = (candidates_answer same elect x).1 in
       elim (offered_now v offers o.offered is) [
-        | inl before ↦ offered_more told (Candidates offers fetches ∷ []) v (are v before)
+        | inl before ↦ offered_more replied (Candidates offers fetches ∷ []) v (are v before)
         | inr now ↦ (
           offers,
           fetches,
           now.0,
-          Contains-append_right told (Candidates offers fetches ∷ [])
+          Contains-append_right replied (Candidates offers fetches ∷ [])
               (Candidates offers fetches) (0, omega arith, refl),
           now.1,
           now.2,
         )
       ]
-  answer_opens told x o (Certified u success now) are v is =
-      offered_more told (answer same elect x o (Certified u success now) ∷ []) v
+  answer_opens replied x o (Certified u success now) are v is =
+      offered_more replied (answer same elect x o (Certified u success now) ∷ []) v
       (are v (among_others u v o.offered is).0)
-  answer_opens told x o TryPropose are v is =
-      offered_more told (answer same elect x o TryPropose ∷ []) v
+  answer_opens replied x o TryPropose are v is =
+      offered_more replied (answer same elect x o TryPropose ∷ []) v
       (are v (sym (request_offers o (propose_answer same elect x) v) ∙ is))
-  answer_opens told x o TryVerify are v is =
-      offered_more told (answer same elect x o TryVerify ∷ []) v
+  answer_opens replied x o TryVerify are v is =
+      offered_more replied (answer same elect x o TryVerify ∷ []) v
       (are v (sym (verification_offers o (verify_answer same elect x) v) ∙ is))
-  answer_opens told x o (SupersedeProposalRequest u) are v is =
+  answer_opens replied x o (SupersedeProposalRequest u) are v is =
       let replaced = option_map_or (λ context. supersede_answer same elect x context) (context_at o u) false in
-      offered_more told (answer same elect x o (SupersedeProposalRequest u) ∷ []) v
+      offered_more replied (answer same elect x o (SupersedeProposalRequest u) ∷ []) v
       (are v (sym (superseded_offers o u replaced v) ∙ is))
-  answer_opens told x o call are v is = offered_more told (answer same elect x o call ∷ []) v (are v is)
+  answer_opens replied x o call are v is = offered_more replied (answer same elect x o call ∷ []) v (are v is)
 
-  module _ (told : List (ReplyFacts K D)) (m next : MemberFacts K L D) (reply : ReplyFacts K D)
-      (are : AreOfferedIn told m.outstanding_work) where
-    still_open : next.outstanding_work ≡ m.outstanding_work → AreOfferedIn (told ++ reply ∷ []) next.outstanding_work
-    still_open is v opened = offered_more told (reply ∷ []) v (are v (subst (λ o. is_offered o v ≡ true) is opened))
+  module _ (replied : List (ReplyFacts K D)) (m next : MemberFacts K L D) (reply : ReplyFacts K D)
+      (are : AreOfferedIn replied m.outstanding_work) where
+    still_open : next.outstanding_work ≡ m.outstanding_work → AreOfferedIn (replied ++ reply ∷ []) next.outstanding_work
+    still_open is v opened = offered_more replied (reply ∷ []) v (are v (subst (λ o. is_offered o v ≡ true) is opened))
 
-    none_open : next.outstanding_work ≡ no_outstanding_work → AreOfferedIn (told ++ reply ∷ []) next.outstanding_work
+    none_open : next.outstanding_work ≡ no_outstanding_work → AreOfferedIn (replied ++ reply ∷ []) next.outstanding_work
     none_open is v opened = absurd (false≢true (subst (λ o. is_offered o v ≡ true) is opened))
 
     abbrev open_in : MemberFacts K L D → OutstandingWork K D
     open_in n = n.outstanding_work
 
     call_opens : (call : CallFacts D) → IsCall same elect m call reply next
-        → AreOfferedIn (told ++ reply ∷ []) next.outstanding_work
+        → AreOfferedIn (replied ++ reply ∷ []) next.outstanding_work
     unfolding IsCall
     call_opens call is_call = by_life m.life is_call
       where
         by_test : (x : StateFacts K L D) (b : Bool) (due : Option Fault)
             → reply ≡ cond b (unless_refused due (answer same elect x m.outstanding_work call)) NotAllowed
             → next ≡ cond b (unless_retained due m (with_call same elect x m call)) m
-            → AreOfferedIn (told ++ reply ∷ []) next.outstanding_work
+            → AreOfferedIn (replied ++ reply ∷ []) next.outstanding_work
         by_test x false due tells leaves = still_open (ap open_in leaves)
         by_test x true (Some due) tells leaves = still_open (ap open_in leaves)
         by_test x true None tells leaves = λ v opened.
-            subst (λ r. IsOfferedIn (told ++ r ∷ []) v) (sym tells)
-            (answer_opens told x m.outstanding_work call are v
+            subst (λ r. IsOfferedIn (replied ++ r ∷ []) v) (sym tells)
+            (answer_opens replied x m.outstanding_work call are v
             (subst (λ o. is_offered o v ≡ true) (ap open_in leaves) opened))
 
         by_life : (life : Option (StateFacts K L D)) → AnswersAlive same elect life m call reply next
-            → AreOfferedIn (told ++ reply ∷ []) next.outstanding_work
+            → AreOfferedIn (replied ++ reply ∷ []) next.outstanding_work
         by_life None (tells, leaves) = still_open (ap open_in leaves)
         by_life (Some x) (inl (tells, leaves)) =
             by_test x (is_allowed x m.outstanding_work call) (fault_of x call) tells leaves
@@ -165,7 +166,7 @@ module _ {K L D : Type 0} (same : D → D → Bool) (elect : Elect L) where
         by_life (Some x) (inr (allowed, tells, inr (fault, falls, leaves))) = none_open (ap open_in leaves)
 
     restart_opens : (r : RestartFacts K L D) (result : Result (Unit {0}) RecoverError)
-        → IsRestart same elect m r result next → AreOfferedIn (told ++ reply ∷ []) next.outstanding_work
+        → IsRestart same elect m r result next → AreOfferedIn (replied ++ reply ∷ []) next.outstanding_work
     unfolding IsRestart
     restart_opens r result is = by_growth (retention_grows m r.prune r.start.setup.settings.view_retention) is
       where
@@ -175,19 +176,19 @@ module _ {K L D : Type 0} (same : D → D → Bool) (elect : Elect L) where
         by_error : (copy : List _) (o : Option RecoverError)
             → MatchOption o ((result ≡ Ok tt) × (next ≡ new_lifetime same elect cut r.start copy))
             (λ e. (result ≡ Err e) × (next ≡ without_lifetime cut))
-            → AreOfferedIn (told ++ reply ∷ []) next.outstanding_work
+            → AreOfferedIn (replied ++ reply ∷ []) next.outstanding_work
         by_error copy None (done, leaves) = none_open (ap open_in leaves)
         by_error copy (Some e) (refused, leaves) = none_open (ap open_in leaves)
 
         by_growth : (grows : Bool) → IsRestartWhere same elect grows m r result next
-            → AreOfferedIn (told ++ reply ∷ []) next.outstanding_work
+            → AreOfferedIn (replied ++ reply ∷ []) next.outstanding_work
         by_growth true (refused, leaves) = still_open (ap open_in leaves)
         by_growth false (inl (refused, leaves)) = none_open (ap open_in leaves)
         by_growth false (inr (copy, by_view, recovers)) =
             by_error copy (recover_error same (new_state r.start.setup) r.start.floor r.start.now copy) recovers
 
     step_opens : (step : StepFacts K L D) → IsStep same elect m step reply next
-        → AreOfferedIn (told ++ reply ∷ []) next.outstanding_work
+        → AreOfferedIn (replied ++ reply ∷ []) next.outstanding_work
     step_opens (Calls call) is_step = call_opens call is_step
     step_opens Prunes (tells, leaves) = still_open (ap open_in leaves)
     step_opens (Restarts r) (result, restarts, tells) = restart_opens r result restarts
@@ -210,55 +211,55 @@ module _ {K L D : Type 0} (same : D → D → Bool) (elect : Elect L) (q : Propo
   answer_judges m x (Certified v success now) on_offer h = (v, on_offer, (success, h))
   answer_judges m x _ on_offer h = absurd (none_in (true, q) h)
 
-  not_judged : {A : Type 0} (told other : ReplyFacts K D) → told ≡ other → judged_by other ≡ []
-      → Contains (judged_by told) (true, q) → A
-  not_judged told other is none h =
+  not_judged : {A : Type 0} (replied other : ReplyFacts K D) → replied ≡ other → judged_by other ≡ []
+      → Contains (judged_by replied) (true, q) → A
+  not_judged replied other is none h =
       absurd (none_in (true, q) (subst (λ js. Contains js (true, q)) (ap judged_by is ∙ none) h))
 
-  call_judges : (m next : MemberFacts K L D) (call : CallFacts D) (told : ReplyFacts K D)
-      → IsCall same elect m call told next → IsStepOnOffer m (Calls call) → Contains (judged_by told) (true, q)
+  call_judges : (m next : MemberFacts K L D) (call : CallFacts D) (replied : ReplyFacts K D)
+      → IsCall same elect m call replied next → IsStepOnOffer m (Calls call) → Contains (judged_by replied) (true, q)
       → Judges m m.life
   unfolding IsCall
-  call_judges m next call told is_call on_offer h = by_life m.life is_call
+  call_judges m next call replied is_call on_offer h = by_life m.life is_call
     where
       by_test : (x : StateFacts K L D) (b : Bool) (due : Option Fault)
-          → told ≡ cond b (unless_refused due (answer same elect x m.outstanding_work call)) NotAllowed
+          → replied ≡ cond b (unless_refused due (answer same elect x m.outstanding_work call)) NotAllowed
           → Judges m (Some x)
-      by_test x false due tells = not_judged told NotAllowed tells refl h
-      by_test x true (Some due) tells = not_judged told _ tells refl h
+      by_test x false due tells = not_judged replied NotAllowed tells refl h
+      by_test x true (Some due) tells = not_judged replied _ tells refl h
       by_test x true None tells =
           let it = answer_judges m x call on_offer
           (subst (λ (t : ReplyFacts K D). Contains (judged_by t) (true, q)) tells h) in
           (x, refl, it.0, it.1, it.2)
 
-      by_life : (life : Option (StateFacts K L D)) → AnswersAlive same elect life m call told next → Judges m life
-      by_life None (tells, leaves) = not_judged told _ tells refl h
+      by_life : (life : Option (StateFacts K L D)) → AnswersAlive same elect life m call replied next → Judges m life
+      by_life None (tells, leaves) = not_judged replied _ tells refl h
       by_life (Some x) (inl (tells, leaves)) = by_test x (is_allowed x m.outstanding_work call) (fault_of x call) tells
-      by_life (Some x) (inr (allowed, tells, leaves)) = not_judged told _ tells refl h
+      by_life (Some x) (inr (allowed, tells, leaves)) = not_judged replied _ tells refl h
 
-  step_judges : (m next : MemberFacts K L D) (step : StepFacts K L D) (told : ReplyFacts K D)
-      → IsStep same elect m step told next → IsStepOnOffer m step → Contains (judged_by told) (true, q)
+  step_judges : (m next : MemberFacts K L D) (step : StepFacts K L D) (replied : ReplyFacts K D)
+      → IsStep same elect m step replied next → IsStepOnOffer m step → Contains (judged_by replied) (true, q)
       → Judges m m.life
-  step_judges m next (Calls call) told is_step on_offer h = call_judges m next call told is_step on_offer h
-  step_judges m next Prunes told is_step on_offer h = not_judged told _ is_step.0 refl h
-  step_judges m next (Restarts r) told (Ok done, restarts, is) on_offer h = not_judged told _ is refl h
-  step_judges m next (Restarts r) told (Err error, restarts, is) on_offer h = not_judged told _ is refl h
+  step_judges m next (Calls call) replied is_step on_offer h = call_judges m next call replied is_step on_offer h
+  step_judges m next Prunes replied is_step on_offer h = not_judged replied _ is_step.0 refl h
+  step_judges m next (Restarts r) replied (Ok done, restarts, is) on_offer h = not_judged replied _ is refl h
+  step_judges m next (Restarts r) replied (Err error, restarts, is) on_offer h = not_judged replied _ is refl h
 
   -- the run up to there, where these replies came before
   record JudgedIn (before : List (ReplyFacts K D)) (m : MemberFacts K L D) (steps : List (StepFacts K L D))
       (replies : List (ReplyFacts K D)) : Type 0 where
     first : List (StepFacts K L D)
-    told : List (ReplyFacts K D)
+    replied : List (ReplyFacts K D)
     more : List (StepFacts K L D)
     rest : List (ReplyFacts K D)
     steps_are : steps ≡ first ++ more
-    replies_are : replies ≡ told ++ rest
+    replies_are : replies ≡ replied ++ rest
     middle : MemberFacts K L D
-    run : IsRun same elect m first told middle
+    run : IsRun same elect m first replied middle
     x : StateFacts K L D
     alive : middle.life ≡ Some x
     view : ℕ
-    offered : IsOfferedIn (before ++ told) view
+    offered : IsOfferedIn (before ++ replied) view
     judges : JudgesAt x view
 
   judged_at : (before : List (ReplyFacts K D)) (steps : List (StepFacts K L D)) (replies : List (ReplyFacts K D))
@@ -274,7 +275,7 @@ module _ {K L D : Type 0} (same : D → D → Bool) (elect : Elect L) (q : Propo
             let it = step_judges m next step reply is_step on_offer here in
             record {
               first = [];
-              told = [];
+              replied = [];
               more = step ∷ steps;
               rest = reply ∷ replies;
               steps_are = refl;
@@ -292,7 +293,7 @@ module _ {K L D : Type 0} (same : D → D → Bool) (elect : Elect L) (q : Propo
             (step_opens same elect before m next reply are step is_step) later in
             record {
               first = step ∷ v.first;
-              told = reply ∷ v.told;
+              replied = reply ∷ v.replied;
               more = v.more;
               rest = v.rest;
               steps_are = ap (λ (ss : List (StepFacts K L D)). step ∷ ss) v.steps_are;
@@ -302,7 +303,7 @@ module _ {K L D : Type 0} (same : D → D → Bool) (elect : Elect L) (q : Propo
               x = v.x;
               alive = v.alive;
               view = v.view;
-              offered = subst (λ t. IsOfferedIn t v.view) (append_assoc before (reply ∷ []) v.told) v.offered;
+              offered = subst (λ t. IsOfferedIn t v.view) (append_assoc before (reply ∷ []) v.replied) v.offered;
               judges = v.judges;
             })
       ]
@@ -399,7 +400,7 @@ module _ {K L D : Type 0} (same : D → D → Bool) (decides : (d e : D) → sam
         let it = judged_at same elect q [] s.steps s.replies (new_member same elect s.start) end run
         (λ v opened. absurd (false≢true opened)) h in
         let cast = state_where same elect term_length i s ran (λ x. JudgesAt same elect q x it.view) it.first it.more
-        it.told it.rest it.middle it.steps_are it.replies_are it.run it.x it.alive it.judges in
+        it.replied it.rest it.middle it.steps_are it.replies_are it.run it.x it.alive it.judges in
         let before = record s { steps = cast.steps; replies = cast.replies } in
         let view = judged_view term_length before cast.x
         (state_led same decides elect term_length i before cast.ran cast.x cast.lives) it.view q cast.holds.0
@@ -409,7 +410,7 @@ module _ {K L D : Type 0} (same : D → D → Bool) (decides : (d e : D) → sam
           found.0,
           found.1,
           subst (λ rs. Contains rs (Candidates found.0 found.1)) (sym it.replies_are)
-              (Contains-append_left it.told it.rest (Candidates found.0 found.1) found.3),
+              (Contains-append_left it.replied it.rest (Candidates found.0 found.1) found.3),
           found.4,
         ) in
         let judged = judged_are_notarized same decides elect term_length i s ran true q h in

@@ -17,7 +17,7 @@ use Rattle.laws_safety.specs.ScenarioSteps.{in_turn, two}
 use Rattle.laws_safety.specs.Traces.{Signs}
 use Rattle.laws_safety.proofs.agreement.Claims.{one_proposal}
 use Rattle.laws_safety.proofs.networks.Continuations.{AreExecutions, network_of, backed_so}
-use Rattle.laws_safety.proofs.networks.ScenarioSteps.{told_in, ran_as_told}
+use Rattle.laws_safety.proofs.networks.ScenarioSteps.{replied_in, ran_as_replied}
 use Rattle.simplex_voter.specs.declared.voter.verify.Verify.TheVariants.{Ready}
 use Rattle.simplex_member.specs.Calls.{ReplyFacts, Standing}
 use Rattle.laws_safety.proofs.lists.Splits.{Contains-cases}
@@ -25,41 +25,41 @@ use Rattle.laws_safety.proofs.networks.Continuations.{done}
 use Rattle.laws_chains.specs.UnofferedVerdicts.{long_start, first_of}
 use Rattle.laws_chains.specs.OtherParents.{asked_on, misled, led, verified_apart, ParentIsTwelve, VerifiedOnEleven}
 
-misled_told : told_in misled ≡ misled.replies
+misled_replied : replied_in misled ≡ misled.replies
 unfolding standing propose_answer proposed_answer find_parent captured_parent_valid has_valid_parent_span
     ancestry_payload_for_child first_unnullified_view explicit_ancestry_payload optimistic_ancestry_payload
     is_handoff_parent is_voted_ancestor can_chain_on in_issuance_window is_admitted verification_matches
     parent_payload_for may_notarize may_nullify may_finalize has_conflicting_nullify required_certification_parent
-misled_told = refl
+misled_replied = refl
 
-one_told : told_in (led 1) ≡ (led 1).replies
+one_replied : replied_in (led 1) ≡ (led 1).replies
 unfolding standing propose_answer proposed_answer find_parent captured_parent_valid has_valid_parent_span
     ancestry_payload_for_child first_unnullified_view explicit_ancestry_payload optimistic_ancestry_payload
     is_handoff_parent is_voted_ancestor can_chain_on in_issuance_window is_admitted verification_matches
     parent_payload_for may_notarize may_nullify may_finalize has_conflicting_nullify required_certification_parent
-one_told = refl
+one_replied = refl
 
-two_told : told_in (led 2) ≡ (led 2).replies
+two_replied : replied_in (led 2) ≡ (led 2).replies
 unfolding standing propose_answer proposed_answer find_parent captured_parent_valid has_valid_parent_span
     ancestry_payload_for_child first_unnullified_view explicit_ancestry_payload optimistic_ancestry_payload
     is_handoff_parent is_voted_ancestor can_chain_on in_issuance_window is_admitted verification_matches
     parent_payload_for may_notarize may_nullify may_finalize has_conflicting_nullify required_certification_parent
-two_told = refl
+two_replied = refl
 
 begins : (me : ℕ) → BeginsAs 3 me (long_start me).setup
 begins me = record { terms = record { terms = refl; some = omega arith }; signs_as = inl refl }
 
 misled_ran : IsExecution nat_eq in_turn 3 0 misled
 unfolding first_recover_error
-misled_ran = ran_as_told 3 0 misled (begins 0) tt refl tt misled_told
+misled_ran = ran_as_replied 3 0 misled (begins 0) tt refl tt misled_replied
 
 one_ran : IsExecution nat_eq in_turn 3 1 (led 1)
 unfolding first_recover_error
-one_ran = ran_as_told 3 1 (led 1) (begins 1) tt refl tt one_told
+one_ran = ran_as_replied 3 1 (led 1) (begins 1) tt refl tt one_replied
 
 two_ran : IsExecution nat_eq in_turn 3 2 (led 2)
 unfolding first_recover_error
-two_ran = ran_as_told 3 2 (led 2) (begins 2) tt refl tt two_told
+two_ran = ran_as_replied 3 2 (led 2) (begins 2) tt refl tt two_replied
 
 few : FewFaulty verified_apart
 few = inl (omega arith, omega arith)
@@ -88,14 +88,15 @@ payload_in _ = 11
 
 abbrev AllEleven : List (ReplyFacts ℕ ℕ) → Type 0
 AllEleven [] = Unit {0}
-AllEleven (told ∷ replies) = (payload_in told ≡ 11) × AllEleven replies
+AllEleven (replied ∷ replies) = (payload_in replied ≡ 11) × AllEleven replies
 
-each_eleven : (replies : List (ReplyFacts ℕ ℕ)) → AllEleven replies → (told : ReplyFacts ℕ ℕ) → Contains replies told
-    → payload_in told ≡ 11
-each_eleven [] all told h = absurd (omega (arith, h.1))
-each_eleven (first ∷ replies) all told h = elim (Contains-cases first replies told h) [
+each_eleven : (replies : List (ReplyFacts ℕ ℕ)) → AllEleven replies → (replied : ReplyFacts ℕ ℕ)
+    → Contains replies replied
+    → payload_in replied ≡ 11
+each_eleven [] all replied h = absurd (omega (arith, h.1))
+each_eleven (first ∷ replies) all replied h = elim (Contains-cases first replies replied h) [
   | inl here ↦ ap payload_in (sym here) ∙ all.0
-  | inr later ↦ each_eleven replies all.1 told later
+  | inr later ↦ each_eleven replies all.1 replied later
 ]
 
 eleven_all : AllEleven misled.replies

@@ -46,11 +46,11 @@ module _ {K L D : Type 0} (same : D → D → Bool) (elect : Elect L) (P : State
       by_test true (_, leaves) = rw leaves holds
       by_test false goes = from_copy (cut_member m r.drop r.prune) r.start result left begun goes
 
-  told_keeps : (m : MemberFacts K L D) (call : CallFacts D) (told : ReplyFacts K D) (left : MemberFacts K L D)
-      → IsCall same elect m call told left → HoldsIn P m.life → HoldsIn P left.life
-  told_keeps m call told left is_step holds =
+  replied_keeps : (m : MemberFacts K L D) (call : CallFacts D) (replied : ReplyFacts K D) (left : MemberFacts K L D)
+      → IsCall same elect m call replied left → HoldsIn P m.life → HoldsIn P left.life
+  replied_keeps m call replied left is_step holds =
       elim (call_outcome same elect (λ c t x y. P x → P y) (λ c f x s. s) (λ c x s. s)
-      (λ c x o allowed s. call_by_any same elect x o P s (λ e. keeps x e s) c) m call told left is_step) [
+      (λ c x o allowed s. call_by_any same elect x o P s (λ e. keeps x e s) c) m call replied left is_step) [
         | inl (fault, tells, dies) ↦ subst (HoldsIn P) (sym dies) tt
         | inr (x, y, alive, lives, leads) ↦ subst (HoldsIn P) (sym lives) (leads (subst (HoldsIn P) alive holds))
       ]
@@ -59,15 +59,15 @@ module _ {K L D : Type 0} (same : D → D → Bool) (elect : Elect L) (P : State
       → ((r : RestartFacts K L D) → Contains steps (Restarts r) → P (new_state r.start.setup)) → HoldsIn P m.life
       → IsRun same elect m steps replies end → HoldsIn P end.life
   run_keeps [] [] m end later holds run = subst (λ n. HoldsIn P n.life) run holds
-  run_keeps [] (told ∷ replies) m end later holds run = absurd run
+  run_keeps [] (replied ∷ replies) m end later holds run = absurd run
   run_keeps (step ∷ steps) [] m end later holds run = absurd run
-  run_keeps (Calls call ∷ steps) (told ∷ replies) m end later holds (next, is_step, rest) =
+  run_keeps (Calls call ∷ steps) (replied ∷ replies) m end later holds (next, is_step, rest) =
       run_keeps steps replies next end (λ r h. later r (Contains-cons_rest (Calls call) steps (Restarts r) h))
-      (told_keeps m call told next is_step holds) rest
-  run_keeps (Prunes ∷ steps) (told ∷ replies) m end later holds (next, (tells, leaves), rest) =
+      (replied_keeps m call replied next is_step holds) rest
+  run_keeps (Prunes ∷ steps) (replied ∷ replies) m end later holds (next, (tells, leaves), rest) =
       run_keeps steps replies next end (λ r h. later r (Contains-cons_rest Prunes steps (Restarts r) h))
       (rw leaves holds) rest
-  run_keeps (Restarts q ∷ steps) (told ∷ replies) m end later holds (next, is_step, rest) =
+  run_keeps (Restarts q ∷ steps) (replied ∷ replies) m end later holds (next, is_step, rest) =
       run_keeps steps replies next end (λ r h. later r (Contains-cons_rest (Restarts q) steps (Restarts r) h))
       (restart_keeps m q is_step.0 next (later q (0, omega arith, refl)) holds is_step.1) rest
 

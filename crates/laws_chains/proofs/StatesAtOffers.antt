@@ -71,13 +71,13 @@ module _ {K L D : Type 0} (same : D → D → Bool) (elect : Elect L) (q : Propo
   abbrev IsOffering : Option (StateFacts K L D) → Type 0
   IsOffering life = (x : StateFacts K L D) × (life ≡ Some x) × Offers x
 
-  call_offers : (m next : MemberFacts K L D) (call : CallFacts D) (told : ReplyFacts K D)
-      → IsCall same elect m call told next → Contains (offers_in told) q → IsOffering m.life
+  call_offers : (m next : MemberFacts K L D) (call : CallFacts D) (replied : ReplyFacts K D)
+      → IsCall same elect m call replied next → Contains (offers_in replied) q → IsOffering m.life
   unfolding IsCall
-  call_offers m next call told is_call h = by_life m.life is_call h
+  call_offers m next call replied is_call h = by_life m.life is_call h
     where
-      by_life : (o : Option (StateFacts K L D)) → AnswersAlive same elect o m call told next
-          → Contains (offers_in told) q → IsOffering o
+      by_life : (o : Option (StateFacts K L D)) → AnswersAlive same elect o m call replied next
+          → Contains (offers_in replied) q → IsOffering o
       by_life None (tells, leaves) h = absurd
           (none_in q (subst (λ (t : ReplyFacts K D). Contains (offers_in t) q) tells h))
       by_life (Some x) (inl (tells, leaves)) h = (
@@ -89,27 +89,27 @@ module _ {K L D : Type 0} (same : D → D → Bool) (elect : Elect L) (q : Propo
       by_life (Some x) (inr (allowed, tells, leaves)) h =
           absurd (none_in q (subst (λ (t : ReplyFacts K D). Contains (offers_in t) q) tells h))
 
-  step_offers : (m next : MemberFacts K L D) (step : StepFacts K L D) (told : ReplyFacts K D)
-      → IsStep same elect m step told next → Contains (offers_in told) q → IsOffering m.life
-  step_offers m next (Calls call) told is_step h = call_offers m next call told is_step h
-  step_offers m next Prunes told is_step h =
+  step_offers : (m next : MemberFacts K L D) (step : StepFacts K L D) (replied : ReplyFacts K D)
+      → IsStep same elect m step replied next → Contains (offers_in replied) q → IsOffering m.life
+  step_offers m next (Calls call) replied is_step h = call_offers m next call replied is_step h
+  step_offers m next Prunes replied is_step h =
       absurd (none_in q (subst (λ (t : ReplyFacts K D). Contains (offers_in t) q) is_step.0 h))
-  step_offers m next (Restarts r) told (Ok done, restarts, is) h =
+  step_offers m next (Restarts r) replied (Ok done, restarts, is) h =
       absurd (none_in q (subst (λ (t : ReplyFacts K D). Contains (offers_in t) q) is h))
-  step_offers m next (Restarts r) told (Err error, restarts, is) h =
+  step_offers m next (Restarts r) replied (Err error, restarts, is) h =
       absurd (none_in q (subst (λ (t : ReplyFacts K D). Contains (offers_in t) q) is h))
 
   -- the step that offers it
   record OfferedIn (m : MemberFacts K L D) (steps : List (StepFacts K L D)) (replies : List (ReplyFacts K D)) : Type
       0 where
     first : List (StepFacts K L D)
-    told : List (ReplyFacts K D)
+    replied : List (ReplyFacts K D)
     more : List (StepFacts K L D)
     rest : List (ReplyFacts K D)
     steps_are : steps ≡ first ++ more
-    replies_are : replies ≡ told ++ rest
+    replies_are : replies ≡ replied ++ rest
     middle : MemberFacts K L D
-    run : IsRun same elect m first told middle
+    run : IsRun same elect m first replied middle
     offering : IsOffering middle.life
 
   offered_at : (steps : List (StepFacts K L D)) (replies : List (ReplyFacts K D)) (m end : MemberFacts K L D)
@@ -122,7 +122,7 @@ module _ {K L D : Type 0} (same : D → D → Bool) (elect : Elect L) (q : Propo
       elim (Contains-cases reply replies wanted h) [
         | inl here ↦ record {
           first = [];
-          told = [];
+          replied = [];
           more = step ∷ steps;
           rest = reply ∷ replies;
           steps_are = refl;
@@ -136,7 +136,7 @@ module _ {K L D : Type 0} (same : D → D → Bool) (elect : Elect L) (q : Propo
             let v = offered_at steps replies next end run wanted later among in
             record {
               first = step ∷ v.first;
-              told = reply ∷ v.told;
+              replied = reply ∷ v.replied;
               more = v.more;
               rest = v.rest;
               steps_are = ap (λ (ss : List (StepFacts K L D)). step ∷ ss) v.steps_are;
@@ -153,7 +153,7 @@ module _ {K L D : Type 0} (same : D → D → Bool) (elect : Elect L) (q : Propo
   state_at_offer term_length member s ran (offers, fetches, h, among) =
       let v = offered_at s.steps s.replies (new_member same elect s.start) ran.run.1 ran.run.2
       (Candidates offers fetches) h among in
-      state_where same elect term_length member s ran Offers v.first v.more v.told v.rest v.middle v.steps_are
+      state_where same elect term_length member s ran Offers v.first v.more v.replied v.rest v.middle v.steps_are
       v.replies_are v.run v.offering.0 v.offering.1 v.offering.2
 
 -- a proposal that is offered inside a term has an explicit view as its parent

@@ -34,16 +34,16 @@ module _ {D : Type 0} (i : ℕ) (vote : Subject D) where
   floor_none (Genesis payload) h = absurd (omega (arith, h.1))
   floor_none (Finalized c) h = absurd (let e = only_one _ _ h in cc)
 
-  called_none : (K L : Type 0) (call : CallFacts D) (told : ReplyFacts K D)
-      → Contains (accepted_at {L = L} (Calls call) told) (Signs i vote) → ⊥
+  called_none : (K L : Type 0) (call : CallFacts D) (replied : ReplyFacts K D)
+      → Contains (accepted_at {L = L} (Calls call) replied) (Signs i vote) → ⊥
   called_none K L call (Added b o) h = handed_none call h
   called_none K L call (AddedNullification b) h = handed_none call h
   called_none K L call _ h = absurd (omega (arith, h.1))
 
-  accepted_none : {K L : Type 0} (step : StepFacts K L D) (told : ReplyFacts K D)
-      → Contains (accepted_at step told) (Signs i vote) → ⊥
-  accepted_none {K} {L} (Calls call) told h = called_none K L call told h
-  accepted_none Prunes told h = absurd (omega (arith, h.1))
+  accepted_none : {K L : Type 0} (step : StepFacts K L D) (replied : ReplyFacts K D)
+      → Contains (accepted_at step replied) (Signs i vote) → ⊥
+  accepted_none {K} {L} (Calls call) replied h = called_none K L call replied h
+  accepted_none Prunes replied h = absurd (omega (arith, h.1))
   accepted_none (Restarts r) Restarted h = floor_none r.start.floor h
   accepted_none (Restarts r) _ h = absurd (omega (arith, h.1))
 
@@ -57,13 +57,13 @@ module _ {K L D : Type 0} (same : D → D → Bool) (elect : Elect L) (i : ℕ) 
   record SignedIn (m : MemberFacts K L D) (steps : List (StepFacts K L D)) (replies : List (ReplyFacts K D)) : Type
       0 where
     first : List (StepFacts K L D)
-    told : List (ReplyFacts K D)
+    replied : List (ReplyFacts K D)
     more : List (StepFacts K L D)
     rest : List (ReplyFacts K D)
     steps_are : steps ≡ first ++ more
-    replies_are : replies ≡ told ++ rest
+    replies_are : replies ≡ replied ++ rest
     middle : MemberFacts K L D
-    run : IsRun same elect m first told middle
+    run : IsRun same elect m first replied middle
     step : StepFacts K L D
     reply : ReplyFacts K D
     next : MemberFacts K L D
@@ -82,7 +82,7 @@ module _ {K L D : Type 0} (same : D → D → Bool) (elect : Elect L) (i : ℕ) 
           | inl accepted ↦ absurd (accepted_none i vote step reply accepted)
           | inr signs ↦ record {
             first = [];
-            told = [];
+            replied = [];
             more = step ∷ steps;
             rest = reply ∷ replies;
             steps_are = refl;
@@ -100,7 +100,7 @@ module _ {K L D : Type 0} (same : D → D → Bool) (elect : Elect L) (i : ℕ) 
             let v = signed_at steps replies next end run later in
             record {
               first = step ∷ v.first;
-              told = reply ∷ v.told;
+              replied = reply ∷ v.replied;
               more = v.more;
               rest = v.rest;
               steps_are = ap (λ (ss : List (StepFacts K L D)). step ∷ ss) v.steps_are;
@@ -151,10 +151,10 @@ module _ {K L D : Type 0} (same : D → D → Bool) (elect : Elect L) where
   IsRuled x i vote = RuleFor x vote × (x.me ≡ Some i)
 
   module _ (i : ℕ) (vote : Subject D) where
-    by_exact : (x : StateFacts K L D) (Rule : Type 0) (about : Option (Subject D)) (told : ReplyFacts K D)
-        → ((given : Subject D) → Rule → about ≡ Some given → RuleFor x given) → IsExact Rule x.me about told
-        → Contains (signed_in told) (Signs i vote) → IsRuled x i vote
-    by_exact x Rule about told ruled exact signs =
+    by_exact : (x : StateFacts K L D) (Rule : Type 0) (about : Option (Subject D)) (replied : ReplyFacts K D)
+        → ((given : Subject D) → Rule → about ≡ Some given → RuleFor x given) → IsExact Rule x.me about replied
+        → Contains (signed_in replied) (Signs i vote) → IsRuled x i vote
+    by_exact x Rule about replied ruled exact signs =
         let found = exact.only (Signs i vote) signs in
         let signed = found.1 in
         let so : Signs i vote ≡ Signs signed.0 signed.1 = signed.4 in
@@ -162,30 +162,31 @@ module _ {K L D : Type 0} (same : D → D → Bool) (elect : Elect L) where
         let what : vote ≡ signed.1 = cc in
         (subst (RuleFor x) (sym what) (ruled signed.1 found.0 signed.3), signed.2 ∙ ap (λ (k : ℕ). Some k) (sym who))
 
-    call_ruled : (x : StateFacts K L D) (call : CallFacts D) (told : ReplyFacts K D)
-        → ExactAt same elect (Some x) (Calls call) told → Contains (signed_in told) (Signs i vote) → IsRuled x i vote
-    call_ruled x (ConstructNullify v) told exact signs =
-        by_exact x (NullifyRule x v) (Some (subject.Nullify (round_number x v))) told
+    call_ruled : (x : StateFacts K L D) (call : CallFacts D) (replied : ReplyFacts K D)
+        → ExactAt same elect (Some x) (Calls call) replied → Contains (signed_in replied) (Signs i vote)
+        → IsRuled x i vote
+    call_ruled x (ConstructNullify v) replied exact signs =
+        by_exact x (NullifyRule x v) (Some (subject.Nullify (round_number x v))) replied
         (λ given rule is. of_nullify x v given is) exact signs
-    call_ruled x (ConstructFinalize v) told exact signs =
-        by_exact x (FinalizeRule elect x v) (option_map subject.Finalize (proposal_at x v)) told
+    call_ruled x (ConstructFinalize v) replied exact signs =
+        by_exact x (FinalizeRule elect x v) (option_map subject.Finalize (proposal_at x v)) replied
         (λ given rule is. of_finalize x v rule (proposal_at x v) refl given is) exact signs
-    call_ruled x (ConstructNotarize v) told exact signs =
-        by_exact x (NotarizeRule same elect x v) (option_map subject.Notarize (proposal_at x v)) told
+    call_ruled x (ConstructNotarize v) replied exact signs =
+        by_exact x (NotarizeRule same elect x v) (option_map subject.Notarize (proposal_at x v)) replied
         (λ given rule is. of_notarize x v rule (proposal_at x v) refl given is) exact signs
-    call_ruled x _ told exact signs = absurd (unsigned i vote (signed_in told) exact signs)
+    call_ruled x _ replied exact signs = absurd (unsigned i vote (signed_in replied) exact signs)
 
-    step_ruled : (x : StateFacts K L D) (step : StepFacts K L D) (told : ReplyFacts K D)
-        → ExactAt same elect (Some x) step told → Contains (signed_in told) (Signs i vote) → IsRuled x i vote
-    step_ruled x (Calls call) told exact signs = call_ruled x call told exact signs
-    step_ruled x Prunes told exact signs = absurd (unsigned i vote (signed_in told) exact signs)
-    step_ruled x (Restarts r) told exact signs = absurd (unsigned i vote (signed_in told) exact signs)
+    step_ruled : (x : StateFacts K L D) (step : StepFacts K L D) (replied : ReplyFacts K D)
+        → ExactAt same elect (Some x) step replied → Contains (signed_in replied) (Signs i vote) → IsRuled x i vote
+    step_ruled x (Calls call) replied exact signs = call_ruled x call replied exact signs
+    step_ruled x Prunes replied exact signs = absurd (unsigned i vote (signed_in replied) exact signs)
+    step_ruled x (Restarts r) replied exact signs = absurd (unsigned i vote (signed_in replied) exact signs)
 
-    life_ruled : (life : Option (StateFacts K L D)) (step : StepFacts K L D) (told : ReplyFacts K D)
-        → ExactAt same elect life step told → Contains (signed_in told) (Signs i vote)
+    life_ruled : (life : Option (StateFacts K L D)) (step : StepFacts K L D) (replied : ReplyFacts K D)
+        → ExactAt same elect life step replied → Contains (signed_in replied) (Signs i vote)
         → (x : StateFacts K L D) × (life ≡ Some x) × IsRuled x i vote
-    life_ruled None step told exact signs = absurd (unsigned i vote (signed_in told) exact signs)
-    life_ruled (Some x) step told exact signs = (x, refl, step_ruled x step told exact signs)
+    life_ruled None step replied exact signs = absurd (unsigned i vote (signed_in replied) exact signs)
+    life_ruled (Some x) step replied exact signs = (x, refl, step_ruled x step replied exact signs)
 
 -- the execution up to there
 
@@ -209,14 +210,14 @@ module _ {K L D : Type 0} (same : D → D → Bool) (elect : Elect L) (term_leng
 
   module _ (ran : IsExecution same elect term_length member s) where
     pub state_where : (Holds : StateFacts K L D → Type 0) (first more : List (StepFacts K L D))
-        (told rest : List (ReplyFacts K D)) (middle : MemberFacts K L D) → s.steps ≡ first ++ more
-        → s.replies ≡ told ++ rest → IsRun same elect (new_member same elect s.start) first told middle
+        (replied rest : List (ReplyFacts K D)) (middle : MemberFacts K L D) → s.steps ≡ first ++ more
+        → s.replies ≡ replied ++ rest → IsRun same elect (new_member same elect s.start) first replied middle
         → (x : StateFacts K L D) → middle.life ≡ Some x → Holds x → StateWhere Holds
     unfolding IsRunFrom
-    state_where Holds first more told rest middle steps_are replies_are run x alive holds =
+    state_where Holds first more replied rest middle steps_are replies_are run x alive holds =
         record {
           steps = first;
-          replies = told;
+          replies = replied;
           ran = record {
             lives = record {
               first = ran.lives.first;
@@ -227,20 +228,21 @@ module _ {K L D : Type 0} (same : D → D → Bool) (elect : Elect L) (term_leng
           x = x;
           lives = (middle, run, alive);
           trace_within = λ d h. (
-              let joined = traces_joined same elect first more told rest (new_member same elect s.start) middle run in
+              let joined = traces_joined same elect first more replied rest
+              (new_member same elect s.start) middle run in
               let whole : trace_of
-              s ≡ (of_floor s.start.floor ++ (trace_of_steps first told ++ trace_of_steps more rest)) =
+              s ≡ (of_floor s.start.floor ++ (trace_of_steps first replied ++ trace_of_steps more rest)) =
               (λ j. of_floor s.start.floor ++ trace_of_steps (steps_are j) (replies_are j))
               ∙ ap (λ ds. of_floor s.start.floor ++ ds) joined in
               subst (λ ds. Contains ds d) (sym whole)
-              (elim (Contains-append_cases (of_floor s.start.floor) (trace_of_steps first told) d h) [
+              (elim (Contains-append_cases (of_floor s.start.floor) (trace_of_steps first replied) d h) [
                 | inl begun ↦ Contains-append_left (of_floor s.start.floor) _ d begun
                 | inr done ↦ Contains-append_right (of_floor s.start.floor) _ d
-                    (Contains-append_left (trace_of_steps first told) (trace_of_steps more rest) d done)
+                    (Contains-append_left (trace_of_steps first replied) (trace_of_steps more rest) d done)
               ]));
           judged_within = λ j h. subst (λ ps. Contains ps j)
-              (sym (ap (λ rs. judged_in rs) replies_are ∙ judged_joined told rest))
-              (Contains-append_left (judged_in told) (judged_in rest) j h);
+              (sym (ap (λ rs. judged_in rs) replies_are ∙ judged_joined replied rest))
+              (Contains-append_left (judged_in replied) (judged_in rest) j h);
           restarts_within = within;
           holds = holds;
         }
@@ -254,7 +256,8 @@ module _ {K L D : Type 0} (same : D → D → Bool) (elect : Elect L) (term_leng
     from_step i vote v =
         let at = life_ruled same elect i vote v.middle.life v.step v.reply
         (step_exact same elect v.middle v.next v.step v.reply v.is_step) v.signs in
-        state_where (λ x. IsRuled same elect x i vote) v.first v.more v.told v.rest v.middle v.steps_are v.replies_are
+        state_where (λ x. IsRuled same elect x i vote) v.first v.more v.replied v.rest v.middle v.steps_are
+        v.replies_are
         v.run at.0 at.1 at.2
 
     pub state_at_vote : (i : ℕ) (vote : Subject D) → Contains (trace_of s) (Signs i vote) → StateAtVote i vote

@@ -21,48 +21,48 @@ use Rattle.laws_safety.specs.ScenarioSteps.{in_turn, two}
 use Rattle.laws_safety.specs.Traces.{TraceEvent, Signs}
 use Rattle.laws_safety.proofs.agreement.Claims.{one_proposal}
 use Rattle.laws_safety.proofs.networks.Continuations.{AreExecutions, network_of, backed_so, each_one, each_one-true}
-use Rattle.laws_safety.proofs.networks.ScenarioSteps.{told_in, ran_as_told}
+use Rattle.laws_safety.proofs.networks.ScenarioSteps.{replied_in, ran_as_replied}
 use Rattle.laws_chains.specs.Chains.{lowest_parent}
 use Rattle.laws_chains.specs.Parents.{EachLifetime, HandoffsAreWitnessed}
 use Rattle.laws_chains.specs.UnofferedVerdicts.{long_start, unoffering, unoffered, NoFirstNotarized, ReachesNoGenesis}
 use Rattle.laws_chains.proofs.ViewsAhead.{AllOf, each_of, one_life}
 use Rattle.laws_chains.proofs.Quorums.{two_from}
 
-first_told : told_in (unoffering 0) ≡ (unoffering 0).replies
+first_replied : replied_in (unoffering 0) ≡ (unoffering 0).replies
 unfolding standing propose_answer proposed_answer find_parent captured_parent_valid has_valid_parent_span
     ancestry_payload_for_child first_unnullified_view explicit_ancestry_payload optimistic_ancestry_payload
     is_handoff_parent is_voted_ancestor can_chain_on in_issuance_window is_admitted verification_matches
     parent_payload_for may_notarize may_nullify may_finalize has_conflicting_nullify required_certification_parent
-first_told = refl
+first_replied = refl
 
-second_told : told_in (unoffering 1) ≡ (unoffering 1).replies
+second_replied : replied_in (unoffering 1) ≡ (unoffering 1).replies
 unfolding standing propose_answer proposed_answer find_parent captured_parent_valid has_valid_parent_span
     ancestry_payload_for_child first_unnullified_view explicit_ancestry_payload optimistic_ancestry_payload
     is_handoff_parent is_voted_ancestor can_chain_on in_issuance_window is_admitted verification_matches
     parent_payload_for may_notarize may_nullify may_finalize has_conflicting_nullify required_certification_parent
-second_told = refl
+second_replied = refl
 
-third_told : told_in (unoffering 2) ≡ (unoffering 2).replies
+third_replied : replied_in (unoffering 2) ≡ (unoffering 2).replies
 unfolding standing propose_answer proposed_answer find_parent captured_parent_valid has_valid_parent_span
     ancestry_payload_for_child first_unnullified_view explicit_ancestry_payload optimistic_ancestry_payload
     is_handoff_parent is_voted_ancestor can_chain_on in_issuance_window is_admitted verification_matches
     parent_payload_for may_notarize may_nullify may_finalize has_conflicting_nullify required_certification_parent
-third_told = refl
+third_replied = refl
 
 begins : (me : ℕ) → BeginsAs 3 me (long_start me).setup
 begins me = record { terms = record { terms = refl; some = omega arith }; signs_as = inl refl }
 
 first_ran : IsExecution nat_eq in_turn 3 0 (unoffering 0)
 unfolding first_recover_error
-first_ran = ran_as_told 3 0 (unoffering 0) (begins 0) tt refl tt first_told
+first_ran = ran_as_replied 3 0 (unoffering 0) (begins 0) tt refl tt first_replied
 
 second_ran : IsExecution nat_eq in_turn 3 1 (unoffering 1)
 unfolding first_recover_error
-second_ran = ran_as_told 3 1 (unoffering 1) (begins 1) tt refl tt second_told
+second_ran = ran_as_replied 3 1 (unoffering 1) (begins 1) tt refl tt second_replied
 
 third_ran : IsExecution nat_eq in_turn 3 2 (unoffering 2)
 unfolding first_recover_error
-third_ran = ran_as_told 3 2 (unoffering 2) (begins 2) tt refl tt third_told
+third_ran = ran_as_replied 3 2 (unoffering 2) (begins 2) tt refl tt third_replied
 
 few : FewFaulty unoffered
 few = inl (omega arith, omega arith)

@@ -20,10 +20,10 @@ module _ {K L D : Type 0} (same : D → D → Bool) (elect : Elect L) where
   abbrev pub IsRunOnOffers : MemberFacts K L D → List (StepFacts K L D) → List (ReplyFacts K D)
       → MemberFacts K L D → Type 0
   IsRunOnOffers m [] [] end = m ≡ end
-  IsRunOnOffers m [] (told ∷ rest) end = ⊥
+  IsRunOnOffers m [] (replied ∷ rest) end = ⊥
   IsRunOnOffers m (step ∷ steps) [] end = ⊥
-  IsRunOnOffers m (step ∷ steps) (told ∷ rest) end =
-      IsStepOnOffer m step × (next : MemberFacts K L D) × IsStep same elect m step told next
+  IsRunOnOffers m (step ∷ steps) (replied ∷ rest) end =
+      IsStepOnOffer m step × (next : MemberFacts K L D) × IsStep same elect m step replied next
       × IsRunOnOffers next steps rest end
 
   -- the same in all its lifetimes

@@ -9,7 +9,7 @@ use Rattle.simplex_types.specs.declared.reasons.TimeoutReason.TheVariants.{Leade
 use Rattle.simplex_types.specs.declared.types.fault.Fault.TheVariants.{Failed, OutOfMemory}
 use Rattle.simplex_voter.specs.Facts.{StateFacts, new_facts}
 use Rattle.simplex_resolver.specs.Repair.{facts_of}
-use Rattle.simplex_resolver.specs.Steps as told
+use Rattle.simplex_resolver.specs.Steps as resolver_call
 use Rattle.simplex_resolver.specs.declared.resolver.effect.Effect.TheVariants as effect
 use Rattle.simplex_record.proofs.Examples.{Entry, proposal, round, nullify, finalize, notarization, nullification, finalization, verdict}
 use Rattle.simplex_record.proofs.RecoveryExamples.{settings}
@@ -86,40 +86,41 @@ notarized view = record { proposal = proposal view (view - 1) 7; bytes = [] }
 abbrev nullified : ℕ → NullificationFacts
 nullified view = record { round = round view; bytes = [] }
 
-abbrev heard : Answer → CallFacts ℕ → List told.Call
-heard answer call = received_by (λ payload. []) (λ certificate. []) answer call
+abbrev received : Answer → CallFacts ℕ → List resolver_call.Call
+received answer call = received_by (λ payload. []) (λ certificate. []) answer call
 
-abbrev heard_by_steps : List (StepFacts ℕ ℕ ℕ × Answer) → List told.Call
-heard_by_steps steps = received_in (λ payload. []) (λ certificate. []) steps
+abbrev received_by_steps : List (StepFacts ℕ ℕ ℕ × Answer) → List resolver_call.Call
+received_by_steps steps = received_in (λ payload. []) (λ certificate. []) steps
 
 -- a certificate that is new, and not one that was known
-heard_once : heard (reply.Added false None) (AddNotarization (notarized 3)) ≡ []
-heard_once = refl
+received_once : received (reply.Added false None) (AddNotarization (notarized 3)) ≡ []
+received_once = refl
 
-heard_new : heard (reply.Added true None) (AddNotarization (notarized 3)) ≡ told.Notarization 3 ∷ []
-heard_new = refl
+received_new : received (reply.Added true None) (AddNotarization (notarized 3)) ≡ resolver_call.Notarization 3 ∷ []
+received_new = refl
 
 -- nothing of genesis, which no peer is asked for
-genesis : heard (reply.AddedNullification true) (AddNullification (nullified 0) 5) ≡ []
+genesis : received (reply.AddedNullification true) (AddNullification (nullified 0) 5) ≡ []
 genesis = refl
 
 -- nor of a verdict without its notarization
-no_verdict : heard (reply.Certified true None) (Certified 3 true 5) ≡ []
+no_verdict : received (reply.Certified true None) (Certified 3 true 5) ≡ []
 no_verdict = refl
 
 -- it receives the steps' calls in their order; a pruning passes it nothing
 in_order :
-    heard_by_steps
+    received_by_steps
     ((Calls (AddNotarization (notarized 3)), reply.Added true None) ∷ (Prunes, reply.Unit)
     ∷ (Calls (AddNotarization (notarized 5)), reply.Added true None) ∷ [])
-    ≡ told.Notarization 3 ∷ told.Notarization 5 ∷ []
+    ≡ resolver_call.Notarization 3 ∷ resolver_call.Notarization 5 ∷ []
 in_order = refl
 
 -- a notarization that comes ends the fetch of itself alone, and none of a decision on its view
-came : map (λ view. is_notarized Notarization view (told.Notarization 3)) (2 ∷ 3 ∷ 4 ∷ []) ≡ false ∷ true ∷ false ∷ []
+came : map (λ view. is_notarized Notarization view (resolver_call.Notarization 3)) (2 ∷ 3 ∷ 4 ∷ []) ≡ false ∷ true
+    ∷ false ∷ []
 came = refl
 
-no_decision : is_notarized Decision 3 (told.Notarization 3) ≡ false
+no_decision : is_notarized Decision 3 (resolver_call.Notarization 3) ≡ false
 no_decision = refl
 
 -- what is settled of one kind ends no fetch of another
@@ -128,21 +129,23 @@ settled_of_kind : map (λ kind. ends_fetch kind 3 (effect.Settled OfNotarization
 settled_of_kind = refl
 
 -- a finalization ends the fetches of all views up to its own
-ended_by_finalization : map (ended_by (facts_of 5 []) (told.Finalization 3 [] ∷ []) Decision) (2 ∷ 3 ∷ 4 ∷ []) ≡ true
+ended_by_finalization : map (ended_by (facts_of 5 []) (resolver_call.Finalization 3 [] ∷ []) Decision) (2 ∷ 3 ∷ 4 ∷ [])
+    ≡ true
     ∷ true ∷ false ∷ []
 ended_by_finalization = refl
 
 -- a nullification ends those of nullifications of its view and of the rest of its term
-ended_by_nullification : map (ended_by (facts_of 5 []) (told.Nullification 3 [] ∷ []) Nullification)
+ended_by_nullification : map (ended_by (facts_of 5 []) (resolver_call.Nullification 3 [] ∷ []) Nullification)
     (2 ∷ 3 ∷ 5 ∷ 6 ∷ []) ≡ false ∷ true ∷ true ∷ false ∷ []
 ended_by_nullification = refl
 
 -- a true verdict raises the floor, below which no nullification is wanted; a false one does not
-ended_by_verdict : map (ended_by (facts_of 5 []) (told.Verdict 3 [] true ∷ []) Nullification) (2 ∷ 3 ∷ 4 ∷ []) ≡ true
+ended_by_verdict : map (ended_by (facts_of 5 []) (resolver_call.Verdict 3 [] true ∷ []) Nullification) (2 ∷ 3 ∷ 4 ∷ [])
+    ≡ true
     ∷ true ∷ false ∷ []
 ended_by_verdict = refl
 
-ended_by_no_verdict : ended_by (facts_of 5 []) (told.Verdict 3 [] false ∷ []) Nullification 3 ≡ false
+ended_by_no_verdict : ended_by (facts_of 5 []) (resolver_call.Verdict 3 [] false ∷ []) Nullification 3 ≡ false
 ended_by_no_verdict = refl
 
 -- what a timeout gives

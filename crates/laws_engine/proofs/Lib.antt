@@ -1,4 +1,4 @@
-pub mod Told
+pub mod ReceivedCalls
 pub mod TimeoutCauses
 pub mod Examples
 pub mod Votes

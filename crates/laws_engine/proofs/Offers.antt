@@ -2,7 +2,7 @@
 use Rattle.std.proofs.Common.{◌≡◌, ap, sym, subst, ℕ, inl, inr, Bool, List, [], ◌∷◌, ◌++◌, map}
 use Rattle.simplex_types.specs.Certificates.{CertificateFacts, Notarized, Nullified, Finalized}
 use Rattle.simplex_voter.specs.Facts.{Elect}
-use Rattle.simplex_member.specs.Calls.{CallFacts, Certified, ReplyFacts, told}
+use Rattle.simplex_member.specs.Calls.{CallFacts, Certified, ReplyFacts, reply_facts}
 use Rattle.simplex_member.specs.MemberFacts.{MemberFacts}
 use Rattle.simplex_member.specs.Runs.{StepFacts, Calls, Prunes, Restarts}
 use Rattle.simplex_member.specs.declared.member.calls.Reply.{Reply}
@@ -42,7 +42,7 @@ module _ {S L D K G C : Type 0} (same : D → D → Bool) (elect : Elect L) (byt
   pub steps_on_offers : (steps : List (StepFacts K L D × Reply S D K G C)) (causes left : List (Cause S D K G C))
       (asked : FetchKind → ℕ → Bool) (m end : MemberFacts K L D)
       → IsCausedBy same elect bytes_of now asks_now over steps causes asked m left end
-      → IsRunOnOffers same elect m (map (λ e. e.0) steps) (map (λ e. told bytes_of e.1) steps) end
+      → IsRunOnOffers same elect m (map (λ e. e.0) steps) (map (λ e. reply_facts bytes_of e.1) steps) end
   steps_on_offers [] causes left asked m end (among, is, still) = sym is
   steps_on_offers ((step, reply) ∷ rest) causes left asked m end (meant, next, is_step, provenance) =
       let given : List (Cause S D K G C) = step_causes {L = L} now step reply in (
@@ -75,7 +75,7 @@ lifetime_on_offers same elect bytes bytes_of first last [] is =
 lifetime_on_offers {L = L} {D = D} {K = K} same elect bytes bytes_of first last (call ∷ calls) (it, rest) =
     let later = lifetime_on_offers same elect bytes bytes_of call.left last calls rest in
     let steps : List (StepFacts K L D) = map (λ e. e.0) it.steps in
-    let replies : List (ReplyFacts K D) = map (λ e. told bytes_of e.1) it.steps in (
+    let replies : List (ReplyFacts K D) = map (λ e. reply_facts bytes_of e.1) it.steps in (
       steps ++ later.0,
       replies ++ later.1,
       runs_join same elect first.core.member.facts call.left.core.member.facts last.core.member.facts steps later.0

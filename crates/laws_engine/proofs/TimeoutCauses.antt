@@ -23,7 +23,7 @@ use Rattle.engine_planner.specs.declared.task.Task.TheVariants as task
 use Rattle.engine_planner.proofs.PlannedWork.{any_either}
 use Rattle.simplex_engine.specs.Provenance.{step_causes, IsCausedBy, IsIn, IsCallCaused, IsStepCaused}
 use Rattle.laws_engine.specs.Laws.{SaysDue}
-use Rattle.laws_engine.proofs.Told.{any_weaker, candidates_give_none, first_or_later, shown_gives_none}
+use Rattle.laws_engine.proofs.ReceivedCalls.{any_weaker, candidates_give_none, first_or_later, shown_gives_none}
 
 module _ {S D K G C : Type 0} where
   -- it is of a timeout

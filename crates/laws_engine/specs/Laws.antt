@@ -19,18 +19,18 @@ use Rattle.simplex_engine.specs.declared.engine.Engine.{Engine}
 module _ {S D K G C : Type 0} where
   -- what was received before such a call: exactly this reply of the application, the leader's timeout, the proposal by
   -- its leader, or a certificate on the same; any other call is the engine's own
-  abbrev pub IsToldBy : List (Cause S D K G C) → CallFacts D → Type 0
-  IsToldBy causes (Verified view) = IsIn (Message (task.Verified view)) causes
-  IsToldBy causes (VerificationFailed view _ _) = IsIn (Message (task.VerificationFailed view)) causes
-  IsToldBy causes (Proposed view payload _) = IsIn (Message (task.Proposed view payload)) causes
-  IsToldBy causes (Certified view is_success _) = IsIn (Message (task.Certified view is_success)) causes
-  IsToldBy causes (TriggerTimeout view reason _) = IsIn (Message (task.TriggerTimeout view reason)) causes
-  IsToldBy causes (SetProposal view proposal) =
+  abbrev pub WasReceived : List (Cause S D K G C) → CallFacts D → Type 0
+  WasReceived causes (Verified view) = IsIn (Message (task.Verified view)) causes
+  WasReceived causes (VerificationFailed view _ _) = IsIn (Message (task.VerificationFailed view)) causes
+  WasReceived causes (Proposed view payload _) = IsIn (Message (task.Proposed view payload)) causes
+  WasReceived causes (Certified view is_success _) = IsIn (Message (task.Certified view is_success)) causes
+  WasReceived causes (TriggerTimeout view reason _) = IsIn (Message (task.TriggerTimeout view reason)) causes
+  WasReceived causes (SetProposal view proposal) =
       IsIn (Message (task.SetProposal view proposal)) causes ⊎ ((from : ℕ) × IsIn (Arrival from proposal) causes)
-  IsToldBy causes (AddNotarization c) = IsIn (Quorum (certificate_subject (Notarized c))) causes
-  IsToldBy causes (AddNullification c _) = IsIn (Quorum (certificate_subject (Nullified c))) causes
-  IsToldBy causes (AddFinalization c _) = IsIn (Quorum (certificate_subject (Finalized c))) causes
-  IsToldBy causes _ = Unit {0}
+  WasReceived causes (AddNotarization c) = IsIn (Quorum (certificate_subject (Notarized c))) causes
+  WasReceived causes (AddNullification c _) = IsIn (Quorum (certificate_subject (Nullified c))) causes
+  WasReceived causes (AddFinalization c _) = IsIn (Quorum (certificate_subject (Finalized c))) causes
+  WasReceived causes _ = Unit {0}
 
 -- what all replies to some steps brought
 abbrev pub given_by_all : {S L D K G C : Type 0} → ℕ → List (StepFacts K L D × Reply S D K G C) → List (Cause S D K G C)
@@ -52,7 +52,7 @@ OfEachWay S L D K G C law =
 abbrev pub CallsWereReceivedBefore : (S L D K G C : Type 0) → Type 0
 CallsWereReceivedBefore S L D K G C =
     OfEachWay S L D K G C (λ now came out old new steps. (call : CallFacts D) (reply : Reply S D K G C)
-    → Contains steps (Calls call, reply) → IsToldBy (came ++ pending_causes old) call)
+    → Contains steps (Calls call, reply) → WasReceived (came ++ pending_causes old) call)
 
 -- what is returned, queued and planned in the end, except what is asked of peers, came in, was at hand, or was brought
 -- by a reply

@@ -1,7 +1,7 @@
 -- An engine passes verdicts only on offers, call by call.
 use Rattle.std.specs.Prelude.{◌≡◌, ℕ, Bool, List, [], ◌∷◌, ◌++◌, map}
 use Rattle.simplex_voter.specs.Facts.{Elect}
-use Rattle.simplex_member.specs.Calls.{ReplyFacts, told}
+use Rattle.simplex_member.specs.Calls.{ReplyFacts, reply_facts}
 use Rattle.simplex_member.specs.MemberFacts.{MemberFacts}
 use Rattle.simplex_member.specs.Runs.{StepFacts}
 use Rattle.engine_fetches.specs.declared.fetches.FetchKind.{FetchKind}
@@ -19,7 +19,8 @@ EnginesRunOnOffers S L D K G C =
     (came : List (Cause S D K G C))
     (out : List (Work S D K G C)) (held : FetchKind → ℕ → Bool) (old new : Engine S L D K G C)
     (it : IsCaused same elect bytes bytes_of now came out held old new)
-    → IsRunOnOffers same elect old.core.member.facts (map (λ e. e.0) it.steps) (map (λ e. told bytes_of e.1) it.steps)
+    → IsRunOnOffers same elect old.core.member.facts (map (λ e. e.0) it.steps)
+    (map (λ e. reply_facts bytes_of e.1) it.steps)
     new.core.member.facts
 
 -- a call of an engine that returned `Ok`: its moment, what came in, what was returned, what need not be asked for, and

@@ -40,9 +40,9 @@ module _ {K L D : Type 0} (same : D → D → Bool) (elect : Elect L) where
   pub run_of : (m end : MemberFacts K L D) (steps : List (StepFacts K L D)) (replies : List (ReplyFacts K D))
       → IsRunOnOffers same elect m steps replies end → IsRun same elect m steps replies end
   run_of m end [] [] run = run
-  run_of m end [] (told ∷ replies) run = absurd run
+  run_of m end [] (replied ∷ replies) run = absurd run
   run_of m end (step ∷ steps) [] run = absurd run
-  run_of m end (step ∷ steps) (told ∷ replies) (on_offer, next, is_step, run) =
+  run_of m end (step ∷ steps) (replied ∷ replies) (on_offer, next, is_step, run) =
       (next, is_step, run_of next end steps replies run)
 
   offers_joined : (first middle last : MemberFacts K L D) (steps more : List (StepFacts K L D))

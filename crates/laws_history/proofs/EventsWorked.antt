@@ -4,7 +4,7 @@ use Rattle.simplex_types.specs.Config.{Genesis, Finalized}
 use Rattle.simplex_voter.specs.Facts.{StateFacts, Elect}
 use Rattle.simplex_record.specs.Events.{Event, after_event, SetFloor, AddNotarization, AddNullification, AddFinalization, Certified, ConstructNotarize, ConstructNullify, ConstructFinalize, SetProposal, TryPropose, Proposed, Supersede, Release, TryVerify, Verified, VerificationFailed, CertifyCandidates, SetCertifyHandle, TriggerTimeout, NextTimeout, BroadcastNotarization, BroadcastNullification, BroadcastFinalization, Prune, Replay}
 use Rattle.laws_history.proofs.Worked.{WorkFollows}
-use Rattle.laws_history.proofs.work.HandedIn.{notarization_works, nullification_works, finalization_works, floor_finalization_works, genesis_works}
+use Rattle.laws_history.proofs.work.PassedCertificates.{notarization_works, nullification_works, finalization_works, floor_finalization_works, genesis_works}
 use Rattle.laws_history.proofs.work.Verdicts.{verdict_works}
 use Rattle.laws_history.proofs.work.Replays.{replay_works}
 use Rattle.laws_history.proofs.work.Requests.{try_propose_works, proposed_works, supersede_works, release_works, verified_works, handle_works, candidates_works, broadcast_notarization_works, broadcast_nullification_works, broadcast_finalization_works, prune_works}

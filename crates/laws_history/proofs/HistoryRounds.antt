@@ -49,7 +49,7 @@ module _ {K L D : Type 0} (same : D → D → Bool) (elect : Elect L) (history :
       (first_said same elect (latches same elect v) fresh events)
       (retry_in same elect v fresh events) in
       let set_up : z.settings ≡ fresh.settings = ap (λ (a : StateFacts K L D). a.settings) (sym facts) ∙ settings in
-      let told : (round_of y v).decision ≡ (if decides_finalize same elect v z e then Finalize
+      let replied : (round_of y v).decision ≡ (if decides_finalize same elect v z e then Finalize
       else (if decides_nullify v z e then Nullify None else timed fresh.settings (enters v z e)
       (latches same elect v z e) (retries v z e) (decision_in same elect v fresh events))) =
       said ∙ ap (λ s. if decides_finalize same elect v z e then Finalize
@@ -68,7 +68,7 @@ module _ {K L D : Type 0} (same : D → D → Bool) (elect : Elect L) (history :
       (retries v z e)
       (retry_in same elect v fresh events)
       (round_of y v).decision
-      told
+      replied
       (ap (λ k. k.finalize_decided) known ∙ done_further same elect history x facts e (decides_finalize same elect v)
       (is_finalize (round_of x v).decision) finalized)
 

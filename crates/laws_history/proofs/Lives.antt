@@ -80,10 +80,10 @@ module _ {K L D : Type 0} (same : D → D → Bool) (elect : Elect L) where
   }
 
   -- what returns is not refused
-  told_events : (history : History K L D) (x : StateFacts K L D) (o : OutstandingWork K D) (call : CallFacts D)
+  replied_events : (history : History K L D) (x : StateFacts K L D) (o : OutstandingWork K D) (call : CallFacts D)
       → with_call_events history o call (answer same elect x o call) ≡ with_events history (events_of o call)
-  told_events history x o calls.GetBestCertificate = refl
-  told_events history x o _ = refl
+  replied_events history x o calls.GetBestCertificate = refl
+  replied_events history x o _ = refl
 
 module _ {K L D : Type 0} (same : D → D → Bool) (decides : (d e : D) → same d e ≡ true → d ≡ e) (elect : Elect L)
     (history : History K L D) (x : StateFacts K L D) (shows : DeterminesState same elect history x) where
@@ -220,7 +220,7 @@ module _ {K L D : Type 0} (same : D → D → Bool) (decides : (d e : D) → sam
           (reply_of same elect x m.outstanding_work call)) (left_of same elect x m call)
       by_fault None no_fault allowed = rw (allowed, no_fault)
           (subst (λ h. DeterminesState same elect h (after_call same elect x m.outstanding_work call))
-          (sym (told_events same elect history x m.outstanding_work call))
+          (sym (replied_events same elect history x m.outstanding_work call))
           (call_shown same decides elect history x shows m.outstanding_work call allowed))
       by_fault (Some f) refused allowed = rw (allowed, refused) shown
 
@@ -230,14 +230,15 @@ module _ {K L D : Type 0} (same : D → D → Bool) (decides : (d e : D) → sam
       by_allowed true allowed = by_fault (fault_of x call) refl allowed
       by_allowed false not_allowed = rw not_allowed shown
 
-  pub called_shown : (history : History K L D) (left : MemberFacts K L D) (call : CallFacts D) (told : ReplyFacts K D)
-      → DeterminesMember same elect history m → IsCall same elect m call told left
-      → DeterminesMember same elect (with_call_events history m.outstanding_work call told) left
+  pub called_shown : (history : History K L D) (left : MemberFacts K L D) (call : CallFacts D)
+      (replied : ReplyFacts K D)
+      → DeterminesMember same elect history m → IsCall same elect m call replied left
+      → DeterminesMember same elect (with_call_events history m.outstanding_work call replied) left
   unfolding IsCall
-  called_shown history left call told shown is_call = by_life m.life refl is_call
+  called_shown history left call replied shown is_call = by_life m.life refl is_call
     where
-      by_life : (o : Option (StateFacts K L D)) → m.life ≡ o → AnswersAlive same elect o m call told left
-          → DeterminesMember same elect (with_call_events history m.outstanding_work call told) left
+      by_life : (o : Option (StateFacts K L D)) → m.life ≡ o → AnswersAlive same elect o m call replied left
+          → DeterminesMember same elect (with_call_events history m.outstanding_work call replied) left
       by_life None dead (tells, leaves) = rw (tells, leaves) shown
       by_life (Some x) alive (inl (tells, leaves)) =
           rw (tells, leaves) (answered history call x shown
@@ -315,17 +316,17 @@ module _ {K L D : Type 0} (same : D → D → Bool) (decides : (d e : D) → sam
       × DeterminesMember same elect last end
   run_shown [] [] history m end shown run =
       (history, (refl, run), subst (DeterminesMember same elect history) run shown)
-  run_shown [] (told ∷ replies) history m end shown run = absurd run
+  run_shown [] (replied ∷ replies) history m end shown run = absurd run
   run_shown (step ∷ steps) [] history m end shown run = absurd run
-  run_shown (Calls call ∷ steps) (told ∷ replies) history m end shown (next, is_step, rest) =
-      let later = run_shown steps replies (with_call_events history m.outstanding_work call told) next end
-      (called_shown same decides elect m history next call told shown is_step) rest in
+  run_shown (Calls call ∷ steps) (replied ∷ replies) history m end shown (next, is_step, rest) =
+      let later = run_shown steps replies (with_call_events history m.outstanding_work call replied) next end
+      (called_shown same decides elect m history next call replied shown is_step) rest in
       (later.0, (next, is_step, later.1), later.2)
-  run_shown (Prunes ∷ steps) (told ∷ replies) history m end shown (next, is_step, rest) =
+  run_shown (Prunes ∷ steps) (replied ∷ replies) history m end shown (next, is_step, rest) =
       let still : DeterminesMember same elect history next = rw is_step.1 shown in
       let later = run_shown steps replies history next end still rest in
       (later.0, (next, is_step, later.1), later.2)
-  run_shown (Restarts r ∷ steps) (told ∷ replies) history m end shown (next, (result, is_restart, tells), rest) =
+  run_shown (Restarts r ∷ steps) (replied ∷ replies) history m end shown (next, (result, is_restart, tells), rest) =
       by_result result refl is_restart (tells ∙ refl)
       (λ left_shown. run_shown steps replies history next end left_shown rest)
       (λ copy copy_shown. run_shown steps replies (recovery r.start copy) next end copy_shown rest)
@@ -335,23 +336,23 @@ module _ {K L D : Type 0} (same : D → D → Bool) (decides : (d e : D) → sam
           × DeterminesMember same elect last end
 
       by_result : (found : Result (Unit {0}) RecoverError) → result ≡ found → IsRestart same elect m r result next
-          → told ≡ restart_reply result
+          → replied ≡ restart_reply result
           → (DeterminesMember same elect history next
           → (last : History K L D) × LeadsTo same elect next history steps replies last end
           × DeterminesMember same elect last end)
           → ((copy : List (ArtifactFacts D)) → DeterminesMember same elect (recovery r.start copy) next
           → (last : History K L D) × LeadsTo same elect next (recovery r.start copy) steps replies last end
           × DeterminesMember same elect last end)
-          → After told
+          → After replied
       by_result (Ok _) is restarts tells behind renewed =
           let found = restarted_shown same decides elect m next r result is restarts in
           let later = renewed found.0 found.2 in
-          let so : told ≡ Restarted = tells ∙ ap restart_reply is in
+          let so : replied ≡ Restarted = tells ∙ ap restart_reply is in
           subst After (sym so)
           (later.0, (next, (result, restarts, sym (ap restart_reply is)), (found.0, found.1, later.1)), later.2)
       by_result (Err e) is restarts tells behind renewed =
           let later = behind (refused_shown same decides elect m history next r result e is shown restarts) in
-          let so : told ≡ NotRestarted e = tells ∙ ap restart_reply is in
+          let so : replied ≡ NotRestarted e = tells ∙ ap restart_reply is in
           subst After (sym so) (later.0, (next, (result, restarts, sym (ap restart_reply is)), later.1), later.2)
 
   -- from the start on

@@ -15,9 +15,9 @@ use Rattle.laws_history.specs.HistoryFolds.{or_new}
 use Rattle.laws_history.proofs.Worked.{timed}
 
 -- a decision that follows from what was said so far
-abbrev pub told_decision : Settings → (finalize nullify : Bool) → Option ℕ → Option (ℕ × TimeoutReason) → Option ℕ
+abbrev pub replied_decision : Settings → (finalize nullify : Bool) → Option ℕ → Option (ℕ × TimeoutReason) → Option ℕ
     → Decision
-told_decision settings finalize nullify entry latch retry =
+replied_decision settings finalize nullify entry latch retry =
     if finalize
     then Finalize
     else (if nullify
@@ -28,7 +28,7 @@ told_decision settings finalize nullify entry latch retry =
 -- it is to finalize where that vote is recorded
 pub reply_finalize : (settings : Settings) (finalize nullify : Bool) (entry : Option ℕ)
     (latch : Option (ℕ × TimeoutReason)) (retry : Option ℕ)
-    → is_finalize (told_decision settings finalize nullify entry latch retry) ≡ finalize
+    → is_finalize (replied_decision settings finalize nullify entry latch retry) ≡ finalize
 reply_finalize s true nullify entry latch retry = refl
 reply_finalize s false true entry latch retry = refl
 reply_finalize s false false entry latch retry = refl
@@ -41,7 +41,8 @@ either_entry limit (Some at) old = refl
 
 timed_further : (settings : Settings) (finalize nullify : Bool) (new old : Option ℕ)
     (latch first : Option (ℕ × TimeoutReason)) (retry again : Option ℕ)
-    → timed settings new latch retry (told_decision settings finalize nullify old first again) ≡ told_decision settings
+    → timed settings new latch retry (replied_decision settings finalize nullify old first again)
+    ≡ replied_decision settings
     finalize nullify (option_or new old) (or_new first latch) (option_or retry again)
 timed_further s true nullify new old latch first retry again = refl
 timed_further s false true new old latch first retry again = refl
@@ -54,9 +55,9 @@ pub decided_further : (settings : Settings) (to_finalize finalize to_nullify nul
     (latch first : Option (ℕ × TimeoutReason)) (retry again : Option ℕ) (after : Decision) →
     after ≡ (if to_finalize then Finalize else
     (if to_nullify then Nullify None else timed settings new latch retry
-    (told_decision settings finalize nullify old first again))) →
+    (replied_decision settings finalize nullify old first again))) →
     is_finalize after ≡ (to_finalize || finalize) →
-    after ≡ told_decision settings (to_finalize || finalize) (to_nullify || nullify) (option_or new old)
+    after ≡ replied_decision settings (to_finalize || finalize) (to_nullify || nullify) (option_or new old)
     (or_new first latch) (if to_nullify then None else option_or retry again)
 decided_further s true finalize to_nullify nullify new old latch first retry again after is kind = is
 decided_further s false true true nullify new old latch first retry again after is kind =

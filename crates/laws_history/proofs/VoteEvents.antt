@@ -31,7 +31,7 @@ use Rattle.laws_safety.proofs.votes.NullifyVotes.{tied}
 use Rattle.laws_history.proofs.UnchangedHistories.{known_of_round, UnchangedHistory, quiet, moment_leaves, prepared_quiet}
 use Rattle.laws_history.proofs.EventFacts.{adds, FollowsEvent, put_alone, put_follows, round_follows, silent_follows, handed_follows}
 use Rattle.laws_safety.proofs.votes.OutstandingWork.{among_noted}
-use Rattle.laws_safety.proofs.votes.HeldProposals.{heard_held, own_held}
+use Rattle.laws_safety.proofs.votes.HeldProposals.{received_held, own_held}
 use Rattle.std.proofs.Math.Bool.{and-false}
 
 pending_nullify : (d : Decision) → is_pending d ≡ true → false ≡ is_nullify d
@@ -61,8 +61,9 @@ module _ {D : Type 0} (same : D → D → Bool) (s : SlotFacts D) (p : Proposal 
 
   -- one that is heard of contradicts another
 
-  pub heard_conflict : (after_vote (same_proposal same) s p).conflict ≡ (contradicts same s.held (Some p) || s.conflict)
-  heard_conflict = by_held s.held
+  pub received_conflict : (after_vote (same_proposal same) s p).conflict
+      ≡ (contradicts same s.held (Some p) || s.conflict)
+  received_conflict = by_held s.held
     where
       by_held : (o : Option (Proposal D)) → (option_map_or
           (λ h. record s {
@@ -200,7 +201,7 @@ module _ {K L D : Type 0} (same : D → D → Bool) (elect : Elect L) (x : State
   pub proposal_follows : (v : ℕ) (p : Proposal D)
       → FollowsEvent same elect (SetProposal v p) x (after_set_proposal same elect x v p)
   proposal_follows v p = put_follows same elect x (SetProposal v p) refl y (with_round y v (with_proposal same r p)) v
-      (with_proposal same r p) before (heard (is_nullify r.decision) refl) (λ u apart k. rw apart refl)
+      (with_proposal same r p) before (received (is_nullify r.decision) refl) (λ u apart k. rw apart refl)
       (quiet (with_round y v (with_proposal same r p)))
     where
       y : StateFacts K L D
@@ -212,18 +213,18 @@ module _ {K L D : Type 0} (same : D → D → Bool) (elect : Elect L) (x : State
       r : RoundFacts K D
       r = round_of y v
 
-      heard : (b : Bool) → is_nullify r.decision ≡ b
+      received : (b : Bool) → is_nullify r.decision ≡ b
           → known_of_round (if b then r else record r { slot = after_vote (same_proposal same) r.slot p }) ≡ adds same
           elect x (SetProposal v p) v (known_of_round r)
-      heard true is =
+      received true is =
           let voted : is_nullify (round_of x v).decision ≡ true = sym (ap (λ k. k.nullify_decided) (before.rounds v))
           ∙ is in
           rw (voted, eq-eqb v v refl) refl
-      heard false is =
+      received false is =
           let not_voted : is_nullify (round_of x v).decision ≡ false =
           sym (ap (λ k. k.nullify_decided) (before.rounds v)) ∙ is in
           rw (not_voted, eq-eqb v v refl) (λ i. record (known_of_round r)
-          { held = heard_held same r.slot p i; conflict = heard_conflict same r.slot p i })
+          { held = received_held same r.slot p i; conflict = received_conflict same r.slot p i })
 
   pub proposed_follows : ((d e : D) → same d e ≡ true → d ≡ e) → (context : Context D K) (payload : D) (now : ℕ)
       → FollowsEvent same elect (Proposed context payload now) x (after_proposed same elect x context payload now)

@@ -15,4 +15,4 @@ pub mod Verdicts
 pub mod Certificates
 pub mod CertificateSaid
 pub mod Elections
-pub mod HandedIn
+pub mod PassedCertificates

@@ -65,21 +65,21 @@ module _ {K L D : Type 0} (same : D → D → Bool) (elect : Elect L) where
   abbrev pub LeadsTo : MemberFacts K L D → History K L D → List (StepFacts K L D) → List (ReplyFacts K D)
       → History K L D → MemberFacts K L D → Type 0
   LeadsTo m history [] [] last end = (last ≡ history) × (m ≡ end)
-  LeadsTo m history [] (told ∷ rest) last end = ⊥
+  LeadsTo m history [] (replied ∷ rest) last end = ⊥
   LeadsTo m history (step ∷ steps) [] last end = ⊥
-  LeadsTo m history (Calls call ∷ steps) (told ∷ rest) last end =
+  LeadsTo m history (Calls call ∷ steps) (replied ∷ rest) last end =
       (next : MemberFacts K L D)
-      × IsStep same elect m (Calls call) told next
-      × LeadsTo next (with_call_events history m.outstanding_work call told) steps rest last end
-  LeadsTo m history (Prunes ∷ steps) (told ∷ rest) last end =
-      (next : MemberFacts K L D) × IsStep same elect m Prunes told next × LeadsTo next history steps rest last end
+      × IsStep same elect m (Calls call) replied next
+      × LeadsTo next (with_call_events history m.outstanding_work call replied) steps rest last end
+  LeadsTo m history (Prunes ∷ steps) (replied ∷ rest) last end =
+      (next : MemberFacts K L D) × IsStep same elect m Prunes replied next × LeadsTo next history steps rest last end
   LeadsTo m history (Restarts r ∷ steps) (NotRestarted error ∷ rest) last end =
       (next : MemberFacts K L D)
       × IsStep same elect m (Restarts r) (NotRestarted error) next
       × LeadsTo next history steps rest last end
-  LeadsTo m history (Restarts r ∷ steps) (told ∷ rest) last end =
+  LeadsTo m history (Restarts r ∷ steps) (replied ∷ rest) last end =
       (next : MemberFacts K L D)
-      × IsStep same elect m (Restarts r) told next
+      × IsStep same elect m (Restarts r) replied next
       × ((copy : List (ArtifactFacts D)) × IsByView (cut_member m r.drop r.prune).entries copy
       × LeadsTo next (recovery r.start copy) steps rest last end)
 
@@ -99,10 +99,10 @@ module _ (K : Type 0) {L D : Type 0} (same : D → D → Bool) (elect : Elect L)
   -- a call changes the history as it says
   abbrev pub CallsDetermineStates : Type 0
   CallsDetermineStates =
-      (history : History K L D) (m left : MemberFacts K L D) (call : CallFacts D) (told : ReplyFacts K D)
+      (history : History K L D) (m left : MemberFacts K L D) (call : CallFacts D) (replied : ReplyFacts K D)
       → DeterminesMember same elect history m
-      → IsCall same elect m call told left
-      → DeterminesMember same elect (with_call_events history m.outstanding_work call told) left
+      → IsCall same elect m call replied left
+      → DeterminesMember same elect (with_call_events history m.outstanding_work call replied) left
 
   -- a recovery that is not refused is shown by the history that it begins
   abbrev pub RecoveriesDetermineStates : Type 0

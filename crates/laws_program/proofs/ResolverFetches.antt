@@ -8,7 +8,7 @@ use Rattle.simplex_resolver.specs.Facts.{ResolverFacts, empty}
 use Rattle.simplex_resolver.specs.ReceivedFacts.{NamesAView}
 use Rattle.simplex_resolver.specs.Steps.{Call, Replayed as EndOfReplay, Refused}
 use Rattle.simplex_resolver.specs.CallHistory.{LawfulResolverFacts, HasReceivedCalls}
-use Rattle.simplex_resolver.proofs.CallHistory.{still_told, opens_the_wanted, opens_none, opens_none_again, answers_the_told}
+use Rattle.simplex_resolver.proofs.CallHistory.{still_received, opens_the_wanted, opens_none, opens_none_again, answers_the_received}
 use Rattle.simplex_program.specs.declared.resolver.Answer.{Answer}
 use Rattle.simplex_program.specs.declared.resolver.Answer.TheVariants as answer
 use Rattle.simplex_program.specs.declared.resolver_line.ResolverLine.{ResolverLine}
@@ -28,11 +28,11 @@ of_parts x fetching = record { state = x; open_fetches = fetching }
 -- ---- a line
 
 module _ (t : ℕ) (calls : List Call) (x y : ResolverFacts) (fetching left : List ℕ)
-    (told : HasReceivedCalls t calls (of_parts x fetching)) where
+    (received : HasReceivedCalls t calls (of_parts x fetching)) where
   -- nothing is received, and nothing changes
   kept : IsUnchanged x fetching y left → HasReceivedCalls t calls (of_parts y left)
   kept (same, same_left) = subst (λ z. HasReceivedCalls t calls (of_parts z left)) (sym same)
-      (subst (λ views. HasReceivedCalls t calls (of_parts x views)) (sym same_left) told)
+      (subst (λ views. HasReceivedCalls t calls (of_parts x views)) (sym same_left) received)
 
   -- a call that is refused with memory at hand changes nothing
   refused : (v : ℕ) (f : Fault) → (f ≡ fault.OutOfMemory → ⊥) → Refused x v f y → y ≡ x
@@ -45,7 +45,7 @@ module _ (t : ℕ) (calls : List Call) (x y : ResolverFacts) (fetching left : Li
   called : (v : ℕ) (call : Call) (a : Answer) → NamesAView call → Calls x fetching v call a y left
       → HasReceivedCalls t (answered_by a (call ∷ []) ++ calls) (of_parts y left)
   called v call (answer.Effects es) names (live, effects, after, applied) =
-      still_told t calls call (of_parts x fetching) (of_parts y left) es.items told names
+      still_received t calls call (of_parts x fetching) (of_parts y left) es.items received names
       (record { state = after; answered = effects; applied = applied })
   called v call (answer.Fault f) names (other, is, same_left) = kept (refused v f other is, same_left)
   called v call (answer.Flag flag) names is = absurd is
@@ -94,7 +94,7 @@ record FetchesFrom (t : ℕ) (calls : List Call) (lines : List (List ℕ)) (p q 
   pub left : q.asked ≡ Resolver end fetching
   pub spelled : AreResolverLines lines turns
   pub written : Appends p.held q.held (resolver_replies turns)
-  pub told : HasReceivedCalls t (made_by turns ++ calls) (of_parts end fetching)
+  pub received : HasReceivedCalls t (made_by turns ++ calls) (of_parts end fetching)
 
 one_more : (t : ℕ) (calls : List Call) (line : List ℕ) (lines : List (List ℕ)) (p r q : Point) (turn : ResolverTurn)
     → words_in (without_feed line) ≡ line_words turn.line
@@ -109,24 +109,24 @@ one_more t calls line lines p r q turn words extended s = record {
   spelled = (words, s.spelled);
   written = appended p.held r.held q.held (reply_line (resolver_reply_text turn.answer)) (resolver_replies s.turns)
       extended s.written;
-  told = subst (λ (all : List Call). HasReceivedCalls t all (of_parts s.end s.fetching))
-      (sym (append_assoc (made_by s.turns) (made_in turn.line turn.answer) calls)) s.told;
+  received = subst (λ (all : List Call). HasReceivedCalls t all (of_parts s.end s.fetching))
+      (sym (append_assoc (made_by s.turns) (made_in turn.line turn.answer) calls)) s.received;
 }
 
 fetches_from : (t : ℕ) (calls : List Call) (lines : List (List ℕ)) (p q : Point) (x : ResolverFacts) (fetching : List ℕ)
     → p.asked ≡ Resolver x fetching → HasReceivedCalls t calls (of_parts x fetching) → AreAnswered p lines q
     → FetchesFrom t calls lines p q
-fetches_from t calls [] p q x fetching asked told same = record {
+fetches_from t calls [] p q x fetching asked received same = record {
   turns = [];
   end = x;
   fetching = fetching;
   left = subst (λ (r : Point). r.asked ≡ Resolver x fetching) same asked;
   spelled = tt;
   written = subst (λ (r : Point). Appends p.held r.held []) same (nothing_appended p.held);
-  told = told;
+  received = received;
 }
-fetches_from t calls (line ∷ lines) p q x fetching asked told (r, (reply, (next, replied), extended), rest) =
-    by_asked r.asked refl (λ more y left is told_so. fetches_from t more lines r q y left is told_so rest)
+fetches_from t calls (line ∷ lines) p q x fetching asked received (r, (reply, (next, replied), extended), rest) =
+    by_asked r.asked refl (λ more y left is received_so. fetches_from t more lines r q y left is received_so rest)
   where
     given : (a : Asked) → r.asked ≡ a → Replies (Resolver x fetching) (without_feed line) reply a
     given a is = subst (λ b. Replies b (without_feed line) reply a) asked
@@ -140,7 +140,7 @@ fetches_from t calls (line ∷ lines) p q x fetching asked told (r, (reply, (nex
     by_parts y left is (rline, a, words, answers, text) later =
         one_more t calls line lines p r q (record { line = rline; answer = a }) words
         (subst (λ bytes. Appends p.held r.held bytes) text extended)
-        (later (made_in rline a ++ calls) y left is (of_line t calls x y fetching left told rline a answers))
+        (later (made_in rline a ++ calls) y left is (of_line t calls x y fetching left received rline a answers))
 
     by_asked : (a : Asked) → r.asked ≡ a → ((more : List Call) (z : ResolverFacts) (views : List ℕ)
         → r.asked ≡ Resolver z views → HasReceivedCalls t more (of_parts z views) → FetchesFrom t more lines r q)
@@ -150,8 +150,8 @@ fetches_from t calls (line ∷ lines) p q x fetching asked told (r, (reply, (nex
 
 -- ---- from the start on
 
-nothing_told : (t : ℕ) → 0 < t → HasReceivedCalls t [] (of_parts (empty t) [])
-nothing_told t some = record { long = some; named = tt; state = refl; open_fetches = λ v. refl }
+nothing_received : (t : ℕ) → 0 < t → HasReceivedCalls t [] (of_parts (empty t) [])
+nothing_received t some = record { long = some; named = tt; state = refl; open_fetches = λ v. refl }
 
 pub resolver_transcripts_keep_fetches : ResolverTranscriptsKeepFetches
 resolver_transcripts_keep_fetches t left held r after served (inl none) = inl none
@@ -160,11 +160,11 @@ resolver_transcripts_keep_fetches t left held r after served
     (inr (Resolver x fetching, (new, none), (lines, q, answered, ended))) =
     let p : Point = record { asked = Resolver x fetching; left = left; held = held } in
     let start : HasReceivedCalls t [] (of_parts x fetching) =
-    rw (new, none) (nothing_told t (omega (arith, served.0))) in
+    rw (new, none) (nothing_received t (omega (arith, served.0))) in
     let s = fetches_from t [] lines p q x fetching refl start answered in
-    let told : HasReceivedCalls t (made_by s.turns) (of_parts s.end s.fetching) =
+    let received : HasReceivedCalls t (made_by s.turns) (of_parts s.end s.fetching) =
     subst (λ (all : List Call). HasReceivedCalls t all (of_parts s.end s.fetching)) (append-nil (made_by s.turns))
-    s.told in
+    s.received in
     let left_so = of_parts s.end s.fetching in
     inr (
       left_so,
@@ -177,12 +177,12 @@ resolver_transcripts_keep_fetches t left held r after served
           turns = s.turns;
           spelled = s.spelled;
           written = s.written;
-          told = told;
+          received = received;
           laws = record {
-            wanted = opens_the_wanted left_so t (made_by s.turns) told;
-            none = opens_none left_so t (made_by s.turns) told;
-            again = opens_none_again left_so t (made_by s.turns) told;
-            answers = answers_the_told left_so t (made_by s.turns) told;
+            wanted = opens_the_wanted left_so t (made_by s.turns) received;
+            none = opens_none left_so t (made_by s.turns) received;
+            again = opens_none_again left_so t (made_by s.turns) received;
+            answers = answers_the_received left_so t (made_by s.turns) received;
           };
         };
       },

@@ -7,7 +7,7 @@ use Rattle.simplex_types.specs.declared.types.plain.PlainElector.{PlainElector}
 use Rattle.simplex_types.specs.declared.types.plain.PlainKey.{PlainKey}
 use Rattle.simplex_types.specs.Config.{Genesis}
 use Rattle.simplex_types.specs.Plain.{digest_from_eq}
-use Rattle.simplex_member.specs.Calls.{told}
+use Rattle.simplex_member.specs.Calls.{reply_facts}
 use Rattle.simplex_record.specs.Check.{first_recover_error}
 use Rattle.simplex_record.specs.Recovery.{recover_error}
 use Rattle.simplex_member.specs.Restarts.{RestartFacts}
@@ -50,7 +50,8 @@ IsTurnOf n m turn left =
 module _ (n : Network) (m left : PlainMember) where
   called : (line : VoterLine) (call : PlainCall) (a : VoterAnswer) → DenotesCall line call → IsReplied m call a left
       → IsTurnOf n m (record { line = line; answer = a }) left
-  called line call (answer.Reply reply) stands replied = inr (Calls call, told plain_bytes reply, stands, refl, replied)
+  called line call (answer.Reply reply) stands replied = inr
+      (Calls call, reply_facts plain_bytes reply, stands, refl, replied)
   called line call (answer.Restarted result) stands replied = absurd replied
   called line call (answer.Entries count) stands replied = absurd replied
   called line call (answer.Views current finalized lowest) stands replied = absurd replied
@@ -248,27 +249,27 @@ lines_tell n m p q lines some (start, is_start, made) asked answered = record {
   execution = execution;
   transcribed = record {
     start = is_start;
-    turns = told_so.turns;
-    spelled = told_so.spelled;
-    written = told_so.written;
-    steps = told_so.taken;
+    turns = replied_so.turns;
+    spelled = replied_so.spelled;
+    written = replied_so.written;
+    steps = replied_so.taken;
   };
   lawful = record { ran = ran; lawful = by_me n.me refl };
 }
   where
-    told_so : ExecutionFrom n m lines p q
-    told_so = execution_from n lines p q m asked answered
+    replied_so : ExecutionFrom n m lines p q
+    replied_so = execution_from n lines p q m asked answered
 
     execution : PlainExecution
-    execution = record { start = start; steps = told_so.steps; replies = told_so.replies }
+    execution = record { start = start; steps = replied_so.steps; replies = replied_so.replies }
 
     ran : (i : ℕ) → (n.me ≡ Some i) ⊎ (n.me ≡ None) → IsExecution same_payload plain_leader n.term_length i execution
     ran i signs = record {
       lives = record {
         first = begins n some i signs 0 start is_start;
-        later = restarts_begin n some i signs told_so.turns told_so.steps told_so.replies told_so.taken;
+        later = restarts_begin n some i signs replied_so.turns replied_so.steps replied_so.replies replied_so.taken;
       };
-      run = run_from n m told_so.end start told_so.steps told_so.replies is_start made told_so.run;
+      run = run_from n m replied_so.end start replied_so.steps replied_so.replies is_start made replied_so.run;
     }
 
     by_me : (o : Option ℕ) → n.me ≡ o → IsLawful n.term_length (trace_of execution)

@@ -71,7 +71,7 @@ pub record IsResolverTranscribed (term_length : ℕ) (lines : List (List ℕ)) (
   pub turns : List ResolverTurn
   pub spelled : AreResolverLines lines turns
   pub written : Appends old new (resolver_replies turns)
-  pub told : HasReceivedCalls term_length (made_by turns) r
+  pub received : HasReceivedCalls term_length (made_by turns) r
   pub laws : KeepsFetches term_length (made_by turns) r
 
 -- a resolver replied to lines from its start on, and then serving ended; this is its state then

@@ -4,7 +4,7 @@ use Rattle.std.specs.Io.KnownBytes.{Keeps, Appends}
 use Rattle.simplex_types.specs.declared.types.plain.PlainDigest.{PlainDigest}
 use Rattle.simplex_types.specs.declared.types.plain.PlainElector.{PlainElector}
 use Rattle.simplex_types.specs.declared.types.plain.PlainKey.{PlainKey}
-use Rattle.simplex_member.specs.Calls.{ReplyFacts, told}
+use Rattle.simplex_member.specs.Calls.{ReplyFacts, reply_facts}
 use Rattle.simplex_member.specs.Restarts.{RestartFacts}
 use Rattle.simplex_member.specs.Runs.{StepFacts, Calls, Prunes, Restarts, restart_reply}
 use Rattle.laws_safety.specs.Lawful.{IsLawful}
@@ -64,7 +64,7 @@ IsStepOf n line (Restarts r) = IsRestartAsked n line r
 
 -- the step's reply is the line's
 abbrev pub TellsAnswer : VoterAnswer → PlainReplyFacts → Type 0
-TellsAnswer (answer.Reply reply) t = t ≡ told plain_bytes reply
+TellsAnswer (answer.Reply reply) t = t ≡ reply_facts plain_bytes reply
 TellsAnswer (answer.Restarted result) t = t ≡ restart_reply result
 TellsAnswer _ t = ⊥
 

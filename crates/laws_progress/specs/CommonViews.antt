@@ -5,7 +5,7 @@ use Rattle.simplex_types.specs.declared.types.messages.Proposal.{Proposal}
 use Rattle.simplex_types.specs.declared.types.messages.Subject.{Subject}
 use Rattle.simplex_voter.specs.Facts.{Elect}
 use Rattle.simplex_voter.specs.Refusals.{is_too_large}
-use Rattle.laws_safety.specs.Continuations.{ReplicasContinue, EachHonest, SomeHonest, HasAccepted, HasHeard, HonestlyBacked, ContinuesToFinalize}
+use Rattle.laws_safety.specs.Continuations.{ReplicasContinue, EachHonest, SomeHonest, HasAccepted, HasReceived, HonestlyBacked, ContinuesToFinalize}
 use Rattle.laws_safety.specs.Replicas.{Replica, Honest, faults, max_faults, IsNetworkOf}
 use Rattle.laws_safety.specs.Executions.{Execution}
 use Rattle.laws_progress.specs.NetworkStates.{IsSetUpAs, EachRuns}
@@ -23,7 +23,7 @@ module _ {K L D : Type 0} (same : D → D → Bool) (elect : Elect L) where
         (λ i s. (c : Subject D) → HasAccepted c i s → SomeHonest network (HasAccepted c) ⊎ HonestlyBacked later c)
     -- a proposal that it receives was received by an honest one before
     pub proposals : EachHonest later
-        (λ i s. (v : ℕ) (p : Proposal D) → HasHeard v p s → SomeHonest network (λ j t. HasHeard v p t))
+        (λ i s. (v : ℕ) (p : Proposal D) → HasReceived v p s → SomeHonest network (λ j t. HasReceived v p t))
     pub stands : EachRuns same elect later
         (λ i x. IsSetUpAs epoch (length later) elector i x × StandsBefore parent view start x)
 

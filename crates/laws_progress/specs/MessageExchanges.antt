@@ -5,7 +5,7 @@ use Rattle.simplex_types.specs.declared.types.messages.Proposal.{Proposal}
 use Rattle.simplex_types.specs.declared.types.messages.Subject.{Subject}
 use Rattle.simplex_voter.specs.Facts.{StateFacts, Elect, is_tracked}
 use Rattle.simplex_voter.specs.Refusals.{is_too_large}
-use Rattle.laws_safety.specs.Continuations.{ReplicasContinue, EachHonest, SomeHonest, HasAccepted, HasHeard, HasBuilt, HonestlyBacked, ContinuesToFinalize}
+use Rattle.laws_safety.specs.Continuations.{ReplicasContinue, EachHonest, SomeHonest, HasAccepted, HasReceived, HasBuilt, HonestlyBacked, ContinuesToFinalize}
 use Rattle.laws_safety.specs.Replicas.{Replica, faults, max_faults, IsNetworkOf}
 use Rattle.laws_progress.specs.NotStuck.{AreConsistent, MayContinue}
 use Rattle.laws_progress.specs.NetworkStates.{IsSetUpAs, RunsWith, EachRuns}
@@ -19,8 +19,8 @@ module _ {K L D : Type 0} where
     pub continues : ReplicasContinue network later
     pub certificates : EachHonest later
         (λ i s. (c : Subject D) → HasAccepted c i s → SomeHonest network (HasAccepted c) ⊎ HonestlyBacked network c)
-    pub proposals : EachHonest later (λ i s. (v : ℕ) (p : Proposal D) → HasHeard v p s
-        → SomeHonest network (λ j t. HasHeard v p t) ⊎ SomeHonest network (HasBuilt p))
+    pub proposals : EachHonest later (λ i s. (v : ℕ) (p : Proposal D) → HasReceived v p s
+        → SomeHonest network (λ j t. HasReceived v p t) ⊎ SomeHonest network (HasBuilt p))
 
   -- this number of exchanges, one after another
   abbrev pub Exchanges : ℕ → List (Replica K L D) → List (Replica K L D) → Type 0

@@ -22,7 +22,7 @@ judged_by _ = []
 -- those of the replies in order
 abbrev pub judged_in : {K D : Type 0} → List (ReplyFacts K D) → List (Bool × Proposal D)
 judged_in [] = []
-judged_in (told ∷ replies) = judged_by told ++ judged_in replies
+judged_in (replied ∷ replies) = judged_by replied ++ judged_in replies
 
 -- all verdicts that a member received, oldest first
 abbrev pub judged_of : {K L D : Type 0} → Execution K L D → List (Bool × Proposal D)

@@ -2,7 +2,7 @@
 pub mod WithinLives
 pub mod RunOrder
 pub mod Conflicts
-pub mod HandedOut
+pub mod ReturnedCertificates
 pub mod AsAsked
 pub mod Examples
 pub mod WithinRuns

@@ -43,8 +43,8 @@ module _ {K L D : Type 0} where
   HasAccepted certificate i s = Contains (trace_of s) (Accepts certificate)
 
   -- it received this proposal as one of this view
-  abbrev pub HasHeard : ℕ → Proposal D → Execution K L D → Type 0
-  HasHeard v p s = Contains s.steps (Calls (SetProposal v p))
+  abbrev pub HasReceived : ℕ → Proposal D → Execution K L D → Type 0
+  HasReceived v p s = Contains s.steps (Calls (SetProposal v p))
 
   -- it built this proposal, and signed its own vote for it
   abbrev pub HasBuilt : Proposal D → ℕ → Execution K L D → Type 0
@@ -72,8 +72,8 @@ module _ {K L D : Type 0} (same : D → D → Bool) (elect : Elect L) where
     pub certificates : EachHonest later
         (λ i s. (c : Subject D) → HasAccepted c i s → SomeHonest network (HasAccepted c) ⊎ HonestlyBacked later c)
     -- a proposal that it receives was received by an honest one before, or an honest one built it
-    pub proposals : EachHonest later (λ i s. (v : ℕ) (p : Proposal D) → HasHeard v p s
-        → SomeHonest network (λ j t. HasHeard v p t) ⊎ SomeHonest later (HasBuilt p))
+    pub proposals : EachHonest later (λ i s. (v : ℕ) (p : Proposal D) → HasReceived v p s
+        → SomeHonest network (λ j t. HasReceived v p t) ⊎ SomeHonest later (HasBuilt p))
     -- each signs the vote to finalize the proposal, and accepts its finalization
     pub finalized : EachHonest later (λ i s. HasSignedAs (Finalize final) i s × HasAccepted (Finalize final) i s)
     -- the view lies above each that could be finalized before

@@ -24,9 +24,11 @@ module _ {D : Type 0} where
 module _ {K D : Type 0} where
   -- a vote is returned only if its rule holds, and signed accordingly; and if the rule holds and there is a key it is
   -- returned, unless the call is refused
-  pub record IsExact (Rule : Type 0) (me : Option ℕ) (about : Option (Subject D)) (told : ReplyFacts K D) : Type 0 where
-    pub only : (d : TraceEvent D) → Contains (signed_in told) d → Rule × IsSignedFor me about d
-    pub due : (d : TraceEvent D) → ends_in_fault told ≡ false → Rule → IsSignedFor me about d → signed_in told ≡ d ∷ []
+  pub record IsExact (Rule : Type 0) (me : Option ℕ) (about : Option (Subject D))
+      (replied : ReplyFacts K D) : Type 0 where
+    pub only : (d : TraceEvent D) → Contains (signed_in replied) d → Rule × IsSignedFor me about d
+    pub due : (d : TraceEvent D) → ends_in_fault replied ≡ false → Rule → IsSignedFor me about d
+        → signed_in replied ≡ d ∷ []
 
 -- the held proposal of a view
 abbrev pub proposal_at : {K L D : Type 0} → StateFacts K L D → ℕ → Option (Proposal D)
@@ -36,23 +38,23 @@ module _ {K L D : Type 0} (same : D → D → Bool) (elect : Elect L) where
   -- by what the state knows before a step: the reply to each request for a vote is exactly by its rule, and no other
   -- reply has a vote
   abbrev pub ExactAt : Option (StateFacts K L D) → StepFacts K L D → ReplyFacts K D → Type 0
-  ExactAt None step told = signed_in told ≡ []
-  ExactAt (Some x) (Calls (ConstructNullify v)) told =
-      IsExact (NullifyRule x v) x.me (Some (subject.Nullify (round_number x v))) told
-  ExactAt (Some x) (Calls (ConstructFinalize v)) told =
-      IsExact (FinalizeRule elect x v) x.me (option_map subject.Finalize (proposal_at x v)) told
-  ExactAt (Some x) (Calls (ConstructNotarize v)) told =
-      IsExact (NotarizeRule same elect x v) x.me (option_map subject.Notarize (proposal_at x v)) told
-  ExactAt (Some x) _ told = signed_in told ≡ []
+  ExactAt None step replied = signed_in replied ≡ []
+  ExactAt (Some x) (Calls (ConstructNullify v)) replied =
+      IsExact (NullifyRule x v) x.me (Some (subject.Nullify (round_number x v))) replied
+  ExactAt (Some x) (Calls (ConstructFinalize v)) replied =
+      IsExact (FinalizeRule elect x v) x.me (option_map subject.Finalize (proposal_at x v)) replied
+  ExactAt (Some x) (Calls (ConstructNotarize v)) replied =
+      IsExact (NotarizeRule same elect x v) x.me (option_map subject.Notarize (proposal_at x v)) replied
+  ExactAt (Some x) _ replied = signed_in replied ≡ []
 
   -- this holds at each step of a run, for the very member that the steps before it left
   abbrev pub RunsExactly : MemberFacts K L D → List (StepFacts K L D) → List (ReplyFacts K D) → Type 0
   RunsExactly m [] [] = ⊤
-  RunsExactly m [] (told ∷ replies) = ⊥
+  RunsExactly m [] (replied ∷ replies) = ⊥
   RunsExactly m (step ∷ steps) [] = ⊥
-  RunsExactly m (step ∷ steps) (told ∷ replies) =
-      ExactAt m.life step told
-      × ((next : MemberFacts K L D) × IsStep same elect m step told next × RunsExactly next steps replies)
+  RunsExactly m (step ∷ steps) (replied ∷ replies) =
+      ExactAt m.life step replied
+      × ((next : MemberFacts K L D) × IsStep same elect m step replied next × RunsExactly next steps replies)
 
   -- this holds from the start on
   abbrev pub SignsExactly : Execution K L D → Type 0

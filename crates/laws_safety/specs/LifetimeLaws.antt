@@ -26,11 +26,12 @@ module _ {K L D : Type 0} (same : D → D → Bool) (elect : Elect L) where
   IsLifetime m calls replies end = IsRun same elect m (map Calls calls) replies end
 
   -- a run from a start leads to a member, and these calls continue it within its lifetime
-  pub record IsLifetimeOfRun (start : StartFacts K L D) (steps : List (StepFacts K L D)) (told : List (ReplyFacts K D))
+  pub record IsLifetimeOfRun (start : StartFacts K L D) (steps : List (StepFacts K L D))
+      (replied : List (ReplyFacts K D))
       (m : MemberFacts K L D) (calls : List (CallFacts D)) (replies : List (ReplyFacts K D))
       (end : MemberFacts K L D) : Type 0 where
     pub accepted : recover_error same (new_state start.setup) start.floor start.now [] ≡ None
-    pub reached : IsRun same elect (new_member same elect start) steps told m
+    pub reached : IsRun same elect (new_member same elect start) steps replied m
     pub life : IsLifetime m calls replies end
 
 -- this holds of the first state and the last one, unless the member has failed by then; no state comes after a failure
@@ -61,15 +62,15 @@ module _ {K L D : Type 0} where
   -- a poll returns a moment to wait for and its reason; or its member has failed, or its next retry passes the numbers
   -- of 64 bits
   abbrev pub PollIsAnswered : StepFacts K L D → ReplyFacts K D → Type 0
-  PollIsAnswered (Calls (NextTimeout _)) told =
-      ((moment : ℕ × TimeoutReason) × (told ≡ TimesOut (Some moment)))
-      ⊎ (told ≡ Refused Failed)
-      ⊎ (told ≡ Refused TimeOverflow)
-  PollIsAnswered _ told = Unit {0}
+  PollIsAnswered (Calls (NextTimeout _)) replied =
+      ((moment : ℕ × TimeoutReason) × (replied ≡ TimesOut (Some moment)))
+      ⊎ (replied ≡ Refused Failed)
+      ⊎ (replied ≡ Refused TimeOverflow)
+  PollIsAnswered _ replied = Unit {0}
 
   -- the same for each poll among these steps
   abbrev pub PollsAreAnswered : List (StepFacts K L D) → List (ReplyFacts K D) → Type 0
-  PollsAreAnswered (step ∷ steps) (told ∷ replies) = PollIsAnswered step told × PollsAreAnswered steps replies
+  PollsAreAnswered (step ∷ steps) (replied ∷ replies) = PollIsAnswered step replied × PollsAreAnswered steps replies
   PollsAreAnswered _ _ = Unit {0}
 
 -- a proposal of the view was seen that contradicts another
@@ -116,7 +117,8 @@ module _ {K D : Type 0} where
 
   -- the views whose certificates of this kind are returned for broadcast, in order
   abbrev pub returned_in : KindOfCertificate → List (CallFacts D) → List (ReplyFacts K D) → List ℕ
-  returned_in kind (call ∷ calls) (told ∷ replies) = returned_by_call kind call told ++ returned_in kind calls replies
+  returned_in kind (call ∷ calls) (replied ∷ replies) = returned_by_call kind call replied
+      ++ returned_in kind calls replies
   returned_in kind _ _ = []
 
   -- none is returned twice
@@ -133,14 +135,14 @@ module _ {D : Type 0} where
 module _ {K D : Type 0} where
   -- the certificate in a reply is of the kind and the view that its call asks for
   abbrev pub IsAsAsked : CallFacts D → ReplyFacts K D → Type 0
-  IsAsAsked call told =
+  IsAsAsked call replied =
       (kind : KindOfCertificate) (v : ℕ) (c : CertificateFacts D) → asked_by kind call ≡ v ∷ []
-      → told ≡ Returned (Some c)
+      → replied ≡ Returned (Some c)
       → (kind_of_certificate c ≡ kind) × ((certificate_round c).view ≡ v)
 
   -- the same for each call
   abbrev pub ReturnedAsRequested : List (CallFacts D) → List (ReplyFacts K D) → Type 0
-  ReturnedAsRequested (call ∷ calls) (told ∷ replies) = IsAsAsked call told × ReturnedAsRequested calls replies
+  ReturnedAsRequested (call ∷ calls) (replied ∷ replies) = IsAsAsked call replied × ReturnedAsRequested calls replies
   ReturnedAsRequested _ _ = Unit {0}
 
 module _ (K : Type 0) {L D : Type 0} (same : D → D → Bool) (elect : Elect L) where
@@ -155,11 +157,11 @@ module _ (K : Type 0) {L D : Type 0} (same : D → D → Bool) (elect : Elect L)
   abbrev pub OfEachStretch : (MemberFacts K L D → List (CallFacts D) → List (ReplyFacts K D) → MemberFacts K L D
       → Type 0) → Type 0
   OfEachStretch Holds =
-      (term_length : ℕ) (start : StartFacts K L D) (before : List (StepFacts K L D)) (told : List (ReplyFacts K D))
+      (term_length : ℕ) (start : StartFacts K L D) (before : List (StepFacts K L D)) (replied : List (ReplyFacts K D))
       (m end : MemberFacts K L D) (calls : List (CallFacts D)) (replies : List (ReplyFacts K D))
       → HasTerms term_length start.setup
       → KeepTerms term_length before
-      → IsLifetimeOfRun same elect start before told m calls replies end
+      → IsLifetimeOfRun same elect start before replied m calls replies end
       → Holds m calls replies end
 
   -- for the state that a run leads to, while the member has not failed, whose lifetimes share a length of terms
@@ -186,8 +188,8 @@ module _ (K : Type 0) {L D : Type 0} (same : D → D → Bool) (elect : Elect L)
   abbrev pub StretchesAreLifetimes : Type 0
   StretchesAreLifetimes =
       (start : StartFacts K L D) (before after : List (StepFacts K L D)) (calls : List (CallFacts D))
-      (told replies rest : List (ReplyFacts K D))
-      → length before ≡ length told
+      (replied replies rest : List (ReplyFacts K D))
+      → length before ≡ length replied
       → length calls ≡ length replies
-      → IsRunFrom same elect start (before ++ (map Calls calls ++ after)) (told ++ (replies ++ rest))
-      → (m end : MemberFacts K L D) × IsLifetimeOfRun same elect start before told m calls replies end
+      → IsRunFrom same elect start (before ++ (map Calls calls ++ after)) (replied ++ (replies ++ rest))
+      → (m end : MemberFacts K L D) × IsLifetimeOfRun same elect start before replied m calls replies end

@@ -8,7 +8,7 @@ use Rattle.simplex_member.specs.declared.member.journal.Stored.{Stored}
 use Rattle.simplex_member.specs.declared.member.calls.Reply.{Reply}
 use Rattle.simplex_member.specs.declared.member.runs.Step.{Step}
 use Rattle.simplex_record.specs.declared.record.start.Start.{Start}
-use Rattle.simplex_member.specs.Calls.{ReplyFacts, told}
+use Rattle.simplex_member.specs.Calls.{ReplyFacts, reply_facts}
 use Rattle.simplex_member.specs.Journal.{stored_of}
 use Rattle.simplex_member.specs.MemberFacts.{MemberFacts}
 use Rattle.simplex_record.specs.Recovery.{recover_error}
@@ -25,7 +25,7 @@ abbrev pub execution_of : {S L D K G C : Type 0} → (S → Option ℕ) → (S �
 execution_of me members terms elects_early bytes_of start steps replies = record {
   start = start_facts me members terms elects_early bytes_of start;
   steps = steps_of me members terms elects_early bytes_of steps;
-  replies = map (told bytes_of) replies;
+  replies = map (reply_facts bytes_of) replies;
 }
 
 module _ {K L D : Type 0} where
@@ -35,7 +35,7 @@ module _ {K L D : Type 0} where
 
   -- one more step
   abbrev pub with_step : Execution K L D → StepFacts K L D → ReplyFacts K D → Execution K L D
-  with_step s step told = record s { steps = s.steps ++ step ∷ []; replies = s.replies ++ told ∷ [] }
+  with_step s step replied = record s { steps = s.steps ++ step ∷ []; replies = s.replies ++ replied ∷ [] }
 
 module _ {K L D : Type 0} (same : D → D → Bool) (elect : Elect L) where
   -- this is the execution of the member so far, as member `i` of a network: its lifetimes began in turn (`lives`), and
@@ -46,10 +46,10 @@ module _ {K L D : Type 0} (same : D → D → Bool) (elect : Elect L) where
     pub run : IsRun same elect (new_member same elect s.start) s.steps s.replies m
 
   -- this is all that the member accepted and signed so far, as member `i` of a network: the trace of an execution that
-  -- led to this member (`told`)
+  -- led to this member (`executed`)
   pub record HasHistory (term_length i : ℕ) (all : List (TraceEvent D)) (m : MemberFacts K L D) : Type 0 where
     pub execution : Execution K L D
-    pub told : HasExecution term_length i execution m
+    pub executed : HasExecution term_length i execution m
     pub same_trace : trace_of execution ≡ all
 
   -- this trace is added

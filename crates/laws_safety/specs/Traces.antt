@@ -48,21 +48,21 @@ module _ {K D : Type 0} where
 
   -- the trace of a call, by its reply
   abbrev pub trace_of_call : CallFacts D → ReplyFacts K D → List (TraceEvent D)
-  trace_of_call call told = accepted_by call told ++ signed_in told
+  trace_of_call call replied = accepted_by call replied ++ signed_in replied
 
 module _ {K L D : Type 0} where
   -- a restart that succeeds accepts its floor's finalization
   abbrev pub accepted_at : StepFacts K L D → ReplyFacts K D → List (TraceEvent D)
-  accepted_at (Calls call) told = accepted_by call told
-  accepted_at Prunes told = []
+  accepted_at (Calls call) replied = accepted_by call replied
+  accepted_at Prunes replied = []
   accepted_at (Restarts r) Restarted = of_floor r.start.floor
   accepted_at (Restarts r) _ = []
 
   -- the trace of a step, by its reply
   abbrev pub trace_at : StepFacts K L D → ReplyFacts K D → List (TraceEvent D)
-  trace_at step told = accepted_at step told ++ signed_in told
+  trace_at step replied = accepted_at step replied ++ signed_in replied
 
   -- the trace of the steps in order, each with its reply
   abbrev pub trace_of_steps : List (StepFacts K L D) → List (ReplyFacts K D) → List (TraceEvent D)
-  trace_of_steps (step ∷ steps) (told ∷ replies) = trace_at step told ++ trace_of_steps steps replies
+  trace_of_steps (step ∷ steps) (replied ∷ replies) = trace_at step replied ++ trace_of_steps steps replies
   trace_of_steps _ _ = []

@@ -47,51 +47,51 @@ module _ {D C G : Type 0} (payload : D → List ℕ) (size : ℕ) (sized : (d : 
     (bytes_of : C → List ℕ) (apart : EncodingTellsApart payload) (signature_bytes : G → List ℕ)
     (signature_of : List ℕ → Option G) where
   -- a proposal and what follows it, separated as in a certificate
-  told_proposal : (p q : Proposal D) (xs ys : List ℕ) → IsEncodableProposal p → IsEncodableProposal q
+  replied_proposal : (p q : Proposal D) (xs ys : List ℕ) → IsEncodableProposal p → IsEncodableProposal q
       → proposal_bytes payload p ++ xs ≡ proposal_bytes payload q ++ ys → (p ≡ q) × (xs ≡ ys)
-  told_proposal p q xs ys fits fits' same =
+  replied_proposal p q xs ys fits fits' same =
       let one : ProposalFacts D = record { proposal = p; bytes = xs } in
       let other : ProposalFacts D = record { proposal = q; bytes = ys } in
-      let told : Notarized one ≡ Notarized other =
+      let replied : Notarized one ≡ Notarized other =
       apart (Notarized one) (Notarized other) fits fits' (ap (λ l. 0 ∷ l) same) in
       let facts : one ≡ other = cc in
       (ap (λ (f : ProposalFacts D). f.proposal) facts, ap (λ (f : ProposalFacts D). f.bytes) facts)
 
-  told_round : (r s : Round) (xs ys : List ℕ) → IsEncodableRound r → IsEncodableRound s
+  replied_round : (r s : Round) (xs ys : List ℕ) → IsEncodableRound r → IsEncodableRound s
       → round_bytes r ++ xs ≡ round_bytes s ++ ys → (r ≡ s) × (xs ≡ ys)
-  told_round r s xs ys fits fits' same =
+  replied_round r s xs ys fits fits' same =
       let one : NullificationFacts = record { round = r; bytes = xs } in
       let other : NullificationFacts = record { round = s; bytes = ys } in
       let wrap : NullificationFacts → CertificateFacts D = λ f. Nullified f in
-      let told : wrap one ≡ wrap other = apart (Nullified one) (Nullified other) fits fits' (ap (λ l. 1 ∷ l) same) in
+      let replied : wrap one ≡ wrap other = apart (Nullified one) (Nullified other) fits fits' (ap (λ l. 1 ∷ l) same) in
       let facts : one ≡ other = cc in
       (ap (λ (f : NullificationFacts). f.round) facts, ap (λ (f : NullificationFacts). f.bytes) facts)
 
-  told_proposal_vote : (m n : ℕ) (p q : Proposal D) (s t : G) → m < 2 ^ 32 → n < 2 ^ 32 → IsEncodableProposal p
+  replied_proposal_vote : (m n : ℕ) (p q : Proposal D) (s t : G) → m < 2 ^ 32 → n < 2 ^ 32 → IsEncodableProposal p
       → IsEncodableProposal q → signature_of (signature_bytes s) ≡ Some s → signature_of (signature_bytes t) ≡ Some t
       → to_be_bytes w32 m ++ (proposal_bytes payload p ++ signature_bytes s) ≡ to_be_bytes w32 n
       ++ (proposal_bytes payload q ++ signature_bytes t) → (m ≡ n) × (p ≡ q) × (s ≡ t)
-  told_proposal_vote m n p q s t small small' fits fits' readable readable' same =
+  replied_proposal_vote m n p q s t small small' fits fits' readable readable' same =
       let rest = behind_signer m n (proposal_bytes payload p ++ signature_bytes s)
       (proposal_bytes payload q ++ signature_bytes t) same in
-      let told = told_proposal p q (signature_bytes s) (signature_bytes t) fits fits' rest in (
+      let replied = replied_proposal p q (signature_bytes s) (signature_bytes t) fits fits' rest in (
         signer_is m n (proposal_bytes payload p ++ signature_bytes s) (proposal_bytes payload q ++ signature_bytes t)
             small small' same,
-        told.0,
-        read_alike s t signature_of (signature_bytes s) (signature_bytes t) told.1 readable
+        replied.0,
+        read_alike s t signature_of (signature_bytes s) (signature_bytes t) replied.1 readable
             readable',
       )
 
-  told_round_vote : (m n : ℕ) (p q : Round) (s t : G) → m < 2 ^ 32 → n < 2 ^ 32 → IsEncodableRound p
+  replied_round_vote : (m n : ℕ) (p q : Round) (s t : G) → m < 2 ^ 32 → n < 2 ^ 32 → IsEncodableRound p
       → IsEncodableRound q → signature_of (signature_bytes s) ≡ Some s → signature_of (signature_bytes t) ≡ Some t
       → to_be_bytes w32 m ++ (round_bytes p ++ signature_bytes s) ≡ to_be_bytes w32 n
       ++ (round_bytes q ++ signature_bytes t) → (m ≡ n) × (p ≡ q) × (s ≡ t)
-  told_round_vote m n p q s t small small' fits fits' readable readable' same =
+  replied_round_vote m n p q s t small small' fits fits' readable readable' same =
       let rest = behind_signer m n (round_bytes p ++ signature_bytes s) (round_bytes q ++ signature_bytes t) same in
-      let told = told_round p q (signature_bytes s) (signature_bytes t) fits fits' rest in (
+      let replied = replied_round p q (signature_bytes s) (signature_bytes t) fits fits' rest in (
         signer_is m n (round_bytes p ++ signature_bytes s) (round_bytes q ++ signature_bytes t) small small' same,
-        told.0,
-        read_alike s t signature_of (signature_bytes s) (signature_bytes t) told.1 readable readable',
+        replied.0,
+        read_alike s t signature_of (signature_bytes s) (signature_bytes t) replied.1 readable readable',
       )
 
   no_proposal_vote_refusal : (signer : ℕ) (p : Proposal D) (s : G) → IsEncodableProposal p
@@ -103,8 +103,8 @@ module _ {D C G : Type 0} (payload : D → List ℕ) (size : ℕ) (sized : (d : 
       let inner = refused.refused in
       let same = behind_signer signer refused.signer (proposal_bytes payload p ++ signature_bytes s) refused.rest
       refused.parts ∙ inner.parts in
-      let told = told_proposal p inner.proposal (signature_bytes s) inner.own fits inner.fits same in
-      absurd (unread (signature_of inner.own) s (ap signature_of (sym told.1) ∙ readable) inner.unreadable)
+      let replied = replied_proposal p inner.proposal (signature_bytes s) inner.own fits inner.fits same in
+      absurd (unread (signature_of inner.own) s (ap signature_of (sym replied.1) ∙ readable) inner.unreadable)
   no_proposal_vote_refusal signer p s fits readable TooShort refused =
       absurd (omega (
         arith,
@@ -130,8 +130,8 @@ module _ {D C G : Type 0} (payload : D → List ℕ) (size : ℕ) (sized : (d : 
       let inner = refused.refused in
       let same = behind_signer signer refused.signer (round_bytes r ++ signature_bytes s) refused.rest refused.parts
       ∙ inner.parts in
-      let told = told_round r inner.round (signature_bytes s) inner.own fits inner.fits same in
-      absurd (unread (signature_of inner.own) s (ap signature_of (sym told.1) ∙ readable) inner.unreadable)
+      let replied = replied_round r inner.round (signature_bytes s) inner.own fits inner.fits same in
+      absurd (unread (signature_of inner.own) s (ap signature_of (sym replied.1) ∙ readable) inner.unreadable)
   no_round_vote_refusal signer r s fits readable TooShort refused = absurd (omega (arith, refused))
   no_round_vote_refusal signer r s fits readable UnreadablePayload refused = absurd refused
   no_round_vote_refusal signer r s fits readable UnreadableCertificate refused = absurd refused
@@ -179,48 +179,52 @@ module _ {D C G : Type 0} (payload : D → List ℕ) (size : ℕ) (sized : (d : 
     abbrev IsSame : Artifact S D K G C → Artifact S D K G C → Type 0
     IsSame b a = (artifact_facts bytes_of b ≡ artifact_facts bytes_of a) × (signature_in b ≡ signature_in a)
 
-    told : (b a : Artifact S D K G C) → IsEncodableArtifact b → IsEncodableArtifact a
+    replied : (b a : Artifact S D K G C) → IsEncodableArtifact b → IsEncodableArtifact a
         → HasReadableSignature signature_bytes signature_of b → HasReadableSignature signature_bytes signature_of a
         → artifact_bytes payload bytes_of signature_bytes b ≡ artifact_bytes payload bytes_of signature_bytes a
         → IsSame b a
-    told (artifact.Notarization n) (artifact.Notarization m) fits fits' readable readable' same = (
+    replied (artifact.Notarization n) (artifact.Notarization m) fits fits' readable readable' same = (
       ap Accepted (apart (Notarized (notarization_facts bytes_of n)) (Notarized (notarization_facts bytes_of m)) fits
           fits' same),
       refl,
     )
-    told (artifact.Notarization n) _ fits fits' readable readable' same = absurd (omega (arith, heads 0 _ _ _ same))
-    told (artifact.Nullification n) (artifact.Nullification m) fits fits' readable readable' same = (
+    replied (artifact.Notarization n) _ fits fits' readable readable' same = absurd (omega (arith, heads 0 _ _ _ same))
+    replied (artifact.Nullification n) (artifact.Nullification m) fits fits' readable readable' same = (
       ap Accepted (apart (Nullified (nullification_facts bytes_of n)) (Nullified (nullification_facts bytes_of m))
           fits fits' same),
       refl,
     )
-    told (artifact.Nullification n) _ fits fits' readable readable' same = absurd (omega (arith, heads 1 _ _ _ same))
-    told (artifact.Finalization n) (artifact.Finalization m) fits fits' readable readable' same = (
+    replied (artifact.Nullification n) _ fits fits' readable readable' same = absurd (omega (arith, heads 1 _ _ _ same))
+    replied (artifact.Finalization n) (artifact.Finalization m) fits fits' readable readable' same = (
       ap Accepted (apart (Finalized (finalization_facts bytes_of n)) (Finalized (finalization_facts bytes_of m)) fits
           fits' same),
       refl,
     )
-    told (artifact.Finalization n) _ fits fits' readable readable' same = absurd (omega (arith, heads 2 _ _ _ same))
-    told (artifact.Notarize v) (artifact.Notarize w) fits fits' readable readable' same =
-        let t = told_proposal_vote v.signer w.signer v.proposal w.proposal v.signature w.signature fits.1 fits'.1 fits.0
+    replied (artifact.Finalization n) _ fits fits' readable readable' same = absurd (omega (arith, heads 2 _ _ _ same))
+    replied (artifact.Notarize v) (artifact.Notarize w) fits fits' readable readable' same =
+        let t = replied_proposal_vote v.signer w.signer v.proposal w.proposal v.signature w.signature fits.1 fits'.1
+        fits.0
         fits'.0 readable readable' (ap (drop 1) same) in
         (λ i. NotarizeVote (t.1 i) (t.0 i), ap Some t.2)
-    told (artifact.Notarize v) _ fits fits' readable readable' same = absurd (omega (arith, heads 3 _ _ _ same))
-    told (artifact.Nullify v) (artifact.Nullify w) fits fits' readable readable' same =
-        let t = told_round_vote v.signer w.signer v.round w.round v.signature w.signature fits.1 fits'.1 fits.0 fits'.0
+    replied (artifact.Notarize v) _ fits fits' readable readable' same = absurd (omega (arith, heads 3 _ _ _ same))
+    replied (artifact.Nullify v) (artifact.Nullify w) fits fits' readable readable' same =
+        let t = replied_round_vote v.signer w.signer v.round w.round v.signature w.signature fits.1 fits'.1 fits.0
+        fits'.0
         readable readable' (ap (drop 1) same) in
         (λ i. NullifyVote (t.1 i) (t.0 i), ap Some t.2)
-    told (artifact.Nullify v) _ fits fits' readable readable' same = absurd (omega (arith, heads 4 _ _ _ same))
-    told (artifact.Finalize v) (artifact.Finalize w) fits fits' readable readable' same =
-        let t = told_proposal_vote v.signer w.signer v.proposal w.proposal v.signature w.signature fits.1 fits'.1 fits.0
+    replied (artifact.Nullify v) _ fits fits' readable readable' same = absurd (omega (arith, heads 4 _ _ _ same))
+    replied (artifact.Finalize v) (artifact.Finalize w) fits fits' readable readable' same =
+        let t = replied_proposal_vote v.signer w.signer v.proposal w.proposal v.signature w.signature fits.1 fits'.1
+        fits.0
         fits'.0 readable readable' (ap (drop 1) same) in
         (λ i. FinalizeVote (t.1 i) (t.0 i), ap Some t.2)
-    told (artifact.Finalize v) _ fits fits' readable readable' same = absurd (omega (arith, heads 5 _ _ _ same))
-    told (artifact.Certification r b) (artifact.Certification s c) fits fits' readable readable' same =
-        let t = told_round r s (verdict_byte b ∷ []) (verdict_byte c ∷ []) fits fits' (ap (drop 1) same) in
+    replied (artifact.Finalize v) _ fits fits' readable readable' same = absurd (omega (arith, heads 5 _ _ _ same))
+    replied (artifact.Certification r b) (artifact.Certification s c) fits fits' readable readable' same =
+        let t = replied_round r s (verdict_byte b ∷ []) (verdict_byte c ∷ []) fits fits' (ap (drop 1) same) in
         let verdicts = same_verdict b c (heads (verdict_byte b) (verdict_byte c) [] [] t.1) in
         (λ i. Verdict (t.0 i) (verdicts i), refl)
-    told (artifact.Certification r b) _ fits fits' readable readable' same = absurd (omega (arith, heads 6 _ _ _ same))
+    replied (artifact.Certification r b) _ fits fits' readable readable' same = absurd
+        (omega (arith, heads 6 _ _ _ same))
 
     pub reads_artifacts : (bytes : List ℕ) (result : Result (Artifact S D K G C) DecodeError)
         → IfOk result (λ b. artifact_bytes payload bytes_of signature_bytes b ≡ bytes) → IfOk result IsEncodableArtifact
@@ -228,7 +232,7 @@ module _ {D C G : Type 0} (payload : D → List ℕ) (size : ℕ) (sized : (d : 
         → IfErr result (IsArtifactRefusal payload size bytes_of signature_of bytes)
         → ReadsArtifacts payload bytes_of signature_bytes signature_of bytes result
     reads_artifacts bytes (Ok b) decoded fits readable refused a fits' readable' same =
-        (told b a fits fits' readable readable' (decoded ∙ sym same), tt)
+        (replied b a fits fits' readable readable' (decoded ∙ sym same), tt)
     reads_artifacts bytes (Err error) decoded fits readable refused a fits' readable' same = (
       tt,
       no_refusal a fits' readable' error

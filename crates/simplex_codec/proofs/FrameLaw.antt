@@ -122,9 +122,9 @@ module _ (digest : List ℕ → List ℕ) where
   parted entry rest = append_assoc (header (length entry)) (entry ++ digest entry) rest
       ∙ ap (λ l. header (length entry) ++ l) (append_assoc entry (digest entry) rest)
 
-  pub told_frames : (entry other rest left : List ℕ) → length entry < 2 ^ 32 → length other < 2 ^ 32
+  pub replied_frames : (entry other rest left : List ℕ) → length entry < 2 ^ 32 → length other < 2 ^ 32
       → framed entry ++ rest ≡ framed other ++ left → (entry ≡ other) × (rest ≡ left)
-  told_frames entry other rest left small small' same =
+  replied_frames entry other rest left small small' same =
       let whole = sym (parted entry rest) ∙ same ∙ parted other left in
       let count : length entry ≡ length other =
       header_is (length entry) (length other) (entry ++ (digest entry ++ rest)) (other ++ (digest other ++ left))
@@ -149,8 +149,8 @@ module _ (digest : List ℕ → List ℕ) where
   ends_alone bytes (entry, small, (more, some, is)) other rest small' stands =
       let both : framed entry ++ [] ≡ framed other ++ (rest ++ more) = append-nil (framed entry) ∙ is
       ∙ ap (λ l. l ++ more) stands ∙ append_assoc (framed other) rest more in
-      let told = told_frames entry other [] (rest ++ more) small small' both in
-      absurd (omega (arith, some, ap length told.1, length-append rest more))
+      let replied = replied_frames entry other [] (rest ++ more) small small' both in
+      absurd (omega (arith, some, ap length replied.1, length-append rest more))
 
   meets_no_cut : (bytes : List ℕ) → MeetsNone bytes → ¬ (ends bytes)
   meets_no_cut bytes meets (entry, small, (more, some, is)) =

@@ -28,7 +28,7 @@ use Rattle.simplex_engine.specs.declared.engine.Engine.{Engine}
 use Rattle.simplex_engine.specs.BuildBounds.{BuildsAhead}
 use Rattle.simplex_engine.specs.ApplicationWork.{is_verify_of, is_certify_of, IsReportedIn}
 use Rattle.engine_planner.specs.Blocks.{builds_from}
-use Rattle.engine_planner.specs.declared.plan.builds.Building.{Building}
+use Rattle.engine_planner.specs.declared.plan.builds.PendingBuild.{PendingBuild}
 use Rattle.engine_planner.specs.declared.plan.Options.{Options}
 use Rattle.engine_outbox.specs.RecordReach.{IsShort}
 use Rattle.engine_planner.specs.PlannedWork.{AreAmong, Beside, awaits, has_block, is_build_of, work_of}
@@ -72,26 +72,27 @@ module _ {S D K G C : Type 0} where
       has_further is is view behind (or_right (list_any (is_build_of view) those) (awaits is view)) (waiting waits))
 
   -- what was asked for still is, with what is planned
-  pub told_by : {works planned those : List (Work S D K G C)} {was is : Beside K D} {waiting : OutstandingWork K D}
+  pub replied_by : {works planned those : List (Work S D K G C)} {was is : Beside K D} {waiting : OutstandingWork K D}
       → AreAmong works those → AreAmong planned those
       → ((view : ℕ) → awaits was view ≡ true → has_block planned is view ≡ true) → IsReportedIn works was waiting
       → IsReportedIn those is waiting
-  told_by {was = was} {is = is} {waiting = waiting} among behind building told =
-      let more = work_among waiting among (told.verified, told.certified) in
+  replied_by {was = was} {is = is} {waiting = waiting} among behind building replied =
+      let more = work_among waiting among (replied.verified, replied.certified) in
       record {
         verified = more.0;
         certified = more.1;
-        built = λ view waits. block_further was is view among behind (building view) (told.built view waits);
+        built = λ view waits. block_further was is view among behind (building view) (replied.built view waits);
       }
 
   -- among more
-  pub told_among : {these those : List (Work S D K G C)} {beside : Beside K D} {waiting : OutstandingWork K D}
+  pub replied_among : {these those : List (Work S D K G C)} {beside : Beside K D} {waiting : OutstandingWork K D}
       → AreAmong these those → IsReportedIn these beside waiting → IsReportedIn those beside waiting
-  told_among {these = these} {beside = beside} among told =
-      told_by among among (λ view. or_right (list_any (is_build_of view) these) (awaits beside view)) told
+  replied_among {these = these} {beside = beside} among replied =
+      replied_by among among (λ view. or_right (list_any (is_build_of view) these) (awaits beside view)) replied
 
-  pub told_none : (works : List (Work S D K G C)) (beside : Beside K D) → IsReportedIn works beside no_outstanding_work
-  told_none works beside =
+  pub replied_none : (works : List (Work S D K G C)) (beside : Beside K D)
+      → IsReportedIn works beside no_outstanding_work
+  replied_none works beside =
       record { verified = λ view waits. cc; certified = λ view waits. cc; built = λ view waits. cc }
 
 -- an answer and what it opens
@@ -113,11 +114,11 @@ module _ (S K G C : Type 0) {D : Type 0} where
 
 module _ {S L D K G C : Type 0} (same : D → D → Bool) (elect : Elect L) (works : List (Work S D K G C)) where
   abbrev HasWorkOf : ReplyFacts K D → OutstandingWork K D → Type 0
-  HasWorkOf told waiting = IsWorkIn (works ++ work_of {S = S} {D = D} {K = K} {G = G} {C = C} told) waiting
+  HasWorkOf replied waiting = IsWorkIn (works ++ work_of {S = S} {D = D} {K = K} {G = G} {C = C} replied) waiting
 
-  work_anyway : (told : ReplyFacts K D) (waiting : OutstandingWork K D) → IsWorkIn works waiting
-      → HasWorkOf told waiting
-  work_anyway told waiting is = work_among waiting (among_more works (work_of told)) is
+  work_anyway : (replied : ReplyFacts K D) (waiting : OutstandingWork K D) → IsWorkIn works waiting
+      → HasWorkOf replied waiting
+  work_anyway replied waiting is = work_among waiting (among_more works (work_of replied)) is
 
   work_verify : (waiting : OutstandingWork K D) (answer : Verify D K) → IsWorkIn works waiting
       → HasWorkOf (call.Standing answer) (with_verification waiting answer)
@@ -212,19 +213,20 @@ module _ {S L D K G C : Type 0} (same : D → D → Bool) (elect : Elect L) (wor
   work_by_answer x o call.Prune is = work_anyway (answer same elect x o call.Prune) o is
 
   -- a call of the member
-  pub work_by_call : (m left : MemberFacts K L D) (asked : CallFacts D) (told : ReplyFacts K D)
-      → IsCall same elect m asked told left → IsWorkIn works m.outstanding_work → HasWorkOf told left.outstanding_work
+  pub work_by_call : (m left : MemberFacts K L D) (asked : CallFacts D) (replied : ReplyFacts K D)
+      → IsCall same elect m asked replied left → IsWorkIn works m.outstanding_work
+      → HasWorkOf replied left.outstanding_work
   unfolding IsCall
-  work_by_call m left asked told is_call is = by_life m.life is_call
+  work_by_call m left asked replied is_call is = by_life m.life is_call
     where
-      unchanged : left ≡ m → HasWorkOf told left.outstanding_work
-      unchanged leaves = work_anyway told left.outstanding_work
+      unchanged : left ≡ m → HasWorkOf replied left.outstanding_work
+      unchanged leaves = work_anyway replied left.outstanding_work
           (subst (λ (n : MemberFacts K L D). IsWorkIn works n.outstanding_work) (sym leaves) is)
 
       by_test : (x : StateFacts K L D) (b : Bool) (due : Option Fault)
-          → told ≡ cond b (unless_refused due (answer same elect x m.outstanding_work asked)) call.NotAllowed
+          → replied ≡ cond b (unless_refused due (answer same elect x m.outstanding_work asked)) call.NotAllowed
           → left ≡ cond b (unless_retained due m (with_call same elect x m asked)) m
-          → HasWorkOf told left.outstanding_work
+          → HasWorkOf replied left.outstanding_work
       by_test x false due tells leaves = unchanged leaves
       by_test x true (Some due) tells leaves = unchanged leaves
       by_test x true None tells leaves =
@@ -232,25 +234,25 @@ module _ {S L D K G C : Type 0} (same : D → D → Bool) (elect : Elect L) (wor
           (subst (λ (n : MemberFacts K L D). HasWorkOf (answer same elect x m.outstanding_work asked)
           n.outstanding_work) (sym leaves) (work_by_answer x m.outstanding_work asked is))
 
-      by_life : (life : Option (StateFacts K L D)) → AnswersAlive same elect life m asked told left
-          → HasWorkOf told left.outstanding_work
+      by_life : (life : Option (StateFacts K L D)) → AnswersAlive same elect life m asked replied left
+          → HasWorkOf replied left.outstanding_work
       by_life None (tells, leaves) = unchanged leaves
       by_life (Some x) (inl (tells, leaves)) =
           by_test x (is_allowed x m.outstanding_work asked) (fault_of x asked) tells leaves
       by_life (Some x) (inr (_, tells, inl (_, leaves))) = unchanged leaves
       by_life (Some x) (inr (_, tells, inr (_, _, leaves))) =
-          work_anyway told left.outstanding_work
+          work_anyway replied left.outstanding_work
           (subst (λ (n : MemberFacts K L D). IsWorkIn works n.outstanding_work) (sym leaves)
           (λ view waits. cc, λ view waits. cc))
 
 module _ {L D K : Type 0} (same : D → D → Bool) (elect : Elect L) where
   -- a call that opens nothing and closes nothing leaves what is open, or nothing once the member has failed
-  pub waits_as_before : (m left : MemberFacts K L D) (asked : CallFacts D) (told : ReplyFacts K D)
+  pub waits_as_before : (m left : MemberFacts K L D) (asked : CallFacts D) (replied : ReplyFacts K D)
       → ((x : StateFacts K L D) (o : OutstandingWork K D) → outstanding_work_after same elect x o asked ≡ o)
-      → IsCall same elect m asked told left → (left.outstanding_work ≡ m.outstanding_work)
+      → IsCall same elect m asked replied left → (left.outstanding_work ≡ m.outstanding_work)
       ⊎ (left.outstanding_work ≡ no_outstanding_work)
   unfolding IsCall
-  waits_as_before m left asked told plain is_call = by_life m.life is_call
+  waits_as_before m left asked replied plain is_call = by_life m.life is_call
     where
       open_in : MemberFacts K L D → OutstandingWork K D
       open_in n = n.outstanding_work
@@ -262,7 +264,7 @@ module _ {L D K : Type 0} (same : D → D → Bool) (elect : Elect L) where
       by_test x true (Some due) leaves = ap open_in leaves
       by_test x true None leaves = ap open_in leaves ∙ plain x m.outstanding_work
 
-      by_life : (life : Option (StateFacts K L D)) → AnswersAlive same elect life m asked told left
+      by_life : (life : Option (StateFacts K L D)) → AnswersAlive same elect life m asked replied left
           → (left.outstanding_work ≡ m.outstanding_work) ⊎ (left.outstanding_work ≡ no_outstanding_work)
       by_life None (tells, leaves) = inl (ap open_in leaves)
       by_life (Some x) (inl (tells, leaves)) =
@@ -275,7 +277,8 @@ pub ahead_still : {S L D K G C : Type 0} (a b : Engine S L D K G C) → b.core.m
     → b.plan.builds.buildings.items ≡ a.plan.builds.buildings.items
     → BuildsAhead a.core a.plan → BuildsAhead b.core b.plan
 ahead_still {D = D} {K = K} {G = G} a b member builds is =
-    subst (λ (builds : List (Building D K)). IfSome b.core.member.facts.life (λ x. builds_from x.current builds ≡ true))
+    subst (λ (builds : List (PendingBuild D K)). IfSome b.core.member.facts.life
+    (λ x. builds_from x.current builds ≡ true))
     (sym builds)
     (subst (λ (m : SignedMember K _ D G). IfSome m.facts.life
     (λ x. builds_from x.current a.plan.builds.buildings.items ≡ true)) (sym member) is)

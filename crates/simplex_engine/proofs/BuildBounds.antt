@@ -9,7 +9,7 @@ use Rattle.laws_safety.specs.LifetimeLaws.{WhileAlive}
 use Rattle.simplex_member.specs.MemberFacts.{SignedMember}
 use Rattle.engine_outbox.specs.Continuity.{HasRisen}
 use Rattle.engine_outbox.proofs.Continuity.{risen_not}
-use Rattle.engine_planner.specs.declared.plan.builds.Building.{Building}
+use Rattle.engine_planner.specs.declared.plan.builds.PendingBuild.{PendingBuild}
 use Rattle.engine_planner.specs.Blocks.{views_built, builds_above}
 use Rattle.engine_planner.specs.declared.plan.Plan.{Plan}
 use Rattle.engine_planner.specs.declared.plan.Views.{Views}
@@ -32,7 +32,7 @@ above_lower low high up (view ∷ views) some = elim (or_cases (nat_lt high view
   | inr that ↦ or_right (nat_lt low view) (list_any (nat_lt low) views) (above_lower low high up views that)
 ]
 
-module _ {K L D : Type 0} (requested : List ℕ) (before after : List (Building D K)) where
+module _ {K L D : Type 0} (requested : List ℕ) (before after : List (PendingBuild D K)) where
   -- where the views do not fall, and no view is requested above the first of the next term
   pub near_by_views : (old new : Option (StateFacts K L D)) → WhileAlive HasRisen old new
       → AreAmong (views_built after) (requested ++ views_built before)

@@ -26,9 +26,9 @@ pub is_repair_of : {D : Type 0} (bytes : D → List ℕ) (term_length : ℕ) (en
     → made.fetches.wanted.items ≡ wanting resolver.open_fetches [] → made.fetches.peers ≡ peers
     → made.fetches.retry ≡ retry → made.is_behind ≡ false
     → IsRepairOf bytes term_length entries peers retry repair
-is_repair_of bytes term_length entries peers retry resolver made repair same told is fetched by after behind =
+is_repair_of bytes term_length entries peers retry resolver made repair same received is fetched by after behind =
     subst (IsRepairOf bytes term_length entries peers retry) (sym same) (record {
-      told = subst (HasReceivedCalls term_length (Replayed ∷ calls_of bytes (reverse entries))) (sym is) told;
+      received = subst (HasReceivedCalls term_length (Replayed ∷ calls_of bytes (reverse entries))) (sym is) received;
       fetched = fetched ∙ ap (λ (r : LawfulResolverFacts). wanting r.open_fetches []) (sym is);
       peers_now = by;
       retry_now = after;

@@ -62,7 +62,7 @@ module _ {K L D : Type 0} (same : D → D → Bool) (elect : Elect L) (now : ℕ
       → HasDoneTask same elect asked now m left is_of_use → IsFalse is_of_use → IsLeftByCall (call_of asked now) m left
   asked_left asked m left is_of_use done vain =
       dropped_left same elect m left (call_of asked now) done.answer done.answered
-      (not-false (says_nothing done.answer) (sym done.told ∙ vain))
+      (not-false (says_nothing done.answer) (sym done.useful ∙ vain))
 
   verified_left : (is_valid : Bool) (view : ℕ) (m left : MemberFacts K L D) (is_of_use : Bool)
       → HasDoneTask same elect (verification_of is_valid view) now m left is_of_use → IsFalse is_of_use → left ≡ m
@@ -82,7 +82,7 @@ module _ {S L D K G C : Type 0} (same : D → D → Bool) (elect : Elect L) (byt
   handed_left certificate m left is_of_use handed vain =
       refused_left same elect m left (certificate_call (certificate_facts bytes_of certificate) now) handed.answer
       handed.answered
-      (not-false (is_refused handed.answer) (sym handed.told ∙ vain))
+      (not-false (is_refused handed.answer) (sym handed.useful ∙ vain))
 
   -- an ignored vote
   counted_left : (counted : Counted S D K G C) (queued : List (Step S D K G C)) (m : MemberFacts K L D)
@@ -254,8 +254,8 @@ module _ {S L D K G C : Type 0} (same : D → D → Bool) (elect : Elect L) (byt
           (unadmitted is)
 
   -- an input of which no vote is taken
-  pub taken_alone : {E : Type 0} {is_signature : K → Subject D → G → Type 0} (told what : Input S D K G C)
-      (old new : Engine S L D K G C) (answer : Result Bool E) → told ≡ what
+  pub taken_alone : {E : Type 0} {is_signature : K → Subject D → G → Type 0} (replied what : Input S D K G C)
+      (old new : Engine S L D K G C) (answer : Result Bool E) → replied ≡ what
       → Continues same elect bytes_of is_signature (subject_in bytes_of what) old.core new.core
       → new.batcher ≡ old.batcher
       → IsBackedInput same elect bytes_of is_signature (length (keys_of old.batcher.scheme)) what old.batcher old.core
@@ -266,8 +266,9 @@ module _ {S L D K G C : Type 0} (same : D → D → Bool) (elect : Elect L) (byt
       → (IsTrue (is_input_admitted bytes_of (facts_of old) what)
       → IfOk answer
       (IsActedOn same elect bytes_of IsMadeOf keys_of now what old (facts_of new) new.batcher new.plan.steps.items))
-      → IsInputTaken same elect bytes bytes_of is_signature IsMadeOf keys_of now told old old new answer
-  taken_alone {is_signature = is_signature} told what old new answer is went kept backed due_work provenance unadmitted
+      → IsInputTaken same elect bytes bytes_of is_signature IsMadeOf keys_of now replied old old new answer
+  taken_alone {is_signature = is_signature} replied what old new answer is went kept backed due_work provenance
+      unadmitted
       acted =
       subst (λ input. IsInputTaken same elect bytes bytes_of is_signature IsMadeOf keys_of now input old old new answer)
       (sym is)
@@ -382,8 +383,8 @@ module _ {S L D K G C : Type 0} (same : D → D → Bool) (elect : Elect L) (byt
         bounded = taken.bounded;
         acted = taken.acted;
         due_work = record {
-          stays = λ work told.
-              (let is = taken.due_work.stays work told in
+          stays = λ work replied.
+              (let is = taken.due_work.stays work replied in
               record { verified = is.verified; certified = is.certified; built = is.built });
           works = taken.due_work.works;
           near = taken.due_work.near;
@@ -394,7 +395,7 @@ module _ {S L D K G C : Type 0} (same : D → D → Bool) (elect : Elect L) (byt
         ignored = ap one_more taken.ignored;
         provenance = record {
           steps = taken.provenance.steps;
-          heard = taken.provenance.heard;
+          received = taken.provenance.received;
           by_steps = taken.provenance.by_steps;
           works = taken.provenance.works;
         };

@@ -10,7 +10,7 @@ mod ReplyWork
 mod AtRest
 mod Provenance
 mod NoMissingCertificates
-mod Tells
+mod UnfinishedWork
 mod InputResults
 mod EngineStart
 mod fetch_heights

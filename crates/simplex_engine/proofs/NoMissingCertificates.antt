@@ -8,7 +8,7 @@ use Rattle.simplex_types.specs.declared.types.fault.Fault.{Fault}
 use Rattle.simplex_voter.specs.Facts.{Elect, StateFacts}
 use Rattle.simplex_voter.specs.Windows.{min_active}
 use Rattle.simplex_member.specs.Calls as call
-use Rattle.simplex_member.specs.Calls.{told, ReplyFacts}
+use Rattle.simplex_member.specs.Calls.{reply_facts, ReplyFacts}
 use Rattle.simplex_member.specs.MemberFacts.{MemberFacts, IsCall, AnswersAlive, unless_refused}
 use Rattle.simplex_member.specs.declared.member.calls.Reply.{Reply}
 use Rattle.simplex_member.specs.declared.member.calls.Reply.TheVariants as reply
@@ -171,7 +171,7 @@ module _ {K L D : Type 0} (same : D → D → Bool) (elect : Elect L) (m left : 
       by_life (Some x) (inr (allowed, is, leaves)) = ap tells_plain is
 
 plain_as : {S D K G C : Type 0} (bytes_of : C → List ℕ) (it : Reply S D K G C)
-    → is_plain it ≡ tells_plain (told bytes_of it)
+    → is_plain it ≡ tells_plain (reply_facts bytes_of it)
 plain_as bytes_of reply.Unit = refl
 plain_as bytes_of (reply.Flag taken) = refl
 plain_as bytes_of (reply.Added newly leader) = refl
@@ -195,6 +195,6 @@ plain_as bytes_of reply.NotAllowed = refl
 
 pub handed_plain : {S K L D G C : Type 0} (same : D → D → Bool) (elect : Elect L) (bytes_of : C → List ℕ)
     (m left : MemberFacts K L D) (now : ℕ) (certificate : CertificateFacts D) (it : Reply S D K G C)
-    → IsCall same elect m (certificate_call certificate now) (told bytes_of it) left → is_plain it ≡ true
+    → IsCall same elect m (certificate_call certificate now) (reply_facts bytes_of it) left → is_plain it ≡ true
 handed_plain same elect bytes_of m left now certificate it called = plain_as bytes_of it
-    ∙ handed_tells same elect m left now (told bytes_of it) certificate called
+    ∙ handed_tells same elect m left now (reply_facts bytes_of it) certificate called

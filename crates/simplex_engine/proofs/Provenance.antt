@@ -14,7 +14,7 @@ use Rattle.simplex_types.specs.declared.types.fault.Fault.{Fault}
 use Rattle.simplex_types.specs.declared.types.fault.Fault.TheVariants.{Failed}
 use Rattle.simplex_resolver.specs.CallHistory.{LawfulResolverFacts}
 use Rattle.simplex_voter.specs.Facts.{Elect, StateFacts}
-use Rattle.simplex_member.specs.Calls.{CallFacts, told}
+use Rattle.simplex_member.specs.Calls.{CallFacts, reply_facts}
 use Rattle.simplex_member.specs.MemberFacts.{MemberFacts, IsCall}
 use Rattle.simplex_member.specs.PrunedRecord.{pruned_member}
 use Rattle.simplex_member.specs.Runs.{StepFacts, Calls, Prunes, Restarts}
@@ -191,16 +191,16 @@ risen_facts {K = K} {L = L} {D = D} {before = before} is =
     subst (λ (m : MemberFacts K L D). WhileAlive HasRisen before.life m.life) (sym is) (risen_not before)
 
 -- the resolver receives the replies one after the other
-heard_further : {S L D K G C : Type 0} (bytes : D → List ℕ) (bytes_of : C → List ℕ)
+received_further : {S L D K G C : Type 0} (bytes : D → List ℕ) (bytes_of : C → List ℕ)
     (steps more : List (StepFacts K L D × Reply S D K G C))
     → received_in bytes bytes_of (steps ++ more) ≡ received_in bytes bytes_of steps ++ received_in bytes bytes_of more
-heard_further bytes bytes_of [] more = refl
-heard_further bytes bytes_of ((Calls call, reply) ∷ rest) more =
-    ap (λ calls. received_by bytes bytes_of reply call ++ calls) (heard_further bytes bytes_of rest more)
+received_further bytes bytes_of [] more = refl
+received_further bytes bytes_of ((Calls call, reply) ∷ rest) more =
+    ap (λ calls. received_by bytes bytes_of reply call ++ calls) (received_further bytes bytes_of rest more)
     ∙ sym (append_assoc (received_by bytes bytes_of reply call) (received_in bytes bytes_of rest)
     (received_in bytes bytes_of more))
-heard_further bytes bytes_of ((Prunes, reply) ∷ rest) more = heard_further bytes bytes_of rest more
-heard_further bytes bytes_of ((Restarts restart, reply) ∷ rest) more = heard_further bytes bytes_of rest more
+received_further bytes bytes_of ((Prunes, reply) ∷ rest) more = received_further bytes bytes_of rest more
+received_further bytes bytes_of ((Restarts restart, reply) ∷ rest) more = received_further bytes bytes_of rest more
 
 -- why a certificate is no longer asked for, after some steps
 abbrev over_since : {S L D K G C : Type 0} → (D → List ℕ) → (C → List ℕ) → (FetchKind → ℕ → Bool) → Engine S L D K G C
@@ -238,17 +238,17 @@ module _ {S L D K G C : Type 0} {same : D → D → Bool} {elect : Elect L} {byt
       → AreAmong (work_by_steps steps) (work_ahead b) → AreAmong (work_ahead b) (out ++ work_ahead c)
       → AreAmong (work_by_steps more) (out ++ work_ahead c)
       → IsCaused same elect bytes bytes_of now came out holds a c
-  comes_joined {came = came} {out = out} {held = held} {holds = holds} {a = a} {c = c} b mid steps more first_heard
-      first within risen second_heard second first_works works second_works = record {
+  comes_joined {came = came} {out = out} {held = held} {holds = holds} {a = a} {c = c} b mid steps more first_received
+      first within risen second_received second first_works works second_works = record {
         steps = steps ++ more;
-        heard = both.1;
+        received = both.1;
         by_steps = both.0;
         works = among_further (among_all (works_further steps more))
             (among_each (among_further first_works works) second_works);
       }
     where
-      heard : List (StepFacts K L D × Reply S D K G C) → List Call
-      heard = received_in bytes bytes_of
+      received : List (StepFacts K L D × Reply S D K G C) → List Call
+      received = received_in bytes bytes_of
 
       ends : Plan S D K G C → List Call → FetchKind → ℕ → Bool
       ends plan calls kind view = ended_by plan.repair.resolver.state calls kind view
@@ -260,39 +260,42 @@ module _ {S L D K G C : Type 0} {same : D → D → Bool} {elect : Elect L} {byt
 
       both : IsCausedBy same elect bytes_of now (asks c.plan)
           (λ kind view.
-          holds kind view || (is_final c.core.member.facts view || ends a.plan (heard (steps ++ more)) kind view))
+          holds kind view || (is_final c.core.member.facts view || ends a.plan (received (steps ++ more)) kind view))
           (steps ++ more) (came ++ pending_causes a) (with_missing_certificate (asks a.plan) came) a.core.member.facts
           (of_works out ++ pending_causes c) c.core.member.facts
-          × AreMade a.plan.repair.resolver (heard (steps ++ more)) c.plan.repair.resolver
+          × AreMade a.plan.repair.resolver (received (steps ++ more)) c.plan.repair.resolver
       both =
           subst (λ calls. IsCausedBy same elect bytes_of now (asks c.plan)
           (λ kind view. holds kind view || (is_final c.core.member.facts view || ends a.plan calls kind view))
           (steps ++ more) (came ++ pending_causes a) (with_missing_certificate (asks a.plan) came) a.core.member.facts
           (of_works out ++ pending_causes c) c.core.member.facts
           × AreMade a.plan.repair.resolver calls c.plan.repair.resolver)
-          (sym (heard_further bytes bytes_of steps more)) (
+          (sym (received_further bytes bytes_of steps more)) (
             joined same elect bytes_of now (asks b.plan) (asks c.plan) (over_since bytes bytes_of held b a.plan steps)
                 (over_since bytes bytes_of holds c b.plan more)
                 (λ kind view. holds kind view
-                || (is_final c.core.member.facts view || ends a.plan (heard steps ++ heard more) kind view))
+                || (is_final c.core.member.facts view || ends a.plan (received steps ++ received more) kind view))
                 (λ kind view un.
                 let parts = not_or (holds kind view) _ un in
                 let rest = not_or (is_final c.core.member.facts view) _ parts.1 in
                 none_of (held kind view) (is_final b.core.member.facts view) _ (within kind view parts.0)
                 (final_further b.core.member.facts c.core.member.facts risen view rest.0)
-                (ended_on a.plan.repair.resolver b.plan.repair.resolver (heard steps) (heard more) first_heard kind view
+                (ended_on a.plan.repair.resolver b.plan.repair.resolver (received steps)
+                (received more) first_received kind view
                 rest.1).0)
                 (λ kind view un.
                 let parts = not_or (holds kind view) _ un in
                 let rest = not_or (is_final c.core.member.facts view) _ parts.1 in
                 none_of (holds kind view) (is_final c.core.member.facts view) _ parts.0 rest.0
-                (ended_on a.plan.repair.resolver b.plan.repair.resolver (heard steps) (heard more) first_heard kind view
+                (ended_on a.plan.repair.resolver b.plan.repair.resolver (received steps)
+                (received more) first_received kind view
                 rest.1).1)
                 steps more (came ++ pending_causes a) mid (of_works out ++ pending_causes c)
                 (with_missing_certificate (asks a.plan) came) a.core.member.facts b.core.member.facts
                 c.core.member.facts first second,
-            made_on a.plan.repair.resolver b.plan.repair.resolver c.plan.repair.resolver (heard steps) (heard more)
-                first_heard second_heard,
+            made_on a.plan.repair.resolver b.plan.repair.resolver c.plan.repair.resolver (received steps)
+                (received more)
+                first_received second_received,
           )
 
   pub comes_then : {came : List (Cause S D K G C)} {out : List (Work S D K G C)} {held holds : FetchKind → ℕ → Bool}
@@ -304,8 +307,8 @@ module _ {S L D K G C : Type 0} {same : D → D → Bool} {elect : Elect L} {byt
       → IsCaused same elect bytes bytes_of now [] out holds b c
       → IsCaused same elect bytes bytes_of now came out holds a c
   comes_then {held = held} {holds = holds} {b = b} first within risen works second =
-      comes_joined {held = held} {holds = holds} b (pending_causes b) first.steps second.steps first.heard
-      first.by_steps within risen second.heard second.by_steps first.works works second.works
+      comes_joined {held = held} {holds = holds} b (pending_causes b) first.steps second.steps first.received
+      first.by_steps within risen second.received second.by_steps first.works works second.works
 
   pub comes_on : {came : List (Cause S D K G C)} {out : List (Work S D K G C)} {holds : FetchKind → ℕ → Bool}
       {a b c : Engine S L D K G C}
@@ -324,7 +327,7 @@ module _ {S L D K G C : Type 0} {same : D → D → Bool} {elect : Elect L} {byt
       → IsCaused same elect bytes bytes_of now came out held a b
   comes_same {held = held} {a = a} {b = b} is among keeps = record {
     steps = [];
-    heard = keeps.told;
+    received = keeps.received;
     by_steps = (
       among,
       is,
@@ -348,14 +351,14 @@ module _ {S L D K G C : Type 0} {same : D → D → Bool} {elect : Elect L} {byt
   pub comes_called : {came : List (Cause S D K G C)} {a b : Engine S L D K G C} (asked : CallFacts D)
       (answer : Reply S D K G C) → HasNoMissingCertificate came
       → IsCallCaused now (came ++ pending_causes a) a.core.member.facts asked
-      → IsCall same elect a.core.member.facts asked (told bytes_of answer) b.core.member.facts
+      → IsCall same elect a.core.member.facts asked (reply_facts bytes_of answer) b.core.member.facts
       → AreAmong (pending_causes b) ((came ++ pending_causes a) ++ reply_causes now answer asked)
       → KeepsFetching (reply_causes now answer asked) (λ kind view. is_final b.core.member.facts view)
       (received_by bytes bytes_of answer asked) a.plan b.plan
       → AreAmong (work_by_reply answer asked) (work_ahead b) → IsCausedWith same elect bytes bytes_of now came a b
   comes_called {came = came} {a = a} {b = b} asked answer none meant called among keeps works = record {
     steps = (Calls asked, answer) ∷ [];
-    heard = alone.told;
+    received = alone.received;
     by_steps = (
       meant,
       b.core.member.facts,
@@ -387,7 +390,7 @@ module _ {S L D K G C : Type 0} {same : D → D → Bool} {elect : Elect L} {byt
       → IsCausedWithoutInput same elect bytes bytes_of now a b
   comes_pruned {a = a} {b = b} is plan among = record {
     steps = (Prunes, reply.Unit) ∷ [];
-    heard = ap (λ (p : Plan S D K G C). p.repair.resolver) plan;
+    received = ap (λ (p : Plan S D K G C). p.repair.resolver) plan;
     by_steps = (
       tt,
       b.core.member.facts,
@@ -408,7 +411,7 @@ module _ {S L D K G C : Type 0} {same : D → D → Bool} {elect : Elect L} {byt
       → IsCausedWith same elect bytes bytes_of now more a b
   comes_wider {came = came} {more = more} {a = a} {b = b} among none is = record {
     steps = is.steps;
-    heard = is.heard;
+    received = is.received;
     by_steps = by_more same elect bytes_of now (asks b.plan) is.steps (over_by (received_in bytes bytes_of is.steps))
         (over_by (received_in bytes bytes_of is.steps)) (came ++ pending_causes a) (more ++ pending_causes a)
         (pending_causes b) (with_missing_certificate (asks a.plan) came)
@@ -435,11 +438,11 @@ module _ {S L D K G C : Type 0} {same : D → D → Bool} {elect : Elect L} {byt
   comes_later {came = came} {out = out} {holds = holds} {a = a} {b = b} {c = c} none first risen works second =
       let wider = comes_wider (among_none came) none first in
       comes_joined {held = λ kind view. false} {holds = holds} b (came ++ pending_causes b) wider.steps second.steps
-      wider.heard
+      wider.received
       (left_more same elect bytes_of now (asks b.plan) wider.steps
       (over_since bytes bytes_of (λ kind view. false) b a.plan wider.steps) (came ++ pending_causes a) came
       (pending_causes b) (with_missing_certificate (asks a.plan) came) a.core.member.facts b.core.member.facts
-      (among_more came (pending_causes a)) wider.by_steps) (λ kind view un. refl) risen second.heard
+      (among_more came (pending_causes a)) wider.by_steps) (λ kind view un. refl) risen second.received
       (by_more same elect bytes_of now (asks c.plan) second.steps
       (over_since bytes bytes_of holds c b.plan second.steps)
       (over_since bytes bytes_of holds c b.plan second.steps) (came ++ pending_causes b) (came ++ pending_causes b)
@@ -457,8 +460,8 @@ module _ {S L D K G C : Type 0} {same : D → D → Bool} {elect : Elect L} {byt
       → IsCaused same elect bytes bytes_of now came out held a b
   comes_before {came = came} {out = out} {held = held} {a = a} {mid = mid} {b = b} facts plan among is = record {
     steps = is.steps;
-    heard = subst (λ (p : Plan S D K G C). AreMade p.repair.resolver (received_in bytes bytes_of is.steps)
-        b.plan.repair.resolver) plan is.heard;
+    received = subst (λ (p : Plan S D K G C). AreMade p.repair.resolver (received_in bytes bytes_of is.steps)
+        b.plan.repair.resolver) plan is.received;
     by_steps = subst (λ (m : MemberFacts K L D).
         IsCausedBy same elect bytes_of now (asks b.plan) (over_by a.plan) is.steps (came ++ pending_causes a)
         (with_missing_certificate (asks a.plan) came) m (of_works out ++ pending_causes b)
@@ -485,8 +488,9 @@ module _ {S L D K G C : Type 0} {same : D → D → Bool} {elect : Elect L} {byt
       → IsCausedWithoutInput same elect bytes bytes_of now a b
   comes_taken front {a = a} {mid = mid} {b = b} core among asks_as is = record {
     steps = is.steps;
-    heard = subst (λ (r : LawfulResolverFacts). AreMade r (received_in bytes bytes_of is.steps) b.plan.repair.resolver)
-        asks_as.0 is.heard;
+    received = subst (λ (r : LawfulResolverFacts). AreMade r
+        (received_in bytes bytes_of is.steps) b.plan.repair.resolver)
+        asks_as.0 is.received;
     by_steps = subst (λ (it : Journaled S L D K G C).
         IsCausedBy same elect bytes_of now (asks b.plan) (over_by a.plan.repair.resolver) is.steps (pending_causes a)
         (λ kind view. asks a.plan kind view || false) it.member.facts (pending_causes b)
@@ -657,14 +661,14 @@ module _ {S L D K G C : Type 0} where
 module _ {S L D K G C : Type 0} (same : D → D → Bool) (elect : Elect L) (bytes : D → List ℕ) (bytes_of : C → List ℕ)
     (now : ℕ) where
   -- whether the application found a proposal valid was received
-  pub told_verified : {X E : Type 0} (is_valid : Bool) (view : ℕ) (a b : Engine S L D K G C) {asked : Task D}
+  pub replied_verified : {X E : Type 0} (is_valid : Bool) (view : ℕ) (a b : Engine S L D K G C) {asked : Task D}
       (r : Result X E) → asked ≡ verification_of is_valid view
       → OnOk r ((came : List (Cause S D K G C)) → HasNoMissingCertificate came
       → IsCallCaused now (came ++ pending_causes a) a.core.member.facts (call_of asked now)
       → IsCausedWith same elect bytes bytes_of now came a b)
       → OnOk r (IsCausedWith same elect bytes bytes_of now (Message (verification_of is_valid view) ∷ []) a b)
-  told_verified is_valid view a b (Err e) is provenance = tt
-  told_verified is_valid view a b {asked} (Ok x) is provenance = by_test is_valid is
+  replied_verified is_valid view a b (Err e) is provenance = tt
+  replied_verified is_valid view a b {asked} (Ok x) is provenance = by_test is_valid is
     where
       by_test : (t : Bool) → asked ≡ verification_of t view
           → IsCausedWith same elect bytes bytes_of now (Message (verification_of t view) ∷ []) a b
@@ -705,13 +709,13 @@ module _ {S D K G C : Type 0} where
       refused.resolver)))
       (among_more (planned_causes old) (MissingCertificate kind view ∷ []))
 
-  pub lets_go : {X : Type 0} (r : Result X Fault) (finalized : ℕ) (keep : Fetch → Bool) (old new : Plan S D K G C)
+  pub drops_fetches : {X : Type 0} (r : Result X Fault) (finalized : ℕ) (keep : Fetch → Bool) (old new : Plan S D K G C)
       → new ≡ record old { repair = new.repair }
       → OnOk r (HasPassed finalized (filter keep old.repair.fetches.wanted.items) old.repair new.repair)
       → IfErr r (λ fault. (fault ≡ Failed) × (new ≡ old))
       → AreAmong (planned_causes new) (planned_causes old)
-  lets_go (Ok x) finalized keep old new is passes refused = closes_some keep is passes
-  lets_go (Err e) finalized keep old new is passes refused = same_plan refused.1
+  drops_fetches (Ok x) finalized keep old new is passes refused = closes_some keep is passes
+  drops_fetches (Err e) finalized keep old new is passes refused = same_plan refused.1
 
 -- ---- a vote
 

@@ -43,10 +43,10 @@ module _ {K D : Type 0} where
 
   -- each request that is open in the end is in the reply or was open, and is not ended
   abbrev pub AreOpen : Task D → ReplyFacts K D → OutstandingWork K D → OutstandingWork K D → Type 0
-  AreOpen asked told before left =
+  AreOpen asked replied before left =
       (view : ℕ) → is_open left view ≡ true
-      → ((list_any (λ v. v == view) (views_requested told) ≡ true) ⊎ (is_open before view ≡ true))
-      × (ends asked told view ≡ false)
+      → ((list_any (λ v. v == view) (views_requested replied) ≡ true) ⊎ (is_open before view ≡ true))
+      × (ends asked replied view ≡ false)
 
   -- what is open after a close was open, and is of another view
   closed_other : (o : OutstandingWork K D) (v w : ℕ) → is_open (without_context o v) w ≡ true
@@ -180,25 +180,25 @@ module _ {K L D : Type 0} (same : D → D → Bool) (elect : Elect L) (x : State
   near_by_answer w up task.Prune now = refl
 
 module _ {K L D : Type 0} (same : D → D → Bool) (elect : Elect L) (m left : MemberFacts K L D) (asked : Task D)
-    (now : ℕ) (told : ReplyFacts K D) where
+    (now : ℕ) (replied : ReplyFacts K D) where
   -- a call of the member
-  pub open_by_call : IsCall same elect m (call_of asked now) told left
-      → AreOpen asked told m.outstanding_work left.outstanding_work
+  pub open_by_call : IsCall same elect m (call_of asked now) replied left
+      → AreOpen asked replied m.outstanding_work left.outstanding_work
   unfolding IsCall
   open_by_call is_call = by_life m.life is_call
     where
       Leaves : ReplyFacts K D → MemberFacts K L D → Type 0
       Leaves t n = AreOpen asked t m.outstanding_work n.outstanding_work
 
-      refused : (fault : Fault) → told ≡ call.Refused fault → left ≡ m → Leaves told left
+      refused : (fault : Fault) → replied ≡ call.Refused fault → left ≡ m → Leaves replied left
       refused fault tells leaves = subst (λ t. Leaves t left) (sym tells)
           (subst (Leaves (call.Refused fault)) (sym leaves) (λ view is. (inr is, refl)))
 
       by_test : (x : StateFacts K L D) (b : Bool) (due : Option Fault)
           → is_allowed x m.outstanding_work (call_of asked now) ≡ b
-          → told ≡ cond b (unless_refused due (answer same elect x m.outstanding_work (call_of asked now)))
+          → replied ≡ cond b (unless_refused due (answer same elect x m.outstanding_work (call_of asked now)))
           call.NotAllowed
-          → left ≡ cond b (unless_retained due m (with_call same elect x m (call_of asked now))) m → Leaves told left
+          → left ≡ cond b (unless_retained due m (with_call same elect x m (call_of asked now))) m → Leaves replied left
       by_test x false due allowed tells leaves =
           subst (λ t. Leaves t left) (sym tells) (subst (Leaves call.NotAllowed) (sym leaves)
           (λ view is. (inr is, open_by_refusal same elect x m.outstanding_work asked now view allowed is)))
@@ -208,34 +208,35 @@ module _ {K L D : Type 0} (same : D → D → Bool) (elect : Elect L) (m left : 
           (subst (Leaves (answer same elect x m.outstanding_work (call_of asked now))) (sym leaves)
           (open_by_answer same elect x m.outstanding_work asked now))
 
-      by_life : (life : Option (StateFacts K L D)) → AnswersAlive same elect life m (call_of asked now) told left
-          → Leaves told left
+      by_life : (life : Option (StateFacts K L D)) → AnswersAlive same elect life m (call_of asked now) replied left
+          → Leaves replied left
       by_life None (tells, leaves) = refused fault.Failed tells leaves
       by_life (Some x) (inl (tells, leaves)) =
           by_test x (is_allowed x m.outstanding_work (call_of asked now)) (fault_of x (call_of asked now)) refl tells
           leaves
       by_life (Some x) (inr (_, tells, inl (_, leaves))) = refused fault.OutOfMemory tells leaves
       by_life (Some x) (inr (_, tells, inr (_, _, leaves))) =
-          subst (Leaves told) (sym leaves) (λ view is. absurd (false≢true is))
+          subst (Leaves replied) (sym leaves) (λ view is. absurd (false≢true is))
 
   -- what it requests is not above the first view of the next term
-  pub near_by_call : IsCall same elect m (call_of asked now) told left → (x : StateFacts K L D) → m.life ≡ Some x
-      → (w : ℕ) → next_term_start x.terms.term_length x.current ≤ w → list_any (nat_lt w) (views_requested told) ≡ false
+  pub near_by_call : IsCall same elect m (call_of asked now) replied left → (x : StateFacts K L D) → m.life ≡ Some x
+      → (w : ℕ) → next_term_start x.terms.term_length x.current ≤ w
+      → list_any (nat_lt w) (views_requested replied) ≡ false
   unfolding IsCall
   near_by_call is_call x lives w up = by_answer
-      (subst (λ life. AnswersAlive same elect life m (call_of asked now) told left) lives is_call)
+      (subst (λ life. AnswersAlive same elect life m (call_of asked now) replied left) lives is_call)
     where
       IsNear : ReplyFacts K D → Type 0
       IsNear t = list_any (nat_lt w) (views_requested t) ≡ false
 
       by_test : (b : Bool) (due : Option Fault)
-          → told ≡ cond b (unless_refused due (answer same elect x m.outstanding_work (call_of asked now)))
-          call.NotAllowed → IsNear told
+          → replied ≡ cond b (unless_refused due (answer same elect x m.outstanding_work (call_of asked now)))
+          call.NotAllowed → IsNear replied
       by_test false due tells = subst IsNear (sym tells) refl
       by_test true (Some due) tells = subst IsNear (sym tells) refl
       by_test true None tells = subst IsNear (sym tells) (near_by_answer same elect x m.outstanding_work w up asked now)
 
-      by_answer : AnswersAlive same elect (Some x) m (call_of asked now) told left → IsNear told
+      by_answer : AnswersAlive same elect (Some x) m (call_of asked now) replied left → IsNear replied
       by_answer (inl (tells, leaves)) = by_test (is_allowed x m.outstanding_work (call_of asked now))
           (fault_of x (call_of asked now)) tells
       by_answer (inr (_, tells, leaves)) = subst IsNear (sym tells) refl

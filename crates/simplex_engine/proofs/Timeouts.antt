@@ -4,7 +4,7 @@ use Rattle.std.proofs.Common.{◌≡◌, ap, ℕ, Bool, true, List, Option, Some
 use Rattle.std.specs.Prelude.{IfSome, MatchOption, nat_lt}
 use Rattle.std.proofs.lemmas.Bool.Decides.{nat_tests}
 use Rattle.simplex_voter.specs.Facts.{Elect, StateFacts}
-use Rattle.simplex_member.specs.Calls.{ReplyFacts, TimesOut, told}
+use Rattle.simplex_member.specs.Calls.{ReplyFacts, TimesOut, reply_facts}
 use Rattle.simplex_member.specs.MemberFacts.{MemberFacts}
 use Rattle.simplex_member.specs.declared.member.calls.Reply.{Reply}
 use Rattle.simplex_member.specs.declared.member.calls.Reply.TheVariants as reply
@@ -30,7 +30,7 @@ awaited now timeout answer later stored = tt
 -- a plan that follows a reply stores the timeout that it names
 pub stores : {S D K G C : Type 0} (bytes : D → List ℕ) (bytes_of : C → List ℕ) (now : ℕ) (asked : Task D)
     (answer : Reply S D K G C) (old new : Plan S D K G C)
-    → IsFollowed bytes bytes_of now asked answer old new → IsStored new.timeout (told bytes_of answer)
+    → IsFollowed bytes bytes_of now asked answer old new → IsStored new.timeout (reply_facts bytes_of answer)
 stores {S = S} {D = D} {K = K} {G = G} {C = C} bytes bytes_of now asked (reply.Timeout moment reason) old new is =
     ap (λ (plan : Plan S D K G C). plan.timeout) is.same
 stores bytes bytes_of now asked answer old new is = tt
@@ -41,8 +41,8 @@ pub done_times_out : {K L D : Type 0} (same : D → D → Bool) (decides : (d e 
     → HasHistory same elect term_length i all m → IfSome m.life CurrentTimesOut
 done_times_out {K = K} {L = L} {D = D} same decides elect term_length i all m done =
     by_life m.life (states_time_out same decides elect term_length done.execution.start done.execution.steps
-    done.execution.replies m done.told.lives.first.terms
-    (keep_terms term_length i done.execution.steps done.told.lives.later) done.told.run)
+    done.execution.replies m done.executed.lives.first.terms
+    (keep_terms term_length i done.execution.steps done.executed.lives.later) done.executed.run)
   where
     by_life : (life : Option (StateFacts K L D)) → MatchOption life (Unit {0}) CurrentTimesOut
         → IfSome life CurrentTimesOut

@@ -40,7 +40,7 @@ others_of keys me = peers_of (min (length keys) (2 ^ 32 - 1)) me
 pub record IsRepairOf {D : Type 0} (bytes : D → List ℕ) (term_length : ℕ) (entries : List (ArtifactFacts D))
     (peers : Peers) (retry : ℕ) (repair : Repair)
     : Type 0 where
-  pub told : HasReceivedCalls term_length (Replayed ∷ calls_of bytes (reverse entries)) repair.resolver
+  pub received : HasReceivedCalls term_length (Replayed ∷ calls_of bytes (reverse entries)) repair.resolver
   pub fetched : repair.fetches.wanted.items ≡ wanting repair.resolver.open_fetches []
   pub peers_now : repair.fetches.peers ≡ peers
   pub retry_now : repair.fetches.retry ≡ retry

@@ -28,7 +28,7 @@ module _ {S D K G C : Type 0} where
     pub asked : list_any (λ fetch. nat_lt top fetch.view) plan.repair.fetches.wanted.items ≡ false
     pub planned : list_any (resolves_above top) plan.steps.items ≡ false
     pub wanted : list_any (nat_lt top) plan.repair.resolver.open_fetches ≡ false
-    pub heard : plan.repair.resolver.state.current ≤ top
+    pub received : plan.repair.resolver.state.current ≤ top
 
 -- an engine asks for certificates of no view above those that its member has heard of
 abbrev pub FetchesTheReported : {S L D K G C : Type 0} → Engine S L D K G C → Type 0

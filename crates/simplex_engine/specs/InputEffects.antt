@@ -37,7 +37,7 @@ module _ {K L D : Type 0} (same : D → D → Bool) (elect : Elect L) where
       (is_of_use : Bool) : Type 0 where
     pub answer : ReplyFacts K D
     pub answered : IsCall same elect m call answer left
-    pub told : is_of_use ≡ not (has_nothing answer)
+    pub useful : is_of_use ≡ not (has_nothing answer)
 
   -- the same for the call of a task, at a moment
   abbrev pub HasDoneTask : Task D → ℕ → MemberFacts K L D → MemberFacts K L D → Bool → Type 0

@@ -9,7 +9,7 @@ use Rattle.simplex_types.specs.declared.types.messages.Proposal.{Proposal}
 use Rattle.simplex_resolver.specs.Steps.{Call}
 use Rattle.simplex_voter.specs.Facts.{Elect}
 use Rattle.simplex_voter.specs.Windows.{min_active}
-use Rattle.simplex_member.specs.Calls.{CallFacts, AddNotarization, AddNullification, AddFinalization, Certified, SetProposal, told}
+use Rattle.simplex_member.specs.Calls.{CallFacts, AddNotarization, AddNullification, AddFinalization, Certified, SetProposal, reply_facts}
 use Rattle.simplex_member.specs.MemberFacts.{MemberFacts}
 use Rattle.simplex_member.specs.OutstandingWork.{is_offered}
 use Rattle.simplex_member.specs.Runs.{StepFacts, Calls, Prunes, Restarts, IsStep}
@@ -174,7 +174,7 @@ module _ {S L D K G C : Type 0} (same : D → D → Bool) (elect : Elect L) (byt
       let given = step_causes {L = L} now step reply in
       IsStepCaused now causes m step
       × (next : MemberFacts K L D)
-      × IsStep same elect m step (told bytes_of reply) next
+      × IsStep same elect m step (reply_facts bytes_of reply) next
       × IsCausedBy asks_now is_over rest (causes ++ given) (with_missing_certificate asked given) next left end
 
 module _ {S L D K G C : Type 0} (same : D → D → Bool) (elect : Elect L) (bytes : D → List ℕ)
@@ -186,7 +186,7 @@ module _ {S L D K G C : Type 0} (same : D → D → Bool) (elect : Elect L) (byt
       (old new : Engine S L D K G C)
       : Type 0 where
     pub steps : List (StepFacts K L D × Reply S D K G C)
-    pub heard : AreMade old.plan.repair.resolver (received_in bytes bytes_of steps) new.plan.repair.resolver
+    pub received : AreMade old.plan.repair.resolver (received_in bytes bytes_of steps) new.plan.repair.resolver
     pub by_steps : IsCausedBy same elect bytes_of now (asks new.plan)
         (λ kind view. held kind view
         || (is_final new.core.member.facts view

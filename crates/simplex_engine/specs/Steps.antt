@@ -2,7 +2,7 @@
 use Rattle.std.specs.Prelude.{◌≡◌, ℕ, ◌+◌, ◌-◌, ◌^◌, min, Bool, true, false, List, [], ◌∷◌, ◌++◌, Option, Some, None}
 use Rattle.simplex_types.specs.declared.types.messages.Proposal.{Proposal}
 use Rattle.simplex_voter.specs.Facts.{Elect}
-use Rattle.simplex_member.specs.Calls.{told}
+use Rattle.simplex_member.specs.Calls.{reply_facts}
 use Rattle.simplex_member.specs.MemberFacts.{IsCall}
 use Rattle.simplex_member.specs.declared.member.calls.Reply.{Reply}
 use Rattle.engine_fetches.specs.declared.fetches.FetchKind.{FetchKind}
@@ -47,7 +47,7 @@ module _ {S L D K G C : Type 0} (same : D → D → Bool) (elect : Elect L) (byt
   -- the member is asked this, and its reply is followed
   pub record IsTaskDone (asked : Task D) (old new : Engine S L D K G C) : Type 0 where
     pub reply : Reply S D K G C
-    pub answered : IsCall same elect old.core.member.facts (call_of asked now) (told bytes_of reply)
+    pub answered : IsCall same elect old.core.member.facts (call_of asked now) (reply_facts bytes_of reply)
         new.core.member.facts
     pub followed : IsReplyFollowed bytes bytes_of now asked reply old.plan new.plan
 

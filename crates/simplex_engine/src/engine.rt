@@ -186,7 +186,7 @@ impl<S: Assembly<D>, L: Elector<S>, D: Digest> Engine<S, L, D> {
     /// - `settled`: the moment that the engine stores as that at which it settled is such a moment.
     /// - `given`, `traced`: the returned output is appended to the list of outputs. What the member has done still
     ///   traces that list, and its votes stay signed under the member's key.
-    /// - `does`, `told`: the member accepts no certificate, and nothing more is queued to be reported as final.
+    /// - `does`, `reported`: the member accepts no certificate, and nothing more is queued to be reported as final.
     /// - `held`: only votes of views below the lowest retained one are forgotten.
     /// - `votes`, `bounded`, `failed`, `error`, `refused`, `ignored`, `constants`: as of `handle`; no input is counted.
     /// - `due_work`, `works`: as of `handle`. Work that was queued or planned was returned, or is still queued or
@@ -230,7 +230,7 @@ impl<S: Assembly<D>, L: Elector<S>, D: Digest> Engine<S, L, D> {
         ensures does { ExtendsHistoryOn D.eq L.elect None self.old.core.member.facts self.new.core.member.facts }
         ensures traced { EmitsOn D.eq L.elect S.certificate_bytes S.IsSignature None (returned_outputs result)
             self.old.core self.new.core }
-        ensures told { ReportsNoMore (returned_outputs result) self.old.core.outbox self.new.core.outbox }
+        ensures reported { ReportsNoMore (returned_outputs result) self.old.core.outbox self.new.core.outbox }
         ensures settled { (given : _) → IsJournaled S.certificate_bytes given self.old.core
             → IsSettledAsStored D.eq L.elect S.certificate_bytes self.old
             → OnOk result (IsSettledAsStored D.eq L.elect S.certificate_bytes self.new) }
@@ -286,7 +286,7 @@ impl<S: Assembly<D>, L: Elector<S>, D: Digest> Engine<S, L, D> {
         ensures does { ExtendsHistoryOn D.eq L.elect None self.old.core.member.facts self.new.core.member.facts }
         ensures traced { EmitsOn D.eq L.elect S.certificate_bytes S.IsSignature None (returned_outputs result)
             self.old.core self.new.core }
-        ensures told { ReportsNoMore (returned_outputs result) self.old.core.outbox self.new.core.outbox }
+        ensures reported { ReportsNoMore (returned_outputs result) self.old.core.outbox self.new.core.outbox }
         ensures settled { (given : _) → IsJournaled S.certificate_bytes given self.old.core
             → IsSettledAsStored D.eq L.elect S.certificate_bytes self.old
             → OnOk result (IsSettledAsStored D.eq L.elect S.certificate_bytes self.new) }

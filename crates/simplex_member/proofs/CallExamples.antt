@@ -41,9 +41,9 @@ abbrev started : ℕ → Member
 started me = started_at (Genesis 0) me
 
 -- the reply to a call, and the member after it; in these examples a failed member has no reply
-abbrev told : Option State → Member → CallFacts ℕ → ReplyFacts ℕ ℕ
-told None m call = NotAllowed
-told (Some x) m call = reply_of nat_eq in_turn x m.outstanding_work call
+abbrev replied : Option State → Member → CallFacts ℕ → ReplyFacts ℕ ℕ
+replied None m call = NotAllowed
+replied (Some x) m call = reply_of nat_eq in_turn x m.outstanding_work call
 
 abbrev next : Option State → Member → CallFacts ℕ → Member
 next None m call = m
@@ -56,7 +56,7 @@ unfolding standing propose_answer proposed_answer find_parent captured_parent_va
     is_handoff_parent is_voted_ancestor can_chain_on in_issuance_window is_admitted verification_matches
     parent_payload_for may_notarize may_nullify may_finalize has_conflicting_nullify required_certification_parent
 replies_of m [] = []
-replies_of m (call ∷ calls) = told m.life m call ∷ replies_of (next m.life m call) calls
+replies_of m (call ∷ calls) = replied m.life m call ∷ replies_of (next m.life m call) calls
 
 -- the record after them
 unfoldable recorded : Member → List (CallFacts ℕ) → List Entry

@@ -57,14 +57,14 @@ module _ {K L D : Type 0} (same : D → D → Bool) (elect : Elect L) (m : Membe
     forbidden_call not_allowed = rw (alive, not_allowed) (inl (refl, refl))
 
     -- a reply, with the member after it
-    pub answered_call : (told : ReplyFacts K D) (y : StateFacts K L D) (p : OutstandingWork K D)
+    pub answered_call : (replied : ReplyFacts K D) (y : StateFacts K L D) (p : OutstandingWork K D)
         (entries : List (ArtifactFacts D)) → is_allowed x m.outstanding_work call ≡ true → fault_of x call ≡ None
-        → told ≡ answer same elect x m.outstanding_work call → y ≡ after_call same elect x m.outstanding_work call
+        → replied ≡ answer same elect x m.outstanding_work call → y ≡ after_call same elect x m.outstanding_work call
         → p ≡ outstanding_work_after same elect x m.outstanding_work call
         → entries ≡ m.entries ++ recorded_by same elect x call
-        → IsCall same elect m call told (record m { life = Some y; outstanding_work = p; entries = entries })
+        → IsCall same elect m call replied (record m { life = Some y; outstanding_work = p; entries = entries })
     unfolding IsCall
-    answered_call told y p entries allowed no_fault is after open_now recorded =
+    answered_call replied y p entries allowed no_fault is after open_now recorded =
         rw (alive, allowed, no_fault, is, after, open_now, recorded) (inl (refl, refl))
 
     -- a fault that was due, with nothing changed
@@ -86,24 +86,25 @@ module _ {K L D : Type 0} (same : D → D → Bool) (elect : Elect L) (m : Membe
     lost_call allowed no_fault falls = rw alive (inr (allowed, refl, inr (no_fault, falls, refl)))
 
     -- a reply, as a caller reads it
-    pub answered_so : (told : ReplyFacts K D) (left : MemberFacts K L D) → is_allowed x m.outstanding_work call ≡ true
+    pub answered_so : (replied : ReplyFacts K D) (left : MemberFacts K L D)
+        → is_allowed x m.outstanding_work call ≡ true
         → fault_of x call ≡ None
-        → told ≡ answer same elect x m.outstanding_work call → left ≡ with_call same elect x m call
-        → IsAnswered same elect m call told left
-    answered_so told left allowed no_fault is left_so =
-        record { state = x; alive = alive; allowed = allowed; not_due = no_fault; told_so = is; left_so = left_so }
+        → replied ≡ answer same elect x m.outstanding_work call → left ≡ with_call same elect x m call
+        → IsAnswered same elect m call replied left
+    answered_so replied left allowed no_fault is left_so =
+        record { state = x; alive = alive; allowed = allowed; not_due = no_fault; replied_so = is; left_so = left_so }
 
     -- where such a call records nothing
-    pub answered_unrecorded : (told : ReplyFacts K D) (y : StateFacts K L D) (o : OutstandingWork K D)
+    pub answered_unrecorded : (replied : ReplyFacts K D) (y : StateFacts K L D) (o : OutstandingWork K D)
         → is_allowed x m.outstanding_work call ≡ true → fault_of x call ≡ None
-        → told ≡ answer same elect x m.outstanding_work call → y ≡ after_call same elect x m.outstanding_work call
+        → replied ≡ answer same elect x m.outstanding_work call → y ≡ after_call same elect x m.outstanding_work call
         → o ≡ outstanding_work_after same elect x m.outstanding_work call → recorded_by same elect x call ≡ []
-        → IsAnswered same elect m call told (record m { life = Some y; outstanding_work = o })
-    answered_unrecorded told y o allowed no_fault is after opened none =
-        answered_so told _ allowed no_fault is (rw (after, opened, none, append-nil m.entries) refl)
+        → IsAnswered same elect m call replied (record m { life = Some y; outstanding_work = o })
+    answered_unrecorded replied y o allowed no_fault is after opened none =
+        answered_so replied _ allowed no_fault is (rw (after, opened, none, append-nil m.entries) refl)
 
   -- a reply of this kind makes a call
-  pub call_of_answer : (told : ReplyFacts K D) (left : MemberFacts K L D) → IsAnswered same elect m call told left
-      → IsCall same elect m call told left
+  pub call_of_answer : (replied : ReplyFacts K D) (left : MemberFacts K L D) → IsAnswered same elect m call replied left
+      → IsCall same elect m call replied left
   unfolding IsCall
-  call_of_answer told left a = rw (a.alive, a.allowed, a.not_due, a.told_so, a.left_so) (inl (refl, refl))
+  call_of_answer replied left a = rw (a.alive, a.allowed, a.not_due, a.replied_so, a.left_so) (inl (refl, refl))

@@ -10,6 +10,6 @@ pub mod MethodContracts
 pub mod PrunedRecord
 pub mod PartialFailures
 pub mod Voted
-pub mod HandedOut
+pub mod ReturnedCertificates
 pub mod OpenRequests
 pub mod PendingValues

@@ -16,7 +16,7 @@ use Rattle.simplex_member.specs.declared.member.refusal.Refusal.TheVariants as r
 
 module _ {K D : Type 0} where
   -- a claim that holds
-  so_answered : {A : Type 0} (told : ReplyFacts K D) → A → IfAnswered told A
+  so_answered : {A : Type 0} (replied : ReplyFacts K D) → A → IfAnswered replied A
   so_answered (Refused due) claim = tt
   so_answered NotAllowed claim = tt
   so_answered _ claim = claim
@@ -74,10 +74,10 @@ module _ {K L D : Type 0} (same : D → D → Bool) (elect : Elect L) where
   of_kind x o Prune = (refl, λ claim. tt)
 
   module _ (m : MemberFacts K L D) (call : CallFacts D) where
-    pub record Typed (told : ReplyFacts K D) (left : MemberFacts K L D) : Type 0 where
-      pub of_its_kind : is_reply_to told call ≡ true
-      pub answered : IfAnswered told (IsAnswered same elect m call told left)
-      pub kept : IfRefused told (λ refused. UnchangedButLifetime m refused left)
+    pub record Typed (replied : ReplyFacts K D) (left : MemberFacts K L D) : Type 0 where
+      pub of_its_kind : is_reply_to replied call ≡ true
+      pub answered : IfAnswered replied (IsAnswered same elect m call replied left)
+      pub kept : IfRefused replied (λ refused. UnchangedButLifetime m refused left)
       pub grown : HasGrown m left
 
     refused_so : (due : Fault) (left : MemberFacts K L D) → UnchangedButLifetime m (refusal.Fault due) left
@@ -91,11 +91,11 @@ module _ {K L D : Type 0} (same : D → D → Bool) (elect : Elect L) where
           → Typed (cond b (unless_refused due (answer same elect x m.outstanding_work call)) NotAllowed)
           (cond b (unless_retained due m (with_call same elect x m call)) m)
       by_definition true allowed None not_due =
-          let told = answer same elect x m.outstanding_work call in
+          let replied = answer same elect x m.outstanding_work call in
           record {
             of_its_kind = (of_kind x m.outstanding_work call).0;
-            answered = so_answered told (record
-                { state = x; alive = alive; allowed = allowed; not_due = not_due; told_so = refl; left_so = refl });
+            answered = so_answered replied (record
+                { state = x; alive = alive; allowed = allowed; not_due = not_due; replied_so = refl; left_so = refl });
             kept = (of_kind x m.outstanding_work call).1
                 (λ refused. UnchangedButLifetime m refused (with_call same elect x m call));
             grown = (recorded_by same elect x call, refl);
@@ -104,21 +104,21 @@ module _ {K L D : Type 0} (same : D → D → Bool) (elect : Elect L) where
       by_definition false forbidden due is_due =
           record { of_its_kind = refl; answered = tt; kept = refl; grown = same_grown m m refl }
 
-      by_answers : (told : ReplyFacts K D) (left : MemberFacts K L D) → Answers same elect x m call told left
-          → Typed told left
-      by_answers told left (inl (told_so, left_so)) =
-          rw (told_so, left_so) (by_definition (is_allowed x m.outstanding_work call) refl (fault_of x call) refl)
-      by_answers told left (inr (allowed, told_so, inl (needs, same_left))) =
-          rw told_so (refused_so fault.OutOfMemory left (inl same_left))
-      by_answers told left (inr (allowed, told_so, inr (not_due, falls, lost))) =
-          rw told_so (refused_so fault.OutOfMemory left (inr lost))
+      by_answers : (replied : ReplyFacts K D) (left : MemberFacts K L D) → Answers same elect x m call replied left
+          → Typed replied left
+      by_answers replied left (inl (replied_so, left_so)) =
+          rw (replied_so, left_so) (by_definition (is_allowed x m.outstanding_work call) refl (fault_of x call) refl)
+      by_answers replied left (inr (allowed, replied_so, inl (needs, same_left))) =
+          rw replied_so (refused_so fault.OutOfMemory left (inl same_left))
+      by_answers replied left (inr (allowed, replied_so, inr (not_due, falls, lost))) =
+          rw replied_so (refused_so fault.OutOfMemory left (inr lost))
 
-    by_life : (life : Option (StateFacts K L D)) → m.life ≡ life → (told : ReplyFacts K D) (left : MemberFacts K L D)
-        → AnswersAlive same elect life m call told left → Typed told left
-    by_life None dead told left (told_so, left_so) = rw (told_so, left_so) (refused_so fault.Failed m refl)
-    by_life (Some x) alive told left made = by_answers x alive told left made
+    by_life : (life : Option (StateFacts K L D)) → m.life ≡ life → (replied : ReplyFacts K D) (left : MemberFacts K L D)
+        → AnswersAlive same elect life m call replied left → Typed replied left
+    by_life None dead replied left (replied_so, left_so) = rw (replied_so, left_so) (refused_so fault.Failed m refl)
+    by_life (Some x) alive replied left made = by_answers x alive replied left made
 
-    pub typed : (told : ReplyFacts K D) (left : MemberFacts K L D) → IsCall same elect m call told left
-        → Typed told left
+    pub typed : (replied : ReplyFacts K D) (left : MemberFacts K L D) → IsCall same elect m call replied left
+        → Typed replied left
     unfolding IsCall
-    typed told left made = by_life m.life refl told left made
+    typed replied left made = by_life m.life refl replied left made

@@ -16,7 +16,7 @@ use Rattle.simplex_member.specs.CallConditions.{is_allowed, fault_of, may_fall}
 use Rattle.simplex_member.specs.Calls.{CallFacts, ReplyFacts, Refused, NotAllowed, reply_notarize, reply_nullify, reply_finalize}
 use Rattle.simplex_member.specs.CallSemantics.{answer, after_call, outstanding_work_after, recorded_by, if_new, notarize_vote, nullify_vote, finalize_vote}
 use Rattle.simplex_member.specs.MemberFacts.{MemberFacts, living, open_while, IsCall}
-use Rattle.simplex_member.specs.MethodContracts.{told_of, IfAnswered, UnchangedButLifetime, IsAnswered}
+use Rattle.simplex_member.specs.MethodContracts.{result_facts, IfAnswered, UnchangedButLifetime, IsAnswered}
 use Rattle.simplex_member.specs.OutstandingWork.{OutstandingWork}
 use Rattle.simplex_member.specs.PartialFailures.{Ends, is_lost, is_new, UnchangedUnlessLost}
 use Rattle.simplex_member.specs.ReplySignatures.{IsSignedReply}
@@ -193,7 +193,7 @@ module _ {K L D T : Type 0} (same : D → D → Bool) (elect : Elect L) (m : Mem
     pub part_made : m.life ≡ Some x → is_allowed x m.outstanding_work call ≡ true
         → (r : Result T Fault) (y : StateFacts K L D) (o : OutstandingWork K D) (entries : List (ArtifactFacts D))
         → Part r y o entries
-        → IsCall same elect m call (told_of tell (ended r))
+        → IsCall same elect m call (result_facts tell (ended r))
         (record m { life = living (is_lost r) y; outstanding_work = open_while (is_lost r) o; entries = entries })
     part_made alive allowed (Ok t) y o entries p =
         answered_call same elect m call x alive (tell t) y o entries allowed p.due p.answer p.after p.opened p.recorded
@@ -219,9 +219,9 @@ module _ {K L D T : Type 0} (same : D → D → Bool) (elect : Elect L) (m : Mem
         → may_fall x call ≡ true → outstanding_work_after same elect x m.outstanding_work call ≡ m.outstanding_work
         → OnOk r (entries ≡ m.entries ++ recorded_by same elect x call) → OnErr r (entries ≡ m.entries)
         → Part r y m.outstanding_work entries
-    part_of_state r y entries failed too_large late is refused told after falls loses shut recorded kept = record {
+    part_of_state r y entries failed too_large late is refused replied after falls loses shut recorded kept = record {
       due = rw is (state_due x y r _ refused);
-      answer = told;
+      answer = replied;
       after = after;
       opened = so_ok r (sym shut);
       recorded = recorded;
@@ -231,17 +231,17 @@ module _ {K L D T : Type 0} (same : D → D → Bool) (elect : Elect L) (m : Mem
     }
 
     -- the same for a vote that the state made, once it is recorded
-    pub part_of_vote : {V : Type 0} (told : T → V) (vote : V) (entry : V → List (ArtifactFacts D))
+    pub part_of_vote : {V : Type 0} (replied : T → V) (vote : V) (entry : V → List (ArtifactFacts D))
         (kept : Result T Fault) (y : StateFacts K L D) (entries : List (ArtifactFacts D))
         → fault_of x call ≡ None → may_fall x call ≡ true
         → outstanding_work_after same elect x m.outstanding_work call ≡ m.outstanding_work
         → recorded_by same elect x call ≡ entry vote
-        → ((t : T) → told t ≡ vote → tell t ≡ answer same elect x m.outstanding_work call)
-        → IfOk kept (λ t. told t ≡ vote) → OnOk kept (y ≡ after_call same elect x m.outstanding_work call)
+        → ((t : T) → replied t ≡ vote → tell t ≡ answer same elect x m.outstanding_work call)
+        → IfOk kept (λ t. replied t ≡ vote) → OnOk kept (y ≡ after_call same elect x m.outstanding_work call)
         → IfErr kept (λ found. found ≡ fault.OutOfMemory)
-        → IfOk kept (λ t. entries ≡ m.entries ++ entry (told t)) → OnErr kept (entries ≡ m.entries)
+        → IfOk kept (λ t. entries ≡ m.entries ++ entry (replied t)) → OnErr kept (entries ≡ m.entries)
         → Part kept y m.outstanding_work entries
-    part_of_vote told vote entry kept y entries not_due loses shut enters tells is after lost recorded unrecorded =
+    part_of_vote replied vote entry kept y entries not_due loses shut enters tells is after lost recorded unrecorded =
         record {
           due = so_ok kept not_due;
           answer = IfOk-weaker kept _ _ tells is;
@@ -253,21 +253,22 @@ module _ {K L D T : Type 0} (same : D → D → Bool) (elect : Elect L) (m : Mem
           same_record = unrecorded;
         }
       where
-        on_both : (r : Result T Fault) → IfOk r (λ t. told t ≡ vote)
-            → IfOk r (λ t. entries ≡ m.entries ++ entry (told t)) → OnOk r (entries ≡ m.entries ++ entry vote)
+        on_both : (r : Result T Fault) → IfOk r (λ t. replied t ≡ vote)
+            → IfOk r (λ t. entries ≡ m.entries ++ entry (replied t)) → OnOk r (entries ≡ m.entries ++ entry vote)
         on_both (Ok t) so was = rw (← so) was
         on_both (Err found) so was = tt
 
   -- the reply to a call determines its result
-  pub told_kept : (r : Result T Refusal) (left : MemberFacts K L D) → IsCall same elect m call (told_of tell r) left
+  pub replied_kept : (r : Result T Refusal) (left : MemberFacts K L D)
+      → IsCall same elect m call (result_facts tell r) left
       → IfErr r (λ refusal. UnchangedButLifetime m refusal left)
-  told_kept (Ok t) left made = tt
-  told_kept (Err (refusal.Fault due)) left made = (typed same elect m call (Refused due) left made).kept
-  told_kept (Err refusal.NotAllowed) left made = (typed same elect m call NotAllowed left made).kept
+  replied_kept (Ok t) left made = tt
+  replied_kept (Err (refusal.Fault due)) left made = (typed same elect m call (Refused due) left made).kept
+  replied_kept (Err refusal.NotAllowed) left made = (typed same elect m call NotAllowed left made).kept
 
-  pub told_answered : ((t : T) (A : Type 0) → IfAnswered (tell t) A → A)
-      → (r : Result T Refusal) (left : MemberFacts K L D) → IsCall same elect m call (told_of tell r) left
+  pub replied_answered : ((t : T) (A : Type 0) → IfAnswered (tell t) A → A)
+      → (r : Result T Refusal) (left : MemberFacts K L D) → IsCall same elect m call (result_facts tell r) left
       → IfOk r (λ t. IsAnswered same elect m call (tell t) left)
-  told_answered so (Ok t) left made = so t (IsAnswered same elect m call (tell t) left)
+  replied_answered so (Ok t) left made = so t (IsAnswered same elect m call (tell t) left)
       (typed same elect m call (tell t) left made).answered
-  told_answered so (Err e) left made = tt
+  replied_answered so (Err e) left made = tt

@@ -103,12 +103,12 @@ pub refused_by : {K L D : Type 0} (same : D → D → Bool) (start : StartFacts 
     → IsErrorDue (recover_error same (new_state start.setup) start.floor start.now copy) found
     → (found ≡ error.OutOfMemory) ⊎ IsRefusedBy same start entries found
 refused_by same start entries copy found by_view due =
-    told (recover_error same (new_state start.setup) start.floor start.now copy) refl due
+    replied (recover_error same (new_state start.setup) start.floor start.now copy) refl due
   where
-    told : (due : Option RecoverError) → recover_error same (new_state start.setup) start.floor start.now copy ≡ due
+    replied : (due : Option RecoverError) → recover_error same (new_state start.setup) start.floor start.now copy ≡ due
         → IsErrorDue due found → (found ≡ error.OutOfMemory) ⊎ IsRefusedBy same start entries found
-    told None is memory = inl memory
-    told (Some e) is same_error = inr (copy, by_view, is ∙ ap Some (sym same_error))
+    replied None is memory = inl memory
+    replied (Some e) is same_error = inr (copy, by_view, is ∙ ap Some (sym same_error))
 
 module _ {K L D : Type 0} (same : D → D → Bool) (elect : Elect L) (m : MemberFacts K L D)
     (start : StartFacts K L D) where

@@ -7,7 +7,7 @@ use Rattle.simplex_record.specs.declared.record.error.RecoverError.TheVariants a
 use Rattle.simplex_member.specs.declared.member.runs.Step.{Step}
 use Rattle.simplex_member.specs.declared.member.calls.Reply.{Reply}
 use Rattle.simplex_member.specs.declared.member.calls.Reply.TheVariants as reply
-use Rattle.simplex_member.specs.Calls.{ReplyFacts, told}
+use Rattle.simplex_member.specs.Calls.{ReplyFacts, reply_facts}
 use Rattle.simplex_member.specs.MemberFacts.{MemberFacts}
 use Rattle.simplex_record.specs.Recovery.{recover_error}
 use Rattle.simplex_record.specs.Start.{StartFacts, IsErrorDue, new_state}
@@ -16,7 +16,7 @@ use Rattle.simplex_member.specs.Runs.{IsSetUp, AreSetUp, StepFacts, is_refusal, 
 
 -- no reply says that a restart was refused
 pub replies_answer : {S D K G C : Type 0} (bytes_of : C → List ℕ) (r : Reply S D K G C)
-    → is_refusal (told bytes_of r) ≡ false
+    → is_refusal (reply_facts bytes_of r) ≡ false
 replies_answer bytes_of reply.Unit = refl
 replies_answer bytes_of (reply.Flag taken) = refl
 replies_answer bytes_of (reply.Added newly leader) = refl
@@ -41,26 +41,34 @@ replies_answer bytes_of reply.NotAllowed = refl
 module _ {K L D : Type 0} (same : D → D → Bool) (elect : Elect L) where
   -- one more step
   pub run_extends : (m : MemberFacts K L D) (steps : List (StepFacts K L D)) (replies : List (ReplyFacts K D))
-      (e : MemberFacts K L D) (step : StepFacts K L D) (told : ReplyFacts K D) (next : MemberFacts K L D)
-      → IsRun same elect m steps replies e → IsStep same elect e step told next
-      → IsRun same elect m (steps ++ step ∷ []) (replies ++ told ∷ []) next
-  run_extends m [] [] e step told next is taken = (next, rw is taken, refl)
-  run_extends m [] (r ∷ replies) e step told next is taken = absurd is
-  run_extends m (s ∷ steps) [] e step told next is taken = absurd is
-  run_extends m (s ∷ steps) (r ∷ replies) e step told next is taken =
-      (is.0, is.1, run_extends is.0 steps replies e step told next is.2 taken)
+      (e : MemberFacts K L D) (step : StepFacts K L D) (replied : ReplyFacts K D) (next : MemberFacts K L D)
+      → IsRun same elect m steps replies e → IsStep same elect e step replied next
+      → IsRun same elect m (steps ++ step ∷ []) (replies ++ replied ∷ []) next
+  run_extends m [] [] e step replied next is taken = (next, rw is taken, refl)
+  run_extends m [] (r ∷ replies) e step replied next is taken = absurd is
+  run_extends m (s ∷ steps) [] e step replied next is taken = absurd is
+  run_extends m (s ∷ steps) (r ∷ replies) e step replied next is taken =
+      (is.0, is.1, run_extends is.0 steps replies e step replied next is.2 taken)
 
   -- a refused step after those that had replies, whatever comes after it
-  pub run_ends : {R : Type 0} (told_of : R → ReplyFacts K D) (m : MemberFacts K L D) (steps : List (StepFacts K L D))
+  pub run_ends : {R : Type 0} (result_facts : R → ReplyFacts K D) (m : MemberFacts K L D)
+      (steps : List (StepFacts K L D))
       (replies : List R) (e : MemberFacts K L D) (step : StepFacts K L D) (rest : List (StepFacts K L D))
       (found : RecoverError)
-      → ((r : R) → is_refusal (told_of r) ≡ false) → IsRun same elect m steps (map told_of replies) e
+      → ((r : R) → is_refusal (result_facts r) ≡ false) → IsRun same elect m steps (map result_facts replies) e
       → IsRefused same elect e step found → EndsRun same elect m (steps ++ step ∷ rest) found
-  run_ends told_of m [] [] e step rest found answers is refused = inl (rw is refused)
-  run_ends told_of m [] (r ∷ replies) e step rest found answers is refused = absurd is
-  run_ends told_of m (s ∷ steps) [] e step rest found answers is refused = absurd is
-  run_ends told_of m (s ∷ steps) (r ∷ replies) e step rest found answers is refused =
-      inr (told_of r, is.0, is.1, answers r, run_ends told_of is.0 steps replies e step rest found answers is.2 refused)
+  run_ends result_facts m [] [] e step rest found answers is refused = inl (rw is refused)
+  run_ends result_facts m [] (r ∷ replies) e step rest found answers is refused = absurd is
+  run_ends result_facts m (s ∷ steps) [] e step rest found answers is refused = absurd is
+  run_ends result_facts m (s ∷ steps) (r ∷ replies) e step rest found answers is refused =
+      inr (
+        result_facts r,
+        is.0,
+        is.1,
+        answers r,
+        run_ends result_facts is.0 steps replies e step rest found answers
+            is.2 refused,
+      )
 
   module _ (start : StartFacts K L D) (steps : List (StepFacts K L D)) where
     -- a member that started, and took all steps

@@ -20,22 +20,22 @@ use Rattle.simplex_record.proofs.RoundChanges.{round_of-same}
 
 -- equal replies have equal votes
 module _ {K D : Type 0} where
-  abbrev notarize_told : Option (ArtifactFacts D) → ReplyFacts K D
-  notarize_told vote = Notarize vote
+  abbrev notarize_replied : Option (ArtifactFacts D) → ReplyFacts K D
+  notarize_replied vote = Notarize vote
 
-  abbrev nullify_told : Option (Bool × ArtifactFacts D) → ReplyFacts K D
-  nullify_told vote = Nullify vote
+  abbrev nullify_replied : Option (Bool × ArtifactFacts D) → ReplyFacts K D
+  nullify_replied vote = Nullify vote
 
-  abbrev finalize_told : Option (ArtifactFacts D) → ReplyFacts K D
-  finalize_told vote = Finalize vote
+  abbrev finalize_replied : Option (ArtifactFacts D) → ReplyFacts K D
+  finalize_replied vote = Finalize vote
 
-  notarize_same : (a b : Option (ArtifactFacts D)) → notarize_told a ≡ notarize_told b → a ≡ b
+  notarize_same : (a b : Option (ArtifactFacts D)) → notarize_replied a ≡ notarize_replied b → a ≡ b
   notarize_same a b is = cc
 
-  nullify_same : (a b : Option (Bool × ArtifactFacts D)) → nullify_told a ≡ nullify_told b → a ≡ b
+  nullify_same : (a b : Option (Bool × ArtifactFacts D)) → nullify_replied a ≡ nullify_replied b → a ≡ b
   nullify_same a b is = cc
 
-  finalize_same : (a b : Option (ArtifactFacts D)) → finalize_told a ≡ finalize_told b → a ≡ b
+  finalize_same : (a b : Option (ArtifactFacts D)) → finalize_replied a ≡ finalize_replied b → a ≡ b
   finalize_same a b is = cc
 
 -- a state that is known
@@ -124,9 +124,9 @@ was_allowed false vote a forbids is = absurd (nothing (is ∙ forbids refl))
     nothing gone = cc
 
 -- and the content of none is none
-none_told : {A B : Type 0} (f : A → B) (vote : Option A) → option_map f vote ≡ None → IsNone vote
-none_told f None is = refl
-none_told f (Some a) is = cc
+none_replied : {A B : Type 0} (f : A → B) (vote : Option A) → option_map f vote ≡ None → IsNone vote
+none_replied f None is = refl
+none_replied f (Some a) is = cc
 
 not_both : (b : Bool) → b ≡ true → b ≡ false → ⊥
 not_both b is isnt = false≢true (sym isnt ∙ is)
@@ -154,12 +154,12 @@ module _ {K D : Type 0} (r : RoundFacts K D) where
 
 module _ {K L D : Type 0} (same : D → D → Bool) (elect : Elect L) (m left : MemberFacts K L D) (v : ℕ) where
   -- a vote to nullify, as the reply has it
-  module _ (told : Option (Bool × ArtifactFacts D))
-      (is : IsAnswered same elect m (ConstructNullify v) (Nullify told) left) where
-    nullify_is : told ≡ nullify_vote is.state v
-    nullify_is = nullify_same {K = K} told (nullify_vote is.state v) is.told_so
+  module _ (replied : Option (Bool × ArtifactFacts D))
+      (is : IsAnswered same elect m (ConstructNullify v) (Nullify replied) left) where
+    nullify_is : replied ≡ nullify_vote is.state v
+    nullify_is = nullify_same {K = K} replied (nullify_vote is.state v) is.replied_so
 
-    pub nullify_decided : {A : Type 0} (f : A → Bool × ArtifactFacts D) (vote : Option A) → told ≡ option_map f vote
+    pub nullify_decided : {A : Type 0} (f : A → Bool × ArtifactFacts D) (vote : Option A) → replied ≡ option_map f vote
         → IfSome vote (λ _. HasNullifyVote left v)
     nullify_decided f None so = tt
     nullify_decided f (Some a) so = has (was_allowed (may_nullify is.state v) (nullify_vote is.state v) (f a)
@@ -172,20 +172,20 @@ module _ {K L D : Type 0} (same : D → D → Bool) (elect : Elect L) (m left : 
             (ap (λ (l : MemberFacts K L D). l.life) is.left_so) (round_nullified is.state v may)
 
     pub nullify_barred : HasFinalizeVote m v → {A : Type 0} (f : A → Bool × ArtifactFacts D) (vote : Option A)
-        → told ≡ option_map f vote → IsNone vote
+        → replied ≡ option_map f vote → IsNone vote
     nullify_barred was f vote so =
         let finalized = from_life (λ (x : StateFacts K L D). is_finalize (round_of x v).decision ≡ true) m.life is.state
         is.alive was in
-        none_told f vote (sym so ∙ nullify_is ∙ none_to_nullify is.state v
+        none_replied f vote (sym so ∙ nullify_is ∙ none_to_nullify is.state v
         (false_from_ne_true _ (λ may. not_both _ finalized (nullify_parts is.state v may).no_finalize)))
 
   -- a vote to finalize
-  module _ (told : Option (ArtifactFacts D))
-      (is : IsAnswered same elect m (ConstructFinalize v) (Finalize told) left) where
-    finalize_is : told ≡ finalize_vote elect is.state v
-    finalize_is = finalize_same {K = K} told (finalize_vote elect is.state v) is.told_so
+  module _ (replied : Option (ArtifactFacts D))
+      (is : IsAnswered same elect m (ConstructFinalize v) (Finalize replied) left) where
+    finalize_is : replied ≡ finalize_vote elect is.state v
+    finalize_is = finalize_same {K = K} replied (finalize_vote elect is.state v) is.replied_so
 
-    pub finalize_decided : {A : Type 0} (f : A → ArtifactFacts D) (vote : Option A) → told ≡ option_map f vote
+    pub finalize_decided : {A : Type 0} (f : A → ArtifactFacts D) (vote : Option A) → replied ≡ option_map f vote
         → IfSome vote (λ _. HasFinalizeVote left v)
     finalize_decided f None so = tt
     finalize_decided f (Some a) so = has (was_allowed (may_finalize elect is.state v) (finalize_vote elect is.state v)
@@ -199,32 +199,32 @@ module _ {K L D : Type 0} (same : D → D → Bool) (elect : Elect L) (m left : 
 
     -- if another decision was made
     not_pending : (is_pending (round_of is.state v).decision ≡ true → ⊥)
-        → {A : Type 0} (f : A → ArtifactFacts D) (vote : Option A) → told ≡ option_map f vote → IsNone vote
+        → {A : Type 0} (f : A → ArtifactFacts D) (vote : Option A) → replied ≡ option_map f vote → IsNone vote
     not_pending decided f vote so =
-        none_told f vote (sym so ∙ finalize_is ∙ none_to_finalize elect is.state v
+        none_replied f vote (sym so ∙ finalize_is ∙ none_to_finalize elect is.state v
         (false_from_ne_true _ (λ may. decided (finalize_parts elect is.state v may).undecided)))
 
     pub finalize_once : HasFinalizeVote m v → {A : Type 0} (f : A → ArtifactFacts D) (vote : Option A)
-        → told ≡ option_map f vote → IsNone vote
+        → replied ≡ option_map f vote → IsNone vote
     finalize_once was =
         not_pending (finalized_is_decided (round_of is.state v)
         (from_life (λ (x : StateFacts K L D). is_finalize (round_of x v).decision ≡ true) m.life is.state is.alive
         was))
 
     pub finalize_barred : HasNullifyVote m v → {A : Type 0} (f : A → ArtifactFacts D) (vote : Option A)
-        → told ≡ option_map f vote → IsNone vote
+        → replied ≡ option_map f vote → IsNone vote
     finalize_barred was =
         not_pending (nullified_is_decided (round_of is.state v)
         (from_life (λ (x : StateFacts K L D). is_nullify (round_of x v).decision ≡ true) m.life is.state is.alive
         was))
 
   -- a vote to notarize
-  module _ (told : Option (ArtifactFacts D))
-      (is : IsAnswered same elect m (ConstructNotarize v) (Notarize told) left) where
-    notarize_is : told ≡ notarize_vote same elect is.state v
-    notarize_is = notarize_same {K = K} told (notarize_vote same elect is.state v) is.told_so
+  module _ (replied : Option (ArtifactFacts D))
+      (is : IsAnswered same elect m (ConstructNotarize v) (Notarize replied) left) where
+    notarize_is : replied ≡ notarize_vote same elect is.state v
+    notarize_is = notarize_same {K = K} replied (notarize_vote same elect is.state v) is.replied_so
 
-    pub notarize_decided : {A : Type 0} (f : A → ArtifactFacts D) (vote : Option A) → told ≡ option_map f vote
+    pub notarize_decided : {A : Type 0} (f : A → ArtifactFacts D) (vote : Option A) → replied ≡ option_map f vote
         → IfSome vote (λ _. HasNotarizeVote left v)
     notarize_decided f None so = tt
     notarize_decided f (Some a) so = has (was_allowed (may_notarize same elect is.state v)
@@ -237,10 +237,10 @@ module _ {K L D : Type 0} (same : D → D → Bool) (elect : Elect L) (m left : 
             (ap (λ (l : MemberFacts K L D). l.life) is.left_so) (round_notarized same elect is.state v may)
 
     pub notarize_once : HasNotarizeVote m v → {A : Type 0} (f : A → ArtifactFacts D) (vote : Option A)
-        → told ≡ option_map f vote → IsNone vote
+        → replied ≡ option_map f vote → IsNone vote
     notarize_once was f vote so =
         let decided = from_life (λ (x : StateFacts K L D). (round_of x v).notarize_decided ≡ true) m.life is.state
         is.alive was in
-        none_told f vote (sym so ∙ notarize_is ∙ none_to_notarize same elect is.state v
+        none_replied f vote (sym so ∙ notarize_is ∙ none_to_notarize same elect is.state v
         (false_from_ne_true _ (λ may. not_both _ (notarize_round same elect is.state v may)
         (decided_once (round_of is.state v) decided))))

@@ -116,24 +116,25 @@ module _ {S D K G C : Type 0} where
 
 module _ {S D K G C : Type 0} (bytes_of : C → List ℕ) where
   -- a reply, as plain data
-  abbrev pub told : Reply S D K G C → ReplyFacts K D
-  told reply.Unit = Done
-  told (reply.Flag taken) = Answered taken
-  told (reply.Added newly leader) = Added newly leader
-  told (reply.AddedNullification newly) = AddedNullification newly
-  told (reply.Request request) = Requested request
-  told (reply.Work verify) = Standing verify
-  told (reply.Candidates proposals fetches) = Candidates proposals.items fetches.items
-  told (reply.Certified success notarization) = Judged success (option_map (notarization_facts bytes_of) notarization)
-  told (reply.Notarize vote) = Notarize (reply_notarize vote)
-  told (reply.Nullify vote) = Nullify (reply_nullify vote)
-  told (reply.Finalize vote) = Finalize (reply_finalize vote)
-  told (reply.Certificate certificate) = Returned (option_map (certificate_facts bytes_of) certificate)
-  told (reply.Timeout at reason) = TimesOut (Some (at, reason))
-  told (reply.Views views) = Dropped views.items
-  told (reply.Released was_open) = Released was_open
-  told (reply.Triggered latched) = Triggered latched
-  told (reply.Abandoned reason) = Abandoned reason
-  told reply.Restarted = Restarted
-  told (reply.Fault fault) = Refused fault
-  told reply.NotAllowed = NotAllowed
+  abbrev pub reply_facts : Reply S D K G C → ReplyFacts K D
+  reply_facts reply.Unit = Done
+  reply_facts (reply.Flag taken) = Answered taken
+  reply_facts (reply.Added newly leader) = Added newly leader
+  reply_facts (reply.AddedNullification newly) = AddedNullification newly
+  reply_facts (reply.Request request) = Requested request
+  reply_facts (reply.Work verify) = Standing verify
+  reply_facts (reply.Candidates proposals fetches) = Candidates proposals.items fetches.items
+  reply_facts (reply.Certified success notarization) = Judged success
+      (option_map (notarization_facts bytes_of) notarization)
+  reply_facts (reply.Notarize vote) = Notarize (reply_notarize vote)
+  reply_facts (reply.Nullify vote) = Nullify (reply_nullify vote)
+  reply_facts (reply.Finalize vote) = Finalize (reply_finalize vote)
+  reply_facts (reply.Certificate certificate) = Returned (option_map (certificate_facts bytes_of) certificate)
+  reply_facts (reply.Timeout at reason) = TimesOut (Some (at, reason))
+  reply_facts (reply.Views views) = Dropped views.items
+  reply_facts (reply.Released was_open) = Released was_open
+  reply_facts (reply.Triggered latched) = Triggered latched
+  reply_facts (reply.Abandoned reason) = Abandoned reason
+  reply_facts reply.Restarted = Restarted
+  reply_facts (reply.Fault fault) = Refused fault
+  reply_facts reply.NotAllowed = NotAllowed

@@ -44,8 +44,8 @@ open_while failed o = if failed then no_outstanding_work else o
 module _ {K D : Type 0} where
   -- the reply, unless there is a fault
   abbrev pub unless_refused : Option Fault → ReplyFacts K D → ReplyFacts K D
-  unless_refused None told = told
-  unless_refused (Some fault) told = Refused fault
+  unless_refused None replied = replied
+  unless_refused (Some fault) replied = Refused fault
 
 module _ {K L D : Type 0} where
   -- the record stays, and what is known of it
@@ -89,17 +89,17 @@ module _ {K L D : Type 0} (same : D → D → Bool) (elect : Elect L) where
 
   -- a member that has not failed replies by the definitions, or an allowed call ran out of memory
   abbrev pub Answers : StateFacts K L D → MemberFacts K L D → CallFacts D → ReplyFacts K D → MemberFacts K L D → Type 0
-  Answers x m call told left =
-      ((told ≡ reply_of x m.outstanding_work call) × (left ≡ left_of x m call))
-      ⊎ ((is_allowed x m.outstanding_work call ≡ true) × (told ≡ Refused fault.OutOfMemory)
+  Answers x m call replied left =
+      ((replied ≡ reply_of x m.outstanding_work call) × (left ≡ left_of x m call))
+      ⊎ ((is_allowed x m.outstanding_work call ≡ true) × (replied ≡ Refused fault.OutOfMemory)
       × IsLeftOutOfMemory x m call left)
 
   -- a member that has failed refuses each call, and stays unchanged
   abbrev pub AnswersAlive : Option (StateFacts K L D) → MemberFacts K L D → CallFacts D → ReplyFacts K D
       → MemberFacts K L D → Type 0
-  AnswersAlive None m call told left = (told ≡ Refused fault.Failed) × (left ≡ m)
-  AnswersAlive (Some x) m call told left = Answers x m call told left
+  AnswersAlive None m call replied left = (replied ≡ Refused fault.Failed) × (left ≡ m)
+  AnswersAlive (Some x) m call replied left = Answers x m call replied left
 
   -- a call of a member, its reply and the member after it
   unfoldable pub IsCall : MemberFacts K L D → CallFacts D → ReplyFacts K D → MemberFacts K L D → Type 0
-  IsCall m call told left = AnswersAlive m.life m call told left
+  IsCall m call replied left = AnswersAlive m.life m call replied left

@@ -12,14 +12,14 @@ use Rattle.simplex_member.specs.declared.member.refusal.Refusal.TheVariants as r
 
 module _ {K D : Type 0} where
   -- the reply to a refused call
-  abbrev pub told_refused : Refusal → ReplyFacts K D
-  told_refused (refusal.Fault due) = Refused due
-  told_refused refusal.NotAllowed = NotAllowed
+  abbrev pub refusal_facts : Refusal → ReplyFacts K D
+  refusal_facts (refusal.Fault due) = Refused due
+  refusal_facts refusal.NotAllowed = NotAllowed
 
   -- the reply for a result
-  abbrev pub told_of : {T : Type 0} → (T → ReplyFacts K D) → Result T Refusal → ReplyFacts K D
-  told_of tell (Ok answered) = tell answered
-  told_of tell (Err refused) = told_refused refused
+  abbrev pub result_facts : {T : Type 0} → (T → ReplyFacts K D) → Result T Refusal → ReplyFacts K D
+  result_facts tell (Ok answered) = tell answered
+  result_facts tell (Err refused) = refusal_facts refused
 
   -- whether a call may have this reply: one of its kind, or a refusal
   abbrev pub is_reply_to : ReplyFacts K D → CallFacts D → Bool
@@ -73,13 +73,13 @@ module _ {K L D : Type 0} where
 module _ {K L D : Type 0} (same : D → D → Bool) (elect : Elect L) where
   -- a call that is answered: the member has not failed, what the call requires holds, and there is no fault; it has the
   -- reply of its definition, and leaves the state, the open requests and the record of its definition
-  pub record IsAnswered (m : MemberFacts K L D) (call : CallFacts D) (told : ReplyFacts K D)
+  pub record IsAnswered (m : MemberFacts K L D) (call : CallFacts D) (replied : ReplyFacts K D)
       (left : MemberFacts K L D) : Type 0 where
     pub state : StateFacts K L D
     pub alive : m.life ≡ Some state
     pub allowed : is_allowed state m.outstanding_work call ≡ true
     pub not_due : fault_of state call ≡ None
-    pub told_so : told ≡ answer same elect state m.outstanding_work call
+    pub replied_so : replied ≡ answer same elect state m.outstanding_work call
     pub left_so : left ≡ with_call same elect state m call
 
 module _ {K L D : Type 0} where

@@ -60,18 +60,19 @@ module _ {K D : Type 0} where
 module _ {K L D : Type 0} (same : D → D → Bool) (elect : Elect L) where
   -- a call has its reply, a pruning is done, and a restart succeeds or is refused
   abbrev pub IsStep : MemberFacts K L D → StepFacts K L D → ReplyFacts K D → MemberFacts K L D → Type 0
-  IsStep m (Calls call) told next = IsCall same elect m call told next
-  IsStep m Prunes told next = (told ≡ Done) × (next ≡ pruned_member m)
-  IsStep m (Restarts r) told next =
-      (result : Result (Unit {0}) RecoverError) × IsRestart same elect m r result next × (told ≡ restart_reply result)
+  IsStep m (Calls call) replied next = IsCall same elect m call replied next
+  IsStep m Prunes replied next = (replied ≡ Done) × (next ≡ pruned_member m)
+  IsStep m (Restarts r) replied next =
+      (result : Result (Unit {0}) RecoverError) × IsRestart same elect m r result next
+      × (replied ≡ restart_reply result)
 
   -- each step has its reply, by what the steps before it left
   abbrev pub IsRun : MemberFacts K L D → List (StepFacts K L D) → List (ReplyFacts K D) → MemberFacts K L D → Type 0
   IsRun m [] [] end = m ≡ end
-  IsRun m [] (told ∷ rest) end = ⊥
+  IsRun m [] (replied ∷ rest) end = ⊥
   IsRun m (step ∷ steps) [] end = ⊥
-  IsRun m (step ∷ steps) (told ∷ rest) end =
-      (next : MemberFacts K L D) × IsStep m step told next × IsRun next steps rest end
+  IsRun m (step ∷ steps) (replied ∷ rest) end =
+      (next : MemberFacts K L D) × IsStep m step replied next × IsRun next steps rest end
 
   -- a step is a restart that is refused by this error
   abbrev pub IsRefused : MemberFacts K L D → StepFacts K L D → RecoverError → Type 0
@@ -84,10 +85,10 @@ module _ {K L D : Type 0} (same : D → D → Bool) (elect : Elect L) where
   EndsRun m [] found = ⊥
   EndsRun m (step ∷ steps) found =
       IsRefused m step found
-      ⊎ ((told : ReplyFacts K D)
+      ⊎ ((replied : ReplyFacts K D)
       × (next : MemberFacts K L D)
-      × IsStep m step told next
-      × (is_refusal told ≡ false)
+      × IsStep m step replied next
+      × (is_refusal replied ≡ false)
       × EndsRun next steps found)
 
   -- a member starts, and takes the steps

@@ -20,9 +20,9 @@ pub reported : {E : Type 0} (r : Result Answer E) (x y : ResolverFacts) (fetchin
     (made call : Call) (es : Vec Effect Global) → 1 ≤ v → made ≡ call → x.is_failed ≡ false → es.items ≡ effects x made
     → y ≡ after x made → IfOk r (λ a. a ≡ Effects es) → OnOk r (IsApplied fetching es.items left)
     → IfOk r (λ a. Reports x fetching v call a y left)
-reported (Err e) x y fetching left v made call es above same live told is answer applied = tt
-reported (Ok a) x y fetching left v made call es above same live told is answer applied =
-    rw (answer, ← same) ((λ zero. absurd (lt_irrefl _ (rw zero at above))), (λ _. (live, told, is, applied)))
+reported (Err e) x y fetching left v made call es above same live replied is answer applied = tt
+reported (Ok a) x y fetching left v made call es above same live replied is answer applied =
+    rw (answer, ← same) ((λ zero. absurd (lt_irrefl _ (rw zero at above))), (λ _. (live, replied, is, applied)))
 
 -- a line's proposal names no view above its own
 pub named_at : (v : ℕ) (p : Proposal PlainDigest) → IsProposedAt v p → highest_named p ≡ v

@@ -62,8 +62,9 @@ IsUnchanged x fetching y left = (y ≡ x) × (left ≡ fetching)
 
 -- a call returns its effects, which are applied to the open fetches, or is refused
 abbrev pub Calls : ResolverFacts → List ℕ → ℕ → Call → Answer → ResolverFacts → List ℕ → Type 0
-Calls x fetching v call (answer.Effects told) y left =
-    (x.is_failed ≡ false) × (told.items ≡ effects x call) × (y ≡ after x call) × IsApplied fetching told.items left
+Calls x fetching v call (answer.Effects replied) y left =
+    (x.is_failed ≡ false) × (replied.items ≡ effects x call) × (y ≡ after x call)
+    × IsApplied fetching replied.items left
 Calls x fetching v call (answer.Fault fault) y left = (fault ≢ OutOfMemory) × Refused x v fault y × (left ≡ fetching)
 Calls _ _ _ _ _ _ _ = ⊥
 

@@ -9,7 +9,7 @@ use Rattle.simplex_types.specs.declared.reasons.TimeoutReason.TheVariants.{Inval
 use Rattle.simplex_types.specs.Plain.{digest_bytes}
 use Rattle.simplex_voter.specs.Facts.{StateFacts}
 use Rattle.simplex_voter.specs.Windows.{min_active}
-use Rattle.simplex_member.specs.Calls.{AddNotarization, AddNullification, AddFinalization, SetProposal, TryPropose, Proposed, SupersedeProposalRequest, PendingHandoffAbandonment, ReleaseProposalRequest, TryVerify, Verified, VerificationFailed, ConstructNotarize, CertifyCandidates, SetCertifyHandle, Certified, ConstructNullify, ConstructFinalize, BroadcastNotarization, BroadcastNullification, BroadcastFinalization, GetBestCertificate, TriggerTimeout, NextTimeout, Prune as PruneCall, told}
+use Rattle.simplex_member.specs.Calls.{AddNotarization, AddNullification, AddFinalization, SetProposal, TryPropose, Proposed, SupersedeProposalRequest, PendingHandoffAbandonment, ReleaseProposalRequest, TryVerify, Verified, VerificationFailed, ConstructNotarize, CertifyCandidates, SetCertifyHandle, Certified, ConstructNullify, ConstructFinalize, BroadcastNotarization, BroadcastNullification, BroadcastFinalization, GetBestCertificate, TriggerTimeout, NextTimeout, Prune as PruneCall, reply_facts}
 use Rattle.simplex_member.specs.MemberFacts.{IsCall}
 use Rattle.simplex_member.specs.Restarts.{IsRestart}
 use Rattle.simplex_record.specs.Start.{StartFacts}
@@ -112,7 +112,8 @@ shown_views (Some x) = answer.Views x.current x.finalized (min_active x)
 
 -- the reply to a call, and the member after it
 abbrev pub IsReplied : PlainMember → PlainCall → VoterAnswer → PlainMember → Type 0
-IsReplied m call (answer.Reply reply) left = IsCall same_payload plain_leader m call (told plain_bytes reply) left
+IsReplied m call (answer.Reply reply) left = IsCall same_payload plain_leader m call
+    (reply_facts plain_bytes reply) left
 IsReplied _ _ _ _ = ⊥
 
 -- the result of a restart of the network's member, and the member after it; the record is cut as asked, and pruned or

@@ -419,7 +419,7 @@ module _ {K L D : Type 0} (same : D → D → Bool) (elect : Elect L) (low : ℕ
       let y = with_next_view_ready elect x v in
       let r = round_of y v in
       put_either v (is_nullify r.decision) r (record r { slot = after_vote (same_proposal same) r.slot p }) (inl over)
-      (λ given_up. step.Kept) (λ free. step.Heard p refl free) (to_prepared v over Still)
+      (λ given_up. step.Kept) (λ free. step.Received p refl free) (to_prepared v over Still)
 
   pub build_path : (e : Event K D) (v : ℕ) (requested : Bool) → To e (with_build x v requested)
   build_path e v requested = put_tracked v _ (step.Asked requested) Still

@@ -36,23 +36,24 @@ other_number : (a b : ℕ) → (a ≡ b → ⊥) → (a == b) ≡ false
 other_number a b apart = grind (arith, nat_tests)
 
 module _ {T : Type 0} (start : T) where
-  abbrev pub IsTold : Option ConfigError → Bool → Result T StartError → Type 0
-  IsTold found same_members r = MatchOption (start_error found same_members) (r ≡ Ok start) (λ error. r ≡ Err error)
+  abbrev pub IsReplied : Option ConfigError → Bool → Result T StartError → Type 0
+  IsReplied found same_members r = MatchOption (start_error found same_members) (r ≡ Ok start) (λ error. r ≡ Err error)
 
   -- a broken rule
-  pub broken_told : (found : Option ConfigError) (same_members : Bool) (broken : ConfigError)
-      → IsTested found (Err broken) → IsTold found same_members (Err (error.Config broken))
-  broken_told None same_members broken tested = cc
-  broken_told (Some first) same_members broken tested = cc
+  pub broken_replied : (found : Option ConfigError) (same_members : Bool) (broken : ConfigError)
+      → IsTested found (Err broken) → IsReplied found same_members (Err (error.Config broken))
+  broken_replied None same_members broken tested = cc
+  broken_replied (Some first) same_members broken tested = cc
 
   -- a number of members that is not that of the participants
-  pub others_told : (found : Option ConfigError) (members participants : ℕ) (t : Unit {0}) → IsTested found (Ok t)
-      → (members ≡ participants → ⊥) → IsTold found (members == participants) (Err error.OtherMembers)
-  others_told None members participants t tested apart = rw (other_number members participants apart) refl
-  others_told (Some first) members participants t tested apart = cc
+  pub others_replied : (found : Option ConfigError) (members participants : ℕ) (t : Unit {0}) → IsTested found (Ok t)
+      → (members ≡ participants → ⊥) → IsReplied found (members == participants) (Err error.OtherMembers)
+  others_replied None members participants t tested apart = rw (other_number members participants apart) refl
+  others_replied (Some first) members participants t tested apart = cc
 
-  pub start_told : (found : Option ConfigError) (members participants : ℕ) (t : Unit {0}) (made : T)
-      → IsTested found (Ok t) → members ≡ participants → made ≡ start → IsTold found (members == participants) (Ok made)
-  start_told None members participants t made tested same is =
+  pub start_replied : (found : Option ConfigError) (members participants : ℕ) (t : Unit {0}) (made : T)
+      → IsTested found (Ok t) → members ≡ participants → made ≡ start
+      → IsReplied found (members == participants) (Ok made)
+  start_replied None members participants t made tested same is =
       rw (same_number members participants same) (ap (λ s. Ok s) is)
-  start_told (Some first) members participants t made tested same is = cc
+  start_replied (Some first) members participants t made tested same is = cc

@@ -145,7 +145,7 @@ module _ {K L D : Type 0} (same : D → D → Bool) (elect : Elect L) (begun : S
     Retried : (now interval : ℕ) → e ≡ NextTimeout now → awaits_retry r ≡ true
         → RoundStep x v r (record r { decision = decision.Nullify (Some (now + interval)) })
     -- proposals
-    Heard : (p : Proposal D) → proposal_by e ≡ Some (v, p) → is_nullify r.decision ≡ false
+    Received : (p : Proposal D) → proposal_by e ≡ Some (v, p) → is_nullify r.decision ≡ false
         → RoundStep x v r (record r { slot = after_vote (same_proposal same) r.slot p })
     Marked : e ≡ Verified v → verification_matches same elect begun v ≡ true → is_nullify r.decision ≡ false
         → RoundStep x v r (record r { slot = after_mark r.slot })

@@ -28,11 +28,11 @@ update_names payload_bytes bytes_of (Finalization f) h = h
 -- ---- what it received
 
 -- a record, whose last effects open the fetches that it needs
-pub told_by_record : (t : ℕ) (calls : List Call) (r : LawfulResolverFacts) (es : List Effect)
+pub received_by_record : (t : ℕ) (calls : List Call) (r : LawfulResolverFacts) (es : List Effect)
     → 0 < t → AllByRecursion NamesAView calls → list_any is_replayed calls ≡ true → r.state ≡ facts_of t calls
     → ((v : ℕ) → is_outstanding es v ≡ is_needed t calls v) → IsApplied [] es r.open_fetches
     → HasReceivedCalls t calls r
-told_by_record t calls r es long named replayed state wanted applied = record {
+received_by_record t calls r es long named replayed state wanted applied = record {
   long = long;
   named = named;
   state = state;
@@ -40,23 +40,23 @@ told_by_record t calls r es long named replayed state wanted applied = record {
 }
 
 -- one more call
-pub still_told : (t : ℕ) (calls : List Call) (call : Call) (old new : LawfulResolverFacts) (es : List Effect)
+pub still_received : (t : ℕ) (calls : List Call) (call : Call) (old new : LawfulResolverFacts) (es : List Effect)
     → HasReceivedCalls t calls old → NamesAView call → IsMade call old es new → HasReceivedCalls t (call ∷ calls) new
-still_told t calls call old new es told names made = record {
-  long = told.long;
-  named = (names, told.named);
-  state = made.state ∙ ap (λ x. after x call) told.state;
+still_received t calls call old new es received names made = record {
+  long = received.long;
+  named = (names, received.named);
+  state = made.state ∙ ap (λ x. after x call) received.state;
   open_fetches = λ v.
-      keeps_outstanding old.open_fetches new.open_fetches es made.applied (effects_of t calls) told.open_fetches v
-      ∙ ap (λ e. is_outstanding (effects_of t calls ++ e) v) (made.answered ∙ ap (λ x. effects x call) told.state);
+      keeps_outstanding old.open_fetches new.open_fetches es made.applied (effects_of t calls) received.open_fetches v
+      ∙ ap (λ e. is_outstanding (effects_of t calls ++ e) v) (made.answered ∙ ap (λ x. effects x call) received.state);
 }
 
 -- ---- the laws
 
 pub opens_the_wanted : (r : LawfulResolverFacts) (t : ℕ) (calls : List Call) → HasReceivedCalls t calls r
     → OpensTheOutstanding r t calls
-opens_the_wanted r t calls told replayed v = told.open_fetches v
-    ∙ outstanding_is_wanted t calls told.long told.named replayed v
+opens_the_wanted r t calls received replayed v = received.open_fetches v
+    ∙ outstanding_is_wanted t calls received.long received.named replayed v
 
 none_there : (vs : List ℕ) → ((v : ℕ) → has vs v ≡ false) → vs ≡ []
 none_there [] none = refl
@@ -64,19 +64,19 @@ none_there (u ∷ us) none = absurd (let here : (u == u || has us u) ≡ false =
 
 pub opens_none : (r : LawfulResolverFacts) (t : ℕ) (calls : List Call) → HasReceivedCalls t calls r
     → OpensNone r t calls
-opens_none r t calls told none =
-    let replaying : (facts_of t calls).replaying ≡ true = (stands t calls told.long told.named).replaying
+opens_none r t calls received none =
+    let replaying : (facts_of t calls).replaying ≡ true = (stands t calls received.long received.named).replaying
     ∙ ap not none in
     none_there r.open_fetches
-    (λ v. told.open_fetches v ∙ ((all_fetched t calls told.long told.named).at_rest replaying).1 v)
+    (λ v. received.open_fetches v ∙ ((all_fetched t calls received.long received.named).at_rest replaying).1 v)
 
 pub opens_none_again : (r : LawfulResolverFacts) (t : ℕ) (calls : List Call) → HasReceivedCalls t calls r
     → OpensNoneAgain r t calls
-opens_none_again r t calls told call before v =
-    ap (λ x. list_any (fetches v) (effects x call)) told.state
-    ∙ recorded_again t calls call told.long told.named before v
+opens_none_again r t calls received call before v =
+    ap (λ x. list_any (fetches v) (effects x call)) received.state
+    ∙ recorded_again t calls call received.long received.named before v
 
-pub answers_the_told : (r : LawfulResolverFacts) (t : ℕ) (calls : List Call) → HasReceivedCalls t calls r
+pub answers_the_received : (r : LawfulResolverFacts) (t : ℕ) (calls : List Call) → HasReceivedCalls t calls r
     → AnswersTheReceived r t calls
-answers_the_told r t calls told =
-    subst (AnswersFit t calls) (sym told.state) (answers_are_of_the_received t calls told.long told.named)
+answers_the_received r t calls received =
+    subst (AnswersFit t calls) (sym received.state) (answers_are_of_the_received t calls received.long received.named)

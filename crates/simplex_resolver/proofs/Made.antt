@@ -9,7 +9,7 @@ use Rattle.simplex_resolver.specs.ReceivedFacts.{NamesAView}
 use Rattle.simplex_resolver.specs.Repair.{IsApplied}
 use Rattle.simplex_resolver.specs.CallHistory.{LawfulResolverFacts, IsMade, ReceivesMore, IsBegun, IsLeftBy}
 use Rattle.simplex_resolver.proofs.CallLists.{same_terms}
-use Rattle.simplex_resolver.proofs.CallHistory.{still_told}
+use Rattle.simplex_resolver.proofs.CallHistory.{still_received}
 
 -- the state has made the call, and its effects are applied
 pub made_of : (r : Result (Vec Effect Global) Fault) (es : Vec Effect Global) (call : Call)
@@ -25,11 +25,11 @@ made_of (Ok answer) es call old new middle made effects_are kept same applied = 
   applied = subst (λ a. IsApplied old.open_fetches a.items new.open_fetches) (sym same) applied;
 }
 
-pub told_of : (r : Result (Vec Effect Global) Fault) (call : Call) (old new : LawfulResolverFacts) → NamesAView call
+pub received_of : (r : Result (Vec Effect Global) Fault) (call : Call) (old new : LawfulResolverFacts) → NamesAView call
     → IfOk r (λ answer. IsMade call old answer.items new) → OnOk r (ReceivesMore old call new)
-told_of (Err fault) call old new names made = tt
-told_of (Ok answer) call old new names made =
-    λ t calls told. still_told t calls call old new answer.items told names made
+received_of (Err fault) call old new names made = tt
+received_of (Ok answer) call old new names made =
+    λ t calls received. still_received t calls call old new answer.items received names made
 
 -- the state has made the call, and there was no memory for its effects
 pub left_of : (r : Result (Vec Effect Global) Fault) (es : Vec Effect Global) (v : ℕ) (call : Call)

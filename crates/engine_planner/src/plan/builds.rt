@@ -2,14 +2,14 @@
 
 ghost use Rattle.std.specs.Prelude.{◌≡◌, [], ◌∷◌, ◌++◌, map, true, OnOk};
 ghost use Rattle.engine_planner.specs.Blocks.{is_asked_in, is_asked_at, is_ahead, all_but_at, one_a_view, in_place};
-ghost use Rattle.engine_planner.specs.Blocks.{has_waited, told_by};
+ghost use Rattle.engine_planner.specs.Blocks.{has_waited, reported_by};
 
 use simplex_types::types::{Context, Digest, View};
 use std::alloc::{AllocError, Global};
 
 /// A block to build.
 #[derive(Clone, Copy)]
-pub(super) struct Building<D, P: Copy> {
+pub(super) struct PendingBuild<D, P: Copy> {
     pub context: Context<D, P>,
     /// The application was asked for it.
     pub is_reported: bool,
@@ -18,7 +18,7 @@ pub(super) struct Building<D, P: Copy> {
 /// The blocks to build: at most one a view.
 #[derive(Drop)]
 pub struct Builds<D, P: Copy> {
-    buildings: Vec<Building<D, P>>,
+    buildings: Vec<PendingBuild<D, P>>,
     ghost once: { one_a_view buildings.items ≡ true },
 }
 
@@ -42,7 +42,7 @@ impl<D: Digest, P: Copy> Builds<D, P> {
             (record { context = context; is_reported = is_reported }) self.old.buildings.items) }
     {
         self.end(view_of(&context));
-        self.buildings.push(Building {
+        self.buildings.push(PendingBuild {
             context,
             is_reported,
         })?;
@@ -58,13 +58,13 @@ impl<D: Digest, P: Copy> Builds<D, P> {
 
     /// Marks each block of the view, and of those below it, as asked for.
     pub(super) fn tell(&mut self, view: View)
-        ensures { self.new.buildings.items ≡ map (told_by view) self.old.buildings.items }
+        ensures { self.new.buildings.items ≡ map (reported_by view) self.old.buildings.items }
     {
         mark_reported(view, &mut self.buildings);
     }
 
     /// Returns all blocks to build.
-    pub(super) fn all(&self) -> &[Building<D, P>]
+    pub(super) fn all(&self) -> &[PendingBuild<D, P>]
         ensures { result.now ≡ self.now.buildings.items }
     {
         &self.buildings
@@ -80,7 +80,7 @@ fn view_of<D: Digest, P: Copy>(context: &Context<D, P>) -> View
 
 /// Returns whether the application was asked for the block in exactly this context.
 pub(super) fn is_asked_in<D: Digest, P: Copy>(
-    building: &Building<D, P>,
+    building: &PendingBuild<D, P>,
     context: &Context<D, P>,
 ) -> bool
     ensures { result ≡ is_asked_in D.eq context.now building.now }
@@ -91,40 +91,40 @@ pub(super) fn is_asked_in<D: Digest, P: Copy>(
 }
 
 /// Returns whether the application was asked for the block, in the view.
-pub(super) fn is_asked_at<D: Digest, P: Copy>(building: &Building<D, P>, view: View) -> bool
+pub(super) fn is_asked_at<D: Digest, P: Copy>(building: &PendingBuild<D, P>, view: View) -> bool
     ensures { result ≡ is_asked_at view building.now }
 {
     building.is_reported && building.context.round.view == view
 }
 
 /// Returns whether the block is of a later view, or is of the view and was asked for.
-pub(super) fn is_ahead<D: Digest, P: Copy>(building: &Building<D, P>, view: View) -> bool
+pub(super) fn is_ahead<D: Digest, P: Copy>(building: &PendingBuild<D, P>, view: View) -> bool
     ensures { result ≡ is_ahead view building.now }
 {
     view < building.context.round.view || is_asked_at(building, view)
 }
 
 /// Returns whether the block was to be asked for in the view, or in one below it, and was not yet.
-pub(super) fn has_waited<D: Digest, P: Copy>(building: &Building<D, P>, view: View) -> bool
+pub(super) fn has_waited<D: Digest, P: Copy>(building: &PendingBuild<D, P>, view: View) -> bool
     ensures { result ≡ has_waited view building.now }
 {
     !building.is_reported && building.context.round.view <= view
 }
 
 /// Marks each of these blocks that is of the view, or of one below it, as asked for.
-fn mark_reported<D: Digest, P: Copy>(view: View, builds: &mut [Building<D, P>])
-    ensures { builds.new ≡ map (told_by view) builds.old }
+fn mark_reported<D: Digest, P: Copy>(view: View, builds: &mut [PendingBuild<D, P>])
+    ensures { builds.new ≡ map (reported_by view) builds.old }
 {
     for building in builds.iter_mut() {
-        *building = told_by(*building, view);
+        *building = reported_by(*building, view);
     }
 }
 
 /// Returns the block, marked as asked for if it is of the view or below it.
-fn told_by<D: Digest, P: Copy>(building: Building<D, P>, view: View) -> Building<D, P>
-    ensures { result ≡ told_by view building }
+fn reported_by<D: Digest, P: Copy>(building: PendingBuild<D, P>, view: View) -> PendingBuild<D, P>
+    ensures { result ≡ reported_by view building }
 {
-    Building {
+    PendingBuild {
         context: building.context,
         is_reported: building.is_reported || building.context.round.view <= view,
     }

@@ -110,7 +110,7 @@ impl<S: CertificateScheme, D: Digest> Plan<S, D> {
     fn report_certificate(&mut self, certificate: &Certificate<S, D>, now: u64) -> Result<(), Fault>
         requires { 1 ≤ certificate_view certificate.now }
         ensures same { self.new ≡ record self.old { repair = self.new.repair } }
-        ensures heard { OnOk result
+        ensures notified { OnOk result
             (IsResolverNotified D.bytes S.certificate_bytes now certificate.now self.old self.new.repair) }
         ensures refused { IfErr result
             (λ fault. IsUnrepaired (highest_view certificate.now) fault self.old.repair self.new.repair) }

@@ -4,7 +4,7 @@ ghost use Rattle.std.specs.Prelude.{◌≡◌, ◌++◌, false, IfOk, OnOk};
 ghost use Rattle.engine_planner.specs.PlanStates.{HasPlanned};
 ghost use Rattle.engine_planner.specs.StepSelection.{watching_one, watching_all, watching_where, IsFetchAsked, IsPruneAsked, IsTimeoutAsked, IsReady, HasTaken};
 
-use super::builds::Building;
+use super::builds::PendingBuild;
 use super::{Plan, Step, queue};
 use crate::task::Task;
 use engine_outbox::output::Work;
@@ -98,7 +98,7 @@ impl<S: CertificateScheme, D: Digest> Plan<S, D> {
 /// Abandons the blocks of past views, and asks about each other one whether it must be abandoned.
 fn watch_all<S: CertificateScheme, D: Digest>(
     current: View,
-    builds: &[Building<D, S::PublicKey>],
+    builds: &[PendingBuild<D, S::PublicKey>],
     steps: &mut VecDeque<Step<S, D>>,
 ) -> Result<(), AllocError>
     ensures { OnOk result (steps.new.items ≡ steps.old.items ++ watching_all current builds.now) }
@@ -112,7 +112,7 @@ fn watch_all<S: CertificateScheme, D: Digest>(
 /// Returns the call of the member about a block to build. A proposal of a view below the current one serves nobody: the
 /// view was nullified or certified, or other members are ahead. An application that never builds such blocks would
 /// leave ever more.
-fn watching_one<D: Digest, P: Copy>(current: View, building: &Building<D, P>) -> Task<D>
+fn watching_one<D: Digest, P: Copy>(current: View, building: &PendingBuild<D, P>) -> Task<D>
     ensures { result ≡ watching_one current building.now }
 {
     let view = building.context.round.view;

@@ -2,10 +2,10 @@
 
 ghost use Rattle.std.specs.Prelude.{◌≡◌, ◌++◌, map, filter, nat_lt, OnOk};
 ghost use Rattle.engine_planner.specs.BuildPlans.{HasBuilds};
-ghost use Rattle.engine_planner.specs.Blocks.{told_by};
+ghost use Rattle.engine_planner.specs.Blocks.{reported_by};
 ghost use Rattle.engine_planner.specs.ViewChanges.{asking_by, offering, HasEntered, IsPassedWhere, HasSeen};
 
-use super::builds::{Building, has_waited};
+use super::builds::{PendingBuild, has_waited};
 use super::early::Early;
 use super::{Plan, Step, Views, queue};
 use engine_outbox::output::Work;
@@ -54,7 +54,7 @@ impl<S: CertificateScheme, D: Digest> Plan<S, D> {
     /// Asks for the blocks that waited for the view.
     fn build_waiting(&mut self, view: View) -> Result<(), AllocError>
         ensures { let builds = self.old.builds.buildings.items in
-            OnOk result (HasBuilds (asking_by view builds) (map (told_by view) builds) self.old self.new) }
+            OnOk result (HasBuilds (asking_by view builds) (map (reported_by view) builds) self.old self.new) }
     {
         ask_waiting(view, self.builds.all(), &mut self.steps)?;
         self.builds.tell(view);
@@ -78,7 +78,7 @@ impl<S: CertificateScheme, D: Digest> Plan<S, D> {
 /// Asks for the blocks that waited for the view.
 fn ask_waiting<S: CertificateScheme, D: Digest>(
     view: View,
-    builds: &[Building<D, S::PublicKey>],
+    builds: &[PendingBuild<D, S::PublicKey>],
     steps: &mut VecDeque<Step<S, D>>,
 ) -> Result<(), AllocError>
     ensures { OnOk result (steps.new.items ≡ steps.old.items ++ asking_by view builds.now) }

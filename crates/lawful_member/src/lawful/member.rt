@@ -73,7 +73,7 @@ impl<S: CertificateScheme, L: Elector<S>, D: Digest> Model for LawfulMember<S, L
 impl<S: Scheme<D>, L: Elector<S>, D: Digest> LawfulMember<S, L, D> {
     ghost use Rattle.std.specs.Prelude.{[], ◌++◌, true};
     ghost use Rattle.simplex_types.specs.Config.{floor_facts};
-    ghost use Rattle.simplex_member.specs.Calls.{told, asked};
+    ghost use Rattle.simplex_member.specs.Calls.{reply_facts, asked};
     ghost use Rattle.simplex_member.specs.Journal.{stored_of};
     ghost use Rattle.simplex_member.specs.MemberFacts.{IsCall, HasGrown};
     ghost use Rattle.simplex_member.specs.MethodContracts.{is_reply_to};
@@ -125,15 +125,16 @@ impl<S: Scheme<D>, L: Elector<S>, D: Digest> LawfulMember<S, L, D> {
     /// - `exact`: the reply to a request for a vote is exactly by its rule, and no other call returns a vote.
     /// - `continues`: what the member has done grows by the accepted certificate and the returned vote.
     pub fn call(&mut self, call: Call<S, D>) -> Reply<S, D>
-        ensures of_its_kind { is_reply_to (told S.certificate_bytes result) (asked S.certificate_bytes call) ≡ true }
+        ensures of_its_kind { is_reply_to (reply_facts S.certificate_bytes result)
+            (asked S.certificate_bytes call) ≡ true }
         ensures answered { IsCall D.eq L.elect self.old.facts (asked S.certificate_bytes call)
-            (told S.certificate_bytes result) self.new.facts }
+            (reply_facts S.certificate_bytes result) self.new.facts }
         ensures signed { IfSome self.old.facts.life (IsSignedReply S.IsSignature result) }
         ensures votes { self.new.votes ≡ self.old.votes ++ signed_reply result }
         ensures grown { HasGrown self.old.facts self.new.facts }
         ensures stored { stored_of self.new.facts ≡ stored_of self.old.facts }
         ensures exact { ExactAt D.eq L.elect self.old.facts.life (Calls (asked S.certificate_bytes call))
-            (told S.certificate_bytes result) }
+            (reply_facts S.certificate_bytes result) }
         ensures continues { ExtendsHistory D.eq L.elect self.old.facts
             (taken_by call result ++ votes_in result) self.new.facts }
     {

@@ -38,22 +38,22 @@ module _ {D : Type 0} (same : D → D → Bool) (s : SlotFacts D) (p : Proposal 
       (record s { held = Some p })
 
   -- another one than the stored one is not verified, and none is asked for
-  heard_verified : (held : Option (Proposal D))
+  received_verified : (held : Option (Proposal D))
       → (received_by held).verified ≡ unwrap_or (if contradicts same held (Some p) then Some false else None) s.verified
-  heard_verified None = refl
-  heard_verified (Some h) = by_same (same_proposal same h p)
+  received_verified None = refl
+  received_verified (Some h) = by_same (same_proposal same h p)
     where
       by_same : (b : Bool) → (s.verified && b) ≡ unwrap_or (if not b then Some false else None) s.verified
       by_same true = and-true s.verified
       by_same false = and-false s.verified
 
-  heard_build : (held : Option (Proposal D)) → (received_by held).build_requested ≡ s.build_requested
-  heard_build None = refl
-  heard_build (Some h) = refl
+  received_build : (held : Option (Proposal D)) → (received_by held).build_requested ≡ s.build_requested
+  received_build None = refl
+  received_build (Some h) = refl
 
-  heard_verify : (held : Option (Proposal D)) → (received_by held).verify_requested ≡ s.verify_requested
-  heard_verify None = refl
-  heard_verify (Some h) = refl
+  received_verify : (held : Option (Proposal D)) → (received_by held).verify_requested ≡ s.verify_requested
+  received_verify None = refl
+  received_verify (Some h) = refl
 
 module _ {K L D : Type 0} (same : D → D → Bool) (elect : Elect L) (x : StateFacts K L D) (v : ℕ) where
   pub nullify_works : WorkFollows same elect (ConstructNullify v) x (after_construct_nullify x v)
@@ -236,21 +236,21 @@ module _ {K L D : Type 0} (same : D → D → Bool) (elect : Elect L) (x : State
       readied_is = prepared_leaders elect x v v
           ∙ ap (λ leader. record r { leader = leader }) (ap (λ (k : Worked K D). k.leader) (prepared_work elect x v v))
 
-      heard : (b : Bool) → is_nullify r.decision ≡ b
+      received : (b : Bool) → is_nullify r.decision ≡ b
           → work_in true (if b then readied else record readied { slot = after_vote (same_proposal same) r.slot p })
           ≡ adds_unmoved same elect x (SetProposal v p) v (work_of x v)
-      heard true is = rw (is, eq-eqb v v refl) refl
-      heard false is = rw (is, eq-eqb v v refl)
+      received true is = rw (is, eq-eqb v v refl) refl
+      received false is = rw (is, eq-eqb v v refl)
           (λ i. record (work_in true readied) {
-            verified = heard_verified same r.slot p r.slot.held i;
-            build_requested = heard_build same r.slot p r.slot.held i;
-            verify_requested = heard_verify same r.slot p r.slot.held i;
+            verified = received_verified same r.slot p r.slot.held i;
+            build_requested = received_build same r.slot p r.slot.held i;
+            verify_requested = received_verify same r.slot p r.slot.held i;
           })
 
       put : (w : ℕ) → ((w ≡ v) ⊎ (w ≡ v → ⊥))
           → work_of (with_round y v (with_proposal same (round_of y v) p)) w ≡ adds_unmoved same elect x
           (SetProposal v p) w (work_of x w)
       put w (inl here) = rw here (work_put y v (with_proposal same (round_of y v) p)
-          ∙ ap (λ s. work_in true (with_proposal same s p)) readied_is ∙ heard (is_nullify r.decision) refl)
+          ∙ ap (λ s. work_in true (with_proposal same s p)) readied_is ∙ received (is_nullify r.decision) refl)
       put w (inr apart) = work_elsewhere y v w (with_proposal same (round_of y v) p) (ne_eqb w v apart)
           ∙ prepared_work elect x v w ∙ rw (ne_eqb w v apart) refl

@@ -34,7 +34,7 @@ unfolding first_recover_error recovered_state after_kept_entry may_drop pruned_e
     ancestry_payload_for_child first_unnullified_view explicit_ancestry_payload in_issuance_window is_admitted
     verification_matches parent_payload_for may_notarize
 first_worked = record {
-  told = refl;
+  replied = refl;
   alive = refl;
   set_up = record { signs = refl; of_epoch = refl; elects_by = refl; members = refl; on_time = refl };
   unknown = refl;
@@ -55,7 +55,7 @@ unfolding first_recover_error recovered_state after_kept_entry may_drop pruned_e
     ancestry_payload_for_child first_unnullified_view explicit_ancestry_payload in_issuance_window is_admitted
     verification_matches parent_payload_for may_notarize
 second_worked = record {
-  told = refl;
+  replied = refl;
   alive = refl;
   set_up = record { signs = refl; of_epoch = refl; elects_by = refl; members = refl; on_time = refl };
   unknown = refl;
@@ -76,7 +76,7 @@ unfolding first_recover_error recovered_state after_kept_entry may_drop pruned_e
     ancestry_payload_for_child first_unnullified_view explicit_ancestry_payload in_issuance_window is_admitted
     verification_matches parent_payload_for may_notarize
 third_worked = record {
-  told = refl;
+  replied = refl;
   alive = refl;
   set_up = record { signs = refl; of_epoch = refl; elects_by = refl; members = refl; on_time = refl };
   unknown = refl;

@@ -14,7 +14,7 @@ use Rattle.laws_safety.specs.Replicas.{Honest, IsNetworkOf}
 use Rattle.laws_safety.specs.Executions.{Execution, trace_of, IsExecution}
 use Rattle.laws_safety.specs.Traces.{Accepts}
 use Rattle.laws_safety.specs.ScenarioSteps.{in_turn, begin_at}
-use Rattle.laws_safety.proofs.networks.ScenarioSteps.{begins, ran_as_told}
+use Rattle.laws_safety.proofs.networks.ScenarioSteps.{begins, ran_as_replied}
 use Rattle.laws_progress.specs.ViewPositions.{BuildsOn}
 use Rattle.laws_progress.specs.NetworkStates.{RunsWith, EachRuns}
 use Rattle.laws_progress.specs.StartedNetworks.{idle, with_first_leader, StandsFirst, Finalizes}
@@ -25,7 +25,7 @@ state me = after_set_floor nat_eq in_turn (new_state (begin_at 1 me).setup) (Gen
 
 pub idle_ran : (me : ℕ) → IsExecution nat_eq in_turn 1 me (idle me)
 unfolding first_recover_error
-idle_ran me = ran_as_told 1 me (idle me) (begins 1 me (omega arith)) tt refl tt refl
+idle_ran me = ran_as_replied 1 me (idle me) (begins 1 me (omega arith)) tt refl tt refl
 
 pub lives : (me : ℕ) → RunsWith nat_eq in_turn (idle me) (state me)
 lives me = (_, refl, refl)

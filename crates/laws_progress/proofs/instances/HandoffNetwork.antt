@@ -30,7 +30,7 @@ unfolding standing propose_answer proposed_answer find_parent captured_parent_va
     is_handoff_parent is_voted_ancestor can_chain_on in_issuance_window is_admitted verification_matches
     parent_payload_for may_notarize may_nullify may_finalize has_conflicting_nullify required_certification_parent
 first_worked = record {
-  told = refl;
+  replied = refl;
   alive = refl;
   set_up = record { signs = refl; of_epoch = refl; elects_by = refl; members = refl; on_time = refl };
   unknown = refl;
@@ -49,7 +49,7 @@ unfolding standing propose_answer proposed_answer find_parent captured_parent_va
     is_handoff_parent is_voted_ancestor can_chain_on in_issuance_window is_admitted verification_matches
     parent_payload_for may_notarize may_nullify may_finalize has_conflicting_nullify required_certification_parent
 second_worked = record {
-  told = refl;
+  replied = refl;
   alive = refl;
   set_up = record { signs = refl; of_epoch = refl; elects_by = refl; members = refl; on_time = refl };
   unknown = refl;
@@ -68,7 +68,7 @@ unfolding standing propose_answer proposed_answer find_parent captured_parent_va
     is_handoff_parent is_voted_ancestor can_chain_on in_issuance_window is_admitted verification_matches
     parent_payload_for may_notarize may_nullify may_finalize has_conflicting_nullify required_certification_parent
 third_worked = record {
-  told = refl;
+  replied = refl;
   alive = refl;
   set_up = record { signs = refl; of_epoch = refl; elects_by = refl; members = refl; on_time = refl };
   unknown = refl;

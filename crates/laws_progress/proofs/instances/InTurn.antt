@@ -58,7 +58,7 @@ first_there : RunsWith nat_eq in_turn first (state_at_end first)
 unfolding first_recover_error recovered_state after_kept_entry may_drop pruned_entries standing has_valid_parent_span
     ancestry_payload_for_child first_unnullified_view explicit_ancestry_payload in_issuance_window is_admitted
     verification_matches parent_payload_for may_notarize
-first_there = lives_there first (rises entry_view 0 (NotarizeVote one 0 ∷ []) refl, tt) first_worked.told
+first_there = lives_there first (rises entry_view 0 (NotarizeVote one 0 ∷ []) refl, tt) first_worked.replied
     first_worked.alive
 
 first_ahead : (x : StateFacts ℕ ℕ ℕ) × RunsWith nat_eq in_turn first x × Ahead 0 x
@@ -94,7 +94,7 @@ second_there : RunsWith nat_eq in_turn second (state_at_end second)
 unfolding first_recover_error recovered_state after_kept_entry may_drop pruned_entries standing has_valid_parent_span
     ancestry_payload_for_child first_unnullified_view explicit_ancestry_payload in_issuance_window is_admitted
     verification_matches parent_payload_for may_notarize
-second_there = lives_there second (rises entry_view 0 (NotarizeVote rival 1 ∷ []) refl, tt) second_worked.told
+second_there = lives_there second (rises entry_view 0 (NotarizeVote rival 1 ∷ []) refl, tt) second_worked.replied
     second_worked.alive
 
 second_ahead : (x : StateFacts ℕ ℕ ℕ) × RunsWith nat_eq in_turn second x × Ahead 1 x
@@ -130,7 +130,7 @@ third_there : RunsWith nat_eq in_turn third (state_at_end third)
 unfolding first_recover_error recovered_state after_kept_entry may_drop pruned_entries standing has_valid_parent_span
     ancestry_payload_for_child first_unnullified_view explicit_ancestry_payload in_issuance_window is_admitted
     verification_matches parent_payload_for may_notarize
-third_there = lives_there third (rises entry_view 0 ([]) refl, tt) third_worked.told third_worked.alive
+third_there = lives_there third (rises entry_view 0 ([]) refl, tt) third_worked.replied third_worked.alive
 
 third_ahead : (x : StateFacts ℕ ℕ ℕ) × RunsWith nat_eq in_turn third x × Ahead 2 x
 third_ahead = (

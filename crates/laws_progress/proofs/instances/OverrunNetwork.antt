@@ -9,7 +9,7 @@ use Rattle.laws_safety.specs.Traces.{Accepts}
 use Rattle.laws_safety.specs.Replicas.{Honest, IsNetworkOf}
 use Rattle.laws_safety.specs.Executions.{Execution, trace_of, IsExecution, BeginsAs}
 use Rattle.laws_safety.specs.ScenarioSteps.{in_turn}
-use Rattle.laws_safety.proofs.networks.ScenarioSteps.{ran_as_told}
+use Rattle.laws_safety.proofs.networks.ScenarioSteps.{ran_as_replied}
 use Rattle.laws_progress.specs.NetworkStates.{IsSetUpAs, RunsWith, EachRuns}
 use Rattle.laws_progress.specs.TooManyFaulty.{idle_of_five, with_two_faulty, MayContinueOtherwise, IsStuck}
 use Rattle.laws_progress.proofs.instances.Worked.{agree}
@@ -20,7 +20,7 @@ begins me = record { terms = record { terms = refl; some = omega arith }; signs_
 
 idle_ran : (me : ℕ) → IsExecution nat_eq in_turn 1 me (idle_of_five me)
 unfolding first_recover_error
-idle_ran me = ran_as_told 1 me (idle_of_five me) (begins me) tt refl tt refl
+idle_ran me = ran_as_replied 1 me (idle_of_five me) (begins me) tt refl tt refl
 
 state : ℕ → StateFacts ℕ ℕ ℕ
 state me = after_set_floor nat_eq in_turn (new_state (idle_of_five me).start.setup) (Genesis 0) 0

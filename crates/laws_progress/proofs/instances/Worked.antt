@@ -14,7 +14,7 @@ use Rattle.laws_safety.specs.Executions.{new_member, Execution}
 use Rattle.laws_safety.specs.ScenarioSteps.{in_turn}
 use Rattle.laws_safety.proofs.lists.Splits.{Contains-cases}
 use Rattle.laws_safety.proofs.networks.ComputedRuns.{end_from, fits_run}
-use Rattle.laws_safety.proofs.networks.ScenarioSteps.{told_in, FitsIn}
+use Rattle.laws_safety.proofs.networks.ScenarioSteps.{replied_in, FitsIn}
 use Rattle.laws_progress.specs.NetworkStates.{IsSetUpAs, RunsWith, EachRuns}
 use Rattle.laws_progress.specs.ViewCauses.{HasCertified, judged_of}
 use Rattle.laws_progress.proofs.runs.Explicit.{verdict_led}
@@ -30,13 +30,13 @@ some_is None a is = absurd (false≢true is)
 some_is (Some b) a is = refl
 
 -- where it has not failed
-pub lives_there : (s : Execution ℕ ℕ ℕ) → FitsIn s → told_in s ≡ s.replies
+pub lives_there : (s : Execution ℕ ℕ ℕ) → FitsIn s → replied_in s ≡ s.replies
     → is_some (end_from nat_eq in_turn (new_member nat_eq in_turn s.start) s.steps).life ≡ true
     → RunsWith nat_eq in_turn s (state_at_end s)
-lives_there s fits told alive =
+lives_there s fits replied alive =
     let m = new_member nat_eq in_turn s.start in (
       end_from nat_eq in_turn m s.steps,
-      subst (λ replies. IsRun nat_eq in_turn m s.steps replies (end_from nat_eq in_turn m s.steps)) told
+      subst (λ replies. IsRun nat_eq in_turn m s.steps replies (end_from nat_eq in_turn m s.steps)) replied
           (fits_run nat_eq in_turn m s.steps fits),
       some_is (end_from nat_eq in_turn m s.steps).life (new_state s.start.setup) alive,
     )
@@ -45,7 +45,7 @@ lives_there s fits told alive =
 -- view lies below the start,
 -- which it doesn't know
 pub record IsWorked (term_length start i : ℕ) (s : Execution ℕ ℕ ℕ) : Type 0 where
-  pub told : told_in s ≡ s.replies
+  pub replied : replied_in s ≡ s.replies
   pub alive : is_some (end_from nat_eq in_turn (new_member nat_eq in_turn s.start) s.steps).life ≡ true
   pub set_up : IsSetUpAs 1 4 term_length i (state_at_end s)
   pub unknown : is_tracked (state_at_end s) start ≡ false
@@ -57,7 +57,7 @@ pub lives_by : (term_length start i : ℕ) (s : Execution ℕ ℕ ℕ) → FitsI
     × (IsSetUpAs 1 4 term_length i x × (is_tracked x start ≡ false) × (x.current < start))
 lives_by term_length start i s fits worked = (
   state_at_end s,
-  lives_there s fits worked.told worked.alive,
+  lives_there s fits worked.replied worked.alive,
   (worked.set_up, worked.unknown, ltb-true (state_at_end s).current start worked.below),
 )
 
@@ -119,7 +119,7 @@ agree term_length network good all i s at j t from x v certified lives above =
     elim (cases_Bool (is_judged false (round_of x v).certification)) [
       | inr fine ↦ fine
       | inl bad ↦ absurd (
-          let told = verdict_led term_length _ _ x
+          let replied = verdict_led term_length _ _ x
           (state_led nat_eq eqb-true in_turn term_length j t (good.honest j t from) x lives) v false bad in
-          none_refused (judged_of t) (each_fine network all j t from) told.0 told.1)
+          none_refused (judged_of t) (each_fine network all j t from) replied.0 replied.1)
     ]

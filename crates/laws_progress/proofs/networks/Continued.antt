@@ -49,8 +49,8 @@ module _ {L D : Type 0} (K : Type 0) (same : D → D → Bool) (elect : Elect L)
   nothing_is_forged term_length network later final on = (
     λ c unknown unmade (i, t, at, h). elim (on.certificates i t at c h)
         [ inl old ↦ unknown old | inr made ↦ unmade made ],
-    λ v p unheard unbuilt (i, t, at, h). elim (on.proposals i t at v p h)
-        [ inl old ↦ unheard old | inr built ↦ none_built later p unbuilt built ],
+    λ v p unreceived unbuilt (i, t, at, h). elim (on.proposals i t at v p h)
+        [ inl old ↦ unreceived old | inr built ↦ none_built later p unbuilt built ],
   )
 
   pub too_many_are_faulty : TooManyAreFaulty K same elect
@@ -75,8 +75,8 @@ module _ {L D : Type 0} (K : Type 0) (same : D → D → Bool) (elect : Elect L)
       let one = one_exchange network later taken in (
         λ c unknown unmade (i, t, at, h). elim (one.certificates i t at c h)
             [ inl old ↦ unknown old | inr made ↦ unmade made ],
-        λ v p unheard unbuilt (i, t, at, h). elim (one.proposals i t at v p h)
-            [ inl old ↦ unheard old | inr built ↦ none_built network p unbuilt built ],
+        λ v p unreceived unbuilt (i, t, at, h). elim (one.proposals i t at v p h)
+            [ inl old ↦ unreceived old | inr built ↦ none_built network p unbuilt built ],
       )
 
   pub one_exchange_is_too_few : OneExchangeIsTooFew K same elect

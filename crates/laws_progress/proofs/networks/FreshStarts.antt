@@ -46,7 +46,7 @@ fresh_starts_are_finalized {L} {D} K same decides reflexive elect term_length ep
             continues = on.1.continues;
             ran = on.1.ran;
             trace = on.1.trace;
-            heard = on.1.heard;
+            received = on.1.received;
             builds = on.1.builds;
           },
         )

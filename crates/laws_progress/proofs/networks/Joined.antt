@@ -5,7 +5,7 @@ use Rattle.simplex_types.specs.declared.types.messages.Subject.{Subject}
 use Rattle.simplex_types.specs.declared.types.messages.Subject.TheVariants.{Finalize}
 use Rattle.simplex_voter.specs.Facts.{Elect}
 use Rattle.simplex_member.specs.Runs.{IsRunFrom}
-use Rattle.laws_safety.specs.Continuations.{ReplicasContinue, EachHonest, SomeHonest, HasAccepted, HasHeard, IsHonestlySigned, HonestlyBacked, ContinuesToFinalize}
+use Rattle.laws_safety.specs.Continuations.{ReplicasContinue, EachHonest, SomeHonest, HasAccepted, HasReceived, IsHonestlySigned, HonestlyBacked, ContinuesToFinalize}
 use Rattle.laws_safety.specs.Traces.{TraceEvent}
 use Rattle.laws_safety.specs.Replicas.{Replica, Faulty, Honest, quorum, AtLeastFrom, MayHaveSigned, IsNetworkOf}
 use Rattle.laws_safety.specs.Executions.{Execution, trace_of}
@@ -45,7 +45,8 @@ module _ {K L D : Type 0} (same : D → D → Bool) (elect : Elect L) where
         → ReplicasContinue network mid
         → EachHonest mid
         (λ i s. (c : Subject D) → HasAccepted c i s → SomeHonest network (HasAccepted c) ⊎ HonestlyBacked mid c)
-        → EachHonest mid (λ i s. (v : ℕ) (p : Proposal D) → HasHeard v p s → SomeHonest network (λ j t. HasHeard v p t))
+        → EachHonest mid (λ i s. (v : ℕ) (p : Proposal D) → HasReceived v p s
+        → SomeHonest network (λ j t. HasReceived v p t))
         → ContinuesToFinalize same elect term_length mid later final
         → ContinuesToFinalize same elect term_length network later final
     joined good between goes certificates proposals on = record {

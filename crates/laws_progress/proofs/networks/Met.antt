@@ -17,7 +17,7 @@ use Rattle.simplex_voter.specs.Facts.{StateFacts, Elect, round_of, is_tracked}
 use Rattle.simplex_member.specs.Calls.{SetProposal}
 use Rattle.simplex_member.specs.MemberFacts.{MemberFacts}
 use Rattle.simplex_member.specs.Runs.{Calls}
-use Rattle.laws_safety.specs.Continuations.{ExecutionContinues, EachHonest, SomeHonest, HasAccepted, HasHeard}
+use Rattle.laws_safety.specs.Continuations.{ExecutionContinues, EachHonest, SomeHonest, HasAccepted, HasReceived}
 use Rattle.laws_safety.specs.Traces.{TraceEvent, Accepts, trace_of_steps}
 use Rattle.laws_safety.specs.Replicas.{Replica, Honest, faults, FewFaulty, quorum, AtLeastFrom, MayHaveSigned, IsNetworkOf}
 use Rattle.laws_history.specs.HistoryFacts.{verdict_of}
@@ -32,7 +32,7 @@ use Rattle.laws_progress.proofs.networks.Chosen.{HighestCurrent, highest_current
 use Rattle.laws_progress.proofs.networks.Covers.{Skips, Covered, covered}
 use Rattle.laws_progress.proofs.networks.Followed.{ReplicasFollow, all_follow, replicas_follow, same_many, was_there, backed_still}
 use Rattle.laws_progress.proofs.networks.Tops.{Highest, either_highest, over_honest, finalized_highest, certified_highest}
-use Rattle.laws_progress.proofs.runs.Arrivals.{ComesTo, Came, SkipsUpTo, pass_every, stays_there, takes_final, takes_certified}
+use Rattle.laws_progress.proofs.runs.Arrivals.{Attains, Came, SkipsUpTo, pass_every, stays_there, takes_final, takes_certified}
 use Rattle.laws_progress.proofs.runs.Ends.{Shown, end_shown}
 use Rattle.laws_progress.proofs.runs.Explicit.{came_stands, explicit_passed}
 use Rattle.laws_progress.proofs.runs.Led.{Led}
@@ -289,7 +289,7 @@ module _ {K L D : Type 0} (same : D → D → Bool) (decides : (d e : D) → sam
     -- once the nullifications are known
     finishes : (m : MemberFacts K L D) (y : StateFacts K L D) → m.life ≡ Some y
         → Nears term_length epoch (length network) i elector parent view start x.finalized verdict given y
-        → ComesTo same elect Q R Arrived m
+        → Attains same elect Q R Arrived m
     finishes m y there close = elim (cases_eq x.finalized parent) [
       | inl final ↦ stays_there same decides elect Q R term_length epoch (length network) i elector parent view start
           view_far may.small x.finalized verdict given final m y there close
@@ -316,7 +316,7 @@ module _ {K L D : Type 0} (same : D → D → Bool) (decides : (d e : D) → sam
       ]
     ]
 
-    comes : ComesTo same elect Q R Arrived lives.0
+    comes : Attains same elect Q R Arrived lives.0
     comes = pass_every same decides elect Q R term_length epoch (length network) i elector parent view start view_far
         may.small Arrived x.finalized verdict road.rounds (λ r. ⊥) fits lives.0 x lives.2 near finishes
 
@@ -368,7 +368,7 @@ module _ {K L D : Type 0} (same : D → D → Bool) (decides : (d e : D) → sam
     continues : ExecutionContinues s t
     ran : IsExecution same elect term_length i t
     accepts : (c : Subject D) → HasAccepted c i t → SomeHonest network (HasAccepted c)
-    hears : (v : ℕ) (p : Proposal D) → HasHeard v p t → HasHeard v p s
+    hears : (v : ℕ) (p : Proposal D) → HasReceived v p t → HasReceived v p s
     trace_stays : (d : TraceEvent D) → Contains (trace_of s) d → Contains (trace_of t) d
     stands : (x : StateFacts K L D) × RunsWith same elect t x
         × (IsSetUpAs epoch (length network) elector i x × StandsBefore parent view start x)

@@ -226,7 +226,7 @@ module _ {K L D : Type 0} (same : D → D → Bool) (decides : (d e : D) → sam
           continues = on.continues;
           ran = on.ran;
           trace = on.trace;
-          heard = λ v o h. elim (Contains-append_cases s.steps (map Calls all) (Calls (SetProposal v o))
+          received = λ v o h. elim (Contains-append_cases s.steps (map Calls all) (Calls (SetProposal v o))
               (subst (λ ss. Contains ss (Calls (SetProposal v o))) on.steps h)) [
                 | inl old ↦ inl old
                 | inr new ↦ inr (one_has (HearsOnly {K = K} {L = L} p) (map Calls all) (Calls (SetProposal v o))

@@ -94,7 +94,7 @@ module _ {D : Type 0} (epoch length leader start parent : ℕ) (payload q : D) w
       → PartFits leader p done calls (λ i. skips_now epoch length view ∷ builds_first i)
   first_fits view done calls signed = record {
     signed = λ i c h j. accepts_it view i j done (whole_trace (builds_first i)) c (signed j) (none_accepted i c) h;
-    built = λ i v o h. absurd (none_heard i v o h);
+    built = λ i v o h. absurd (none_received i v o h);
   }
     where
       none_accepted : (i : ℕ) (c : Subject D) → Contains (whole_trace (builds_first i)) (Accepts c) → ⊥
@@ -105,9 +105,9 @@ module _ {D : Type 0} (epoch length leader start parent : ℕ) (payload q : D) w
           by_leader true h = only_signs i (Notarize p) c h
           by_leader false h = omega (arith, h.1)
 
-      none_heard : (i v : ℕ) (o : Proposal D)
+      none_received : (i v : ℕ) (o : Proposal D)
           → Contains (calls_in (skips_now epoch length view ∷ builds_first i)) (SetProposal v o) → ⊥
-      none_heard i v o h = by_leader (i == leader) h
+      none_received i v o h = by_leader (i == leader) h
         where
           by_leader : (b : Bool) → Contains (calls_in
               (skips_now epoch length view ∷ (if b then builds_now (replica i) q [] [] else []))) (SetProposal v o) → ⊥

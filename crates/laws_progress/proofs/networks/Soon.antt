@@ -170,7 +170,7 @@ module _ {K L D : Type 0} (same : D → D → Bool) (decides : (d e : D) → sam
         continues = end.continues;
         ran = end.ran;
         trace = end.trace ∙ ap (λ ds. trace_of s ++ ds) (trace_is i);
-        heard = λ v o h. elim (Contains-append_cases s.steps (map Calls all) (Calls (SetProposal v o))
+        received = λ v o h. elim (Contains-append_cases s.steps (map Calls all) (Calls (SetProposal v o))
             (subst (λ ss. Contains ss (Calls (SetProposal v o))) steps h)) [
               | inl old ↦ inl old
               | inr new ↦ inr (one_has (HearsOnly {K = K} {L = L} p) (map Calls all) (Calls (SetProposal v o))

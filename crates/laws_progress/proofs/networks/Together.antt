@@ -7,7 +7,7 @@ use Rattle.simplex_types.specs.declared.types.messages.Subject.TheVariants.{Nota
 use Rattle.simplex_voter.specs.Facts.{Elect}
 use Rattle.simplex_member.specs.Calls.{Proposed}
 use Rattle.simplex_member.specs.Runs.{Calls}
-use Rattle.laws_safety.specs.Continuations.{ExecutionContinues, SomeHonest, HasAccepted, HasHeard, HasBuilt, IsHonestlySigned, HonestlyBacked, ContinuesToFinalize}
+use Rattle.laws_safety.specs.Continuations.{ExecutionContinues, SomeHonest, HasAccepted, HasReceived, HasBuilt, IsHonestlySigned, HonestlyBacked, ContinuesToFinalize}
 use Rattle.laws_safety.specs.Traces.{TraceEvent, Accepts, Signs}
 use Rattle.laws_safety.specs.Replicas.{Replica as Member, Honest, faults, max_faults, quorum, FewFaulty, AtLeastFrom, MayHaveSigned, Backed, IsNetworkOf}
 use Rattle.laws_safety.specs.Executions.{Execution, trace_of, IsExecution}
@@ -28,7 +28,7 @@ module _ {K L D : Type 0} (same : D → D → Bool) (elect : Elect L) (term_leng
     pub continues : ExecutionContinues s t
     pub ran : IsExecution same elect term_length i t
     pub trace : trace_of t ≡ trace_of s ++ done i
-    pub heard : (v : ℕ) (o : Proposal D) → HasHeard v o t → HasHeard v o s ⊎ (o ≡ p)
+    pub received : (v : ℕ) (o : Proposal D) → HasReceived v o t → HasReceived v o s ⊎ (o ≡ p)
     pub builds : i ≡ leader → Contains t.steps (Calls (Proposed p.round.view p.payload 0))
 
 module _ {K L D : Type 0} (same : D → D → Bool) (elect : Elect L) (term_length leader : ℕ) (p : Proposal D)
@@ -111,7 +111,7 @@ module _ {K L D : Type 0} (same : D → D → Bool) (elect : Elect L) (term_leng
         elim (accepted_before i was.0 t was.2 c h) [ inl old ↦ inl (i, was.0, was.1, old) | inr new ↦ inr new ]);
     proposals = λ i t at v o h.
         (let was = before i t at in
-        elim (was.2.heard v o h) [
+        elim (was.2.received v o h) [
           | inl old ↦ inl (i, was.0, was.1, old)
           | inr new ↦
               inr (subst (λ z. SomeHonest later (HasBuilt z)) (sym new) leader_built)

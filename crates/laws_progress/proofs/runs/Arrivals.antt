@@ -46,7 +46,7 @@ use Rattle.laws_progress.proofs.states.SkippedViews.{small_under}
 module _ {K L D : Type 0} (same : D → D → Bool) (elect : Elect L) (Q : Subject D → Type 0)
     (R : Proposal D → Type 0) where
   -- the member continues by calls that pass such certificates and certify such proposals, and its state is such then
-  pub record ComesTo (P : StateFacts K L D → Type 0) (m : MemberFacts K L D) : Type 0 where
+  pub record Attains (P : StateFacts K L D → Type 0) (m : MemberFacts K L D) : Type 0 where
     pub calls : List (CallFacts D)
     pub replies : List (ReplyFacts K D)
     pub end : MemberFacts K L D
@@ -60,7 +60,7 @@ module _ {K L D : Type 0} (same : D → D → Bool) (elect : Elect L) (Q : Subje
     pub holds : P state
 
   pub comes_here : (P : StateFacts K L D → Type 0) (m : MemberFacts K L D) (x : StateFacts K L D) → m.life ≡ Some x
-      → P x → ComesTo P m
+      → P x → Attains P m
   comes_here P m x alive holds = record {
     calls = [];
     replies = [];
@@ -80,26 +80,26 @@ module _ {K L D : Type 0} (same : D → D → Bool) (elect : Elect L) (Q : Subje
       → Q c)
       → ((p : Proposal D) → Contains (judged_by (answer same elect x m.outstanding_work call)) (true, p) → R p)
       → ((v : ℕ) (p : Proposal D) → call ≡ SetProposal v p → ⊥)
-      → ComesTo P (with_call same elect x m call) → ComesTo P m
-  comes_on P m x call alive allowed none accepted certified heard rest = record {
+      → Attains P (with_call same elect x m call) → Attains P m
+  comes_on P m x call alive allowed none accepted certified received rest = record {
     calls = call ∷ rest.calls;
-    replies = told ∷ rest.replies;
+    replies = replied ∷ rest.replies;
     end = rest.end;
     run = (with_call same elect x m call, answered same elect m x call alive allowed none, rest.run);
-    accepts = λ c h. elim (Contains-append_cases (trace_of_call call told)
+    accepts = λ c h. elim (Contains-append_cases (trace_of_call call replied)
         (trace_of_steps {L = L} (map Calls rest.calls) rest.replies) (Accepts c) h)
         [ inl now ↦ accepted c now | inr later ↦ rest.accepts c later ];
-    certifies = λ p h. elim (Contains-append_cases (judged_by told) (judged_in rest.replies) (true, p) h)
+    certifies = λ p h. elim (Contains-append_cases (judged_by replied) (judged_in rest.replies) (true, p) h)
         [ inl now ↦ certified p now | inr later ↦ rest.certifies p later ];
     hears = λ v p h. elim (Contains-cases {X = StepFacts K L D} (Calls call) (map Calls rest.calls)
-        (Calls (SetProposal v p)) h) [ inl here ↦ heard v p (cc) | inr later ↦ rest.hears v p later ];
+        (Calls (SetProposal v p)) h) [ inl here ↦ received v p (cc) | inr later ↦ rest.hears v p later ];
     state = rest.state;
     lives = rest.lives;
     holds = rest.holds;
   }
     where
-      told : ReplyFacts K D
-      told = answer same elect x m.outstanding_work call
+      replied : ReplyFacts K D
+      replied = answer same elect x m.outstanding_work call
 
 -- a nullification that may be passed in, and skips to the view or below
 pub record SkipsUpTo {D : Type 0} (Q : Subject D → Type 0) (term_length epoch view start finalized : ℕ)
@@ -141,8 +141,8 @@ module _ {K L D : Type 0} (same : D → D → Bool) (decides : (d e : D) → sam
       → SkipsUpTo Q term_length epoch view start finalized r) → (m : MemberFacts K L D) (x : StateFacts K L D)
       → m.life ≡ Some x → Near finalized verdict given x
       → ((n : MemberFacts K L D) (y : StateFacts K L D) → n.life ≡ Some y
-      → Near finalized verdict (λ r. Contains rounds r ⊎ given r) y → ComesTo same elect Q R P n)
-      → ComesTo same elect Q R P m
+      → Near finalized verdict (λ r. Contains rounds r ⊎ given r) y → Attains same elect Q R P n)
+      → Attains same elect Q R P m
   pass_every P finalized verdict [] given fits m x alive nears rest =
       rest m x alive (given_less term_length epoch count me elector parent view start finalized verdict given x nears
       (λ r. Contains [] r ⊎ given r) (λ r h. elim h [ inl none ↦ absurd (omega (arith, none.1)) | inr old ↦ old ]))
@@ -190,7 +190,7 @@ module _ {K L D : Type 0} (same : D → D → Bool) (decides : (d e : D) → sam
   -- where the parent is the last finalized view nothing more is needed
   pub stays_there : (finalized : ℕ) (verdict : Option Bool) (given : Round → Type 0) → finalized ≡ parent
       → (m : MemberFacts K L D) (x : StateFacts K L D) → m.life ≡ Some x → Near finalized verdict given x
-      → ComesTo same elect Q R (Arrived given) m
+      → Attains same elect Q R (Arrived given) m
   stays_there finalized verdict given is m x alive near = comes_here same elect Q R (Arrived given) m x alive (record {
     set = near.set;
     terms = near.terms;
@@ -223,7 +223,7 @@ module _ {K L D : Type 0} (same : D → D → Bool) (decides : (d e : D) → sam
         (subst (λ v. next_term_start term_length v ≤ start) (sym view_is) behind)) (omega (arith, view_is, next, far))
 
     -- if it was finalized, its finalization is passed in
-    pub takes_final : finalized ≤ parent → Q (subject.Finalize q) → ComesTo same elect Q R (Arrived given) m
+    pub takes_final : finalized ≤ parent → Q (subject.Finalize q) → Attains same elect Q R (Arrived given) m
     takes_final low accepted =
         comes_on same elect Q R (Arrived given) m x (AddFinalization c 0) alive takes no_fault
         (λ d h. subst Q (accepted_is d h) accepted) (λ p h. absurd (omega (arith, h.1))) (λ v p e. cc)
@@ -262,13 +262,13 @@ module _ {K L D : Type 0} (same : D → D → Bool) (decides : (d e : D) → sam
 
     -- if it was certified, its notarization is passed in, and then a true verdict
     pub takes_certified : finalized ≤ parent → (verdict ≡ Some false → ⊥) → Q (subject.Notarize q)
-        → ((p : Proposal D) → p.round.view ≡ parent → R p) → ComesTo same elect Q R (Arrived given) m
+        → ((p : Proposal D) → p.round.view ≡ parent → R p) → Attains same elect Q R (Arrived given) m
     takes_certified low not_bad accepted certified =
         comes_on same elect Q R (Arrived given) m x (AddNotarization c) alive takes no_fault
         (λ d h. subst Q (accepted_is d h) accepted) (λ p h. absurd (omega (arith, h.1))) (λ v p e. cc)
         (comes_on same elect Q R (Arrived given) (with_call same elect x m (AddNotarization c)) y
         (Certified parent true 0) refl then_takes then_no_fault (λ d h. absurd (omega (arith, h.1)))
-        (λ p h. certified p (told_placed (round_at y parent) refl p h)) (λ v p e. cc)
+        (λ p h. certified p (replied_placed (round_at y parent) refl p h)) (λ v p e. cc)
         (comes_here same elect Q R (Arrived given) _ z refl (record {
           set = last.set;
           terms = last.terms;
@@ -349,11 +349,11 @@ module _ {K L D : Type 0} (same : D → D → Bool) (decides : (d e : D) → sam
             (not_late term_length epoch count me elector parent view start finalized verdict given y after (parent + 1))
             ∙ and-false (true && is_tracked y parent))
 
-        told_placed : (o : Option (RoundFacts K D)) → round_at y parent ≡ o → (p : Proposal D)
+        replied_placed : (o : Option (RoundFacts K D)) → round_at y parent ≡ o → (p : Proposal D)
             → Contains (judged_by {K = K} (Judged true (option_and_then (λ (r : RoundFacts K D). r.notarization) o)))
             (true, p) → p.round.view ≡ parent
-        told_placed None at p h = absurd (omega (arith, h.1))
-        told_placed (Some r) at p h = by_notarization r.notarization refl h
+        replied_placed None at p h = absurd (omega (arith, h.1))
+        replied_placed (Some r) at p h = by_notarization r.notarization refl h
           where
             by_notarization : (n : Option (ProposalFacts D)) → r.notarization ≡ n
                 → Contains (judged_by {K = K} (Judged true n)) (true, p) → p.round.view ≡ parent

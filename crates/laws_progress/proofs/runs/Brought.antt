@@ -245,7 +245,7 @@ module _ {K L D : Type 0} (same : D → D → Bool) (decides : (d e : D) → sam
             now_held (some_or (first_certificate_by v x e) _ (some_still (round_of x v).slot.held _ (led.held v there)))
         by_old false none =
             let neither = none_both (round_of x v).notarization (round_of x v).finalization none in
-            let told : (is_some (or_new (round_of x v).notarization (brings_notarization v e)) || is_some
+            let replied : (is_some (or_new (round_of x v).notarization (brings_notarization v e)) || is_some
             (or_new (round_of x v).finalization (brings_finalization v e))) ≡ true =
             (λ i. is_some (sym (follows.rounds v kept) i).notarization || is_some
             (sym (follows.rounds v kept) i).finalization) ∙ is in
@@ -253,7 +253,7 @@ module _ {K L D : Type 0} (same : D → D → Bool) (decides : (d e : D) → sam
             (first_held x v e neither.0 neither.1
             (by_new (brings_notarization v e) (brings_finalization v e)
             ((λ i. is_some (or_new (sym neither.0 i) (brings_notarization v e)) || is_some
-            (or_new (sym neither.1 i) (brings_finalization v e))) ∙ told))))
+            (or_new (sym neither.1 i) (brings_finalization v e))) ∙ replied))))
           where
             by_new : (n f : Option (ProposalFacts D)) → (is_some (or_new None n) || is_some (or_new None f)) ≡ true
                 → (is_some n || is_some f) ≡ true

@@ -30,7 +30,7 @@ use Rattle.simplex_member.specs.Events.{in_context, events_of}
 use Rattle.laws_safety.specs.Lawful.{HasSigned}
 use Rattle.laws_safety.proofs.frames.CallsMake.{call_by_event}
 use Rattle.laws_safety.proofs.lists.Signed.{signed_none, only_signed}
-use Rattle.laws_safety.proofs.votes.LifeCalls.{nullify_silent, nullify_told, no_key, no_rule}
+use Rattle.laws_safety.proofs.votes.LifeCalls.{nullify_silent, nullify_replied, no_key, no_rule}
 use Rattle.laws_safety.proofs.lists.Splits.{only_one}
 use Rattle.laws_progress.specs.ViewCauses.{IsLedTo, judged_by, HasJudged}
 use Rattle.laws_progress.proofs.runs.Brought.{BringsAccepted, brings_nothing}
@@ -96,20 +96,20 @@ module _ {K L D : Type 0} (same : D → D → Bool) (decides : (d e : D) → sam
   epoch = x.settings.epoch
 
   -- a verdict is received with the notarization that was stored
-  judged_told : (v now : ℕ) (success : Bool) → takes_verdict x v success ≡ true → is_tracked x v ≡ true
+  judged_replied : (v now : ℕ) (success : Bool) → takes_verdict x v success ≡ true → is_tracked x v ≡ true
       → HasJudged success x.settings.epoch (others (calls.Certified v success now)) v
-  judged_told v now success takes tracked = by_round (round_at x v) refl (and_parts (is_started x) _ takes).1 tracked
+  judged_replied v now success takes tracked = by_round (round_at x v) refl (and_parts (is_started x) _ takes).1 tracked
     where
       by_notarization : (r : RoundFacts K D) (n : Option (ProposalFacts D)) → round_at x v ≡ Some r → r.notarization ≡ n
           → is_some n ≡ true → HasJudged success x.settings.epoch (others (calls.Certified v success now)) v
       by_notarization r None at is some = absurd (false≢true some)
       by_notarization r (Some c) at is some =
-          let told : certified_answer x v ≡ Some c = ap (option_and_then (λ (q : RoundFacts K D). q.notarization)) at
+          let replied : certified_answer x v ≡ Some c = ap (option_and_then (λ (q : RoundFacts K D). q.notarization)) at
           ∙ is in
           let there : (round_of x v).notarization ≡ Some c =
           ap (λ f. (unwrap_or f (new_round x.me x.members (round_number x v))).notarization) at ∙ is in (
             c.proposal,
-            subst (λ a. Contains (verdicts ++ judged_by {K = K} (Judged success a)) (success, c.proposal)) (sym told)
+            subst (λ a. Contains (verdicts ++ judged_by {K = K} (Judged success a)) (success, c.proposal)) (sym replied)
                 (Contains-append_right verdicts ((success, c.proposal) ∷ []) (success, c.proposal)
                 (0, omega arith, refl)),
             (led.rounds.notarized v c there).0,
@@ -163,19 +163,19 @@ module _ {K L D : Type 0} (same : D → D → Bool) (decides : (d e : D) → sam
     notarized = λ d is. absurd (cc);
     nullified = λ d is. absurd (cc);
     finalized = λ d is. absurd (cc);
-    judged = λ w told is. by_view w told (w == v) refl (is_tracked x v) refl is;
+    judged = λ w replied is. by_view w replied (w == v) refl (is_tracked x v) refl is;
   }
     where
-      by_view : (w : ℕ) (told : Bool) (a : Bool) → (w == v) ≡ a → (b : Bool) → is_tracked x v ≡ b
-          → (if a && b then Some success else None) ≡ Some told
-          → HasJudged told x.settings.epoch (others (calls.Certified v success now)) w
-      by_view w told true at true tracked is =
-          let one : success ≡ told = ap (λ f. unwrap_or f told) is in
+      by_view : (w : ℕ) (replied : Bool) (a : Bool) → (w == v) ≡ a → (b : Bool) → is_tracked x v ≡ b
+          → (if a && b then Some success else None) ≡ Some replied
+          → HasJudged replied x.settings.epoch (others (calls.Certified v success now)) w
+      by_view w replied true at true tracked is =
+          let one : success ≡ replied = ap (λ f. unwrap_or f replied) is in
           subst (λ s. HasJudged s x.settings.epoch (others (calls.Certified v success now)) w) one
           (subst (HasJudged success x.settings.epoch (others (calls.Certified v success now)))
-          (sym (eqb-true w v at)) (judged_told v now success allowed tracked))
-      by_view w told true at false tracked is = absurd (false≢true (ap is_some is))
-      by_view w told false at b tracked is = absurd (false≢true (ap is_some is))
+          (sym (eqb-true w v at)) (judged_replied v now success allowed tracked))
+      by_view w replied true at false tracked is = absurd (false≢true (ap is_some is))
+      by_view w replied false at b tracked is = absurd (false≢true (ap is_some is))
   call_brings (calls.Proposed v payload now) allowed =
       in_context_brings (calls.Proposed v payload now) (λ c. event.Proposed c payload now)
       (λ c. brings_nothing _ _ _ x (event.Proposed c payload now) refl refl refl (λ w. refl)) (context_at o v)
@@ -220,7 +220,7 @@ module _ {K L D : Type 0} (same : D → D → Bool) (decides : (d e : D) → sam
           let same_verdict : given ≡ success = cc in
           subst (λ s. HasJudged s round.epoch (others (calls.Certified v given now)) round.view) same_verdict
           (subst (λ (r : Round). HasJudged given r.epoch (others (calls.Certified v given now)) r.view) same_round
-          (judged_told v now given allowed (first_tracked v first)))
+          (judged_replied v now given allowed (first_tracked v first)))
       by_first false later h = absurd (omega (arith, h.1))
   recorded_verdict (calls.AddNotarization c) allowed success round h =
       absurd (no_certificate_verdict success round _ _ (λ e. cc) h)
@@ -253,7 +253,7 @@ module _ {K L D : Type 0} (same : D → D → Bool) (decides : (d e : D) → sam
       by_key None me may = silent (nullify_silent elect x v (no_key (may_nullify x v) x.me me))
       by_key (Some m) me may =
           let signs = subst (λ (a : Option (Bool × ArtifactFacts D)).
-          HasSigned (signed_in {K = K} (Nullify a)) (subject.Nullify round)) (nullify_told elect x v m me may) h in
+          HasSigned (signed_in {K = K} (Nullify a)) (subject.Nullify round)) (nullify_replied elect x v m me may) h in
           let e = only_signed (Signs m (subject.Nullify (round_number x v))) (subject.Nullify round) signs in
           let same_round : round_number x v ≡ round = cc in
           subst (λ (r : Round). IsLedTo term_length r.epoch trace verdicts r.view) same_round
@@ -281,10 +281,10 @@ module _ {K L D : Type 0} (same : D → D → Bool) (decides : (d e : D) → sam
   answered_vote _ round h = absurd (signed_none (subject.Nullify round) h)
 
   -- what it judges was notarized
-  told_notarized : (v : ℕ) (given success : Bool) (p : Proposal D)
+  replied_notarized : (v : ℕ) (given success : Bool) (p : Proposal D)
       → Contains (judged_by {K = K} (Judged given (certified_answer x v))) (success, p)
       → Contains trace (Accepts (subject.Notarize p))
-  told_notarized v given success p h = by_round (round_at x v) refl h
+  replied_notarized v given success p h = by_round (round_at x v) refl h
     where
       by_notarization : (r : RoundFacts K D) (n : Option (ProposalFacts D)) → round_at x v ≡ Some r → r.notarization ≡ n
           → Contains (judged_by {K = K} (Judged given n)) (success, p) → Contains trace (Accepts (subject.Notarize p))
@@ -303,5 +303,5 @@ module _ {K L D : Type 0} (same : D → D → Bool) (decides : (d e : D) → sam
 
   pub judged_notarized : (call : CallFacts D) (success : Bool) (p : Proposal D)
       → Contains (judged_by (answer same elect x o call)) (success, p) → Contains trace (Accepts (subject.Notarize p))
-  judged_notarized (calls.Certified v given now) success p h = told_notarized v given success p h
+  judged_notarized (calls.Certified v given now) success p h = replied_notarized v given success p h
   judged_notarized _ success p h = absurd (omega (arith, h.1))

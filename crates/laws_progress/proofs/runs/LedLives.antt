@@ -115,20 +115,20 @@ cut_within m drop false e h = left_within m.closed drop m.entries e h
 
 -- an entry's verdict, given or replayed
 module _ {D : Type 0} (epoch : ℕ) (verdicts : List (Bool × Proposal D)) where
-  reply_causes : (v w : ℕ) (success told b : Bool) → HasJudged success epoch verdicts v → (a : Bool) → (w == v) ≡ a
-      → (if a && b then Some success else None) ≡ Some told → HasJudged told epoch verdicts w
-  reply_causes v w success told true known true at is =
-      subst (λ s. HasJudged s epoch verdicts w) (ap (λ f. unwrap_or f told) is)
+  reply_causes : (v w : ℕ) (success replied b : Bool) → HasJudged success epoch verdicts v → (a : Bool) → (w == v) ≡ a
+      → (if a && b then Some success else None) ≡ Some replied → HasJudged replied epoch verdicts w
+  reply_causes v w success replied true known true at is =
+      subst (λ s. HasJudged s epoch verdicts w) (ap (λ f. unwrap_or f replied) is)
       (subst (HasJudged success epoch verdicts) (sym (eqb-true w v at)) known)
-  reply_causes v w success told false known true at is = absurd (false≢true (ap is_some is))
-  reply_causes v w success told b known false at is = absurd (false≢true (ap is_some is))
+  reply_causes v w success replied false known true at is = absurd (false≢true (ap is_some is))
+  reply_causes v w success replied b known false at is = absurd (false≢true (ap is_some is))
 
-  replayed_by : (v w : ℕ) (success told : Bool) → HasJudged success epoch verdicts v → (a : Bool) → (w == v) ≡ a
-      → (if a then Some success else None) ≡ Some told → HasJudged told epoch verdicts w
-  replayed_by v w success told known true at is =
-      subst (λ s. HasJudged s epoch verdicts w) (ap (λ f. unwrap_or f told) is)
+  replayed_by : (v w : ℕ) (success replied : Bool) → HasJudged success epoch verdicts v → (a : Bool) → (w == v) ≡ a
+      → (if a then Some success else None) ≡ Some replied → HasJudged replied epoch verdicts w
+  replayed_by v w success replied known true at is =
+      subst (λ s. HasJudged s epoch verdicts w) (ap (λ f. unwrap_or f replied) is)
       (subst (HasJudged success epoch verdicts) (sym (eqb-true w v at)) known)
-  replayed_by v w success told known false at is = absurd (false≢true (ap is_some is))
+  replayed_by v w success replied known false at is = absurd (false≢true (ap is_some is))
 
 -- what is known of an entry
 abbrev IsKnown : {D : Type 0} → ℕ → List (TraceEvent D) → List (Bool × Proposal D) → ArtifactFacts D → Type 0
@@ -156,7 +156,7 @@ module _ {K L D : Type 0} (same : D → D → Bool) (decides : (d e : D) → sam
     notarized = λ d is. absurd (cc);
     nullified = λ d is. absurd (cc);
     finalized = λ d is. absurd (cc);
-    judged = λ w told is. reply_causes epoch verdicts round.view w success told (is_tracked x round.view) known
+    judged = λ w replied is. reply_causes epoch verdicts round.view w success replied (is_tracked x round.view) known
         (w == round.view) refl is;
   }
 
@@ -167,7 +167,7 @@ module _ {K L D : Type 0} (same : D → D → Bool) (decides : (d e : D) → sam
     notarized = λ d is. absurd (cc);
     nullified = λ d is. absurd (cc);
     finalized = λ d is. absurd (cc);
-    judged = λ w told is. replayed_by epoch verdicts round.view w success told known (w == round.view) refl is;
+    judged = λ w replied is. replayed_by epoch verdicts round.view w success replied known (w == round.view) refl is;
   }
 
   replayed_certificate : (x : StateFacts K L D) (c : CertificateFacts D)
@@ -202,7 +202,7 @@ module _ {K L D : Type 0} (same : D → D → Bool) (decides : (d e : D) → sam
             subst (λ f. Contains trace (Accepts (subject.Notarize f.proposal))) one known);
         nullified = λ d is. absurd (cc);
         finalized = λ d is. absurd (cc);
-        judged = λ v told is. absurd (cc);
+        judged = λ v replied is. absurd (cc);
       } in
       quietly y (event.Replay (Accepted (Notarized c))) takes.replays (replayed_certificate y (Notarized c))
       (quietly x (event.AddNotarization c) takes.kept brings led)
@@ -214,7 +214,7 @@ module _ {K L D : Type 0} (same : D → D → Bool) (decides : (d e : D) → sam
         nullified = λ d is. (let one : c ≡ d = cc in
             subst (λ f. Contains trace (Accepts (subject.Nullify f.round))) one known);
         finalized = λ d is. absurd (cc);
-        judged = λ v told is. absurd (cc);
+        judged = λ v replied is. absurd (cc);
       } in
       quietly y (event.Replay (Accepted (Nullified c))) takes.replays (replayed_certificate y (Nullified c))
       (quietly x (event.AddNullification c now) takes.kept brings led)
@@ -226,7 +226,7 @@ module _ {K L D : Type 0} (same : D → D → Bool) (decides : (d e : D) → sam
         nullified = λ d is. absurd (cc);
         finalized = λ d is. (let one : c ≡ d = cc in
             subst (λ f. Contains trace (Accepts (subject.Finalize f.proposal))) one known);
-        judged = λ v told is. absurd (cc);
+        judged = λ v replied is. absurd (cc);
       } in
       quietly y (event.Replay (Accepted (Finalized c))) takes.replays (replayed_certificate y (Finalized c))
       (quietly x (event.AddFinalization c now) takes.kept brings led)
@@ -321,8 +321,8 @@ module _ {K L D : Type 0} (same : D → D → Bool) (decides : (d e : D) → sam
       (verdicts ++ judged_by (reply_of same elect x m.outstanding_work call)) (left_of same elect x m call)
   answered_led call x alive led = by_allowed (is_allowed x m.outstanding_work call) refl
     where
-      told : ReplyFacts K D
-      told = answer same elect x m.outstanding_work call
+      replied : ReplyFacts K D
+      replied = answer same elect x m.outstanding_work call
 
       here : Led term_length trace verdicts x
       here = subst (HoldsIn (Led term_length trace verdicts)) alive led.life
@@ -366,14 +366,14 @@ module _ {K L D : Type 0} (same : D → D → Bool) (decides : (d e : D) → sam
       by_allowed true allowed = by_fault (fault_of x call) refl allowed
       by_allowed false not_allowed = rw not_allowed (still_led led)
 
-  pub told_led : (call : CallFacts D) (told : ReplyFacts K D) (left : MemberFacts K L D)
-      → MemberLed term_length trace verdicts m → IsCall same elect m call told left
-      → MemberLed term_length (trace ++ trace_of_call call told) (verdicts ++ judged_by told) left
+  pub replied_led : (call : CallFacts D) (replied : ReplyFacts K D) (left : MemberFacts K L D)
+      → MemberLed term_length trace verdicts m → IsCall same elect m call replied left
+      → MemberLed term_length (trace ++ trace_of_call call replied) (verdicts ++ judged_by replied) left
   unfolding IsCall
-  told_led call told left led is_call = by_life m.life refl is_call
+  replied_led call replied left led is_call = by_life m.life refl is_call
     where
-      by_life : (o : Option (StateFacts K L D)) → m.life ≡ o → AnswersAlive same elect o m call told left
-          → MemberLed term_length (trace ++ trace_of_call call told) (verdicts ++ judged_by told) left
+      by_life : (o : Option (StateFacts K L D)) → m.life ≡ o → AnswersAlive same elect o m call replied left
+          → MemberLed term_length (trace ++ trace_of_call call replied) (verdicts ++ judged_by replied) left
       by_life None dead (tells, leaves) = rw (tells, leaves) (still_led led)
       by_life (Some x) alive (inl (tells, leaves)) = rw (tells, leaves) (answered_led call x alive led)
       by_life (Some x) alive (inr (_, tells, inl (_, leaves))) = rw (tells, leaves) (still_led led)
@@ -506,18 +506,20 @@ module _ {K L D : Type 0} (same : D → D → Bool) (decides : (d e : D) → sam
   end_led [] [] trace verdicts m end fresh lives led run =
       subst (MemberLed term_length (trace ++ []) (verdicts ++ [])) run
       (still_led same decides elect term_length trace verdicts m led)
-  end_led [] (told ∷ replies) trace verdicts m end fresh lives led run = absurd run
+  end_led [] (replied ∷ replies) trace verdicts m end fresh lives led run = absurd run
   end_led (step ∷ steps) [] trace verdicts m end fresh lives led run = absurd run
-  end_led (Calls call ∷ steps) (told ∷ replies) trace verdicts m end fresh lives led (next, is_step, rest) =
-      let kept = call_lives_on same decides elect term_length some trace m call told next lives is_step in
-      let then_led = told_led same decides elect term_length trace verdicts m call told next led is_step in
-      let last = end_led steps replies (trace ++ trace_of_call call told) (verdicts ++ judged_by told) next end fresh
+  end_led (Calls call ∷ steps) (replied ∷ replies) trace verdicts m end fresh lives led (next, is_step, rest) =
+      let kept = call_lives_on same decides elect term_length some trace m call replied next lives is_step in
+      let then_led = replied_led same decides elect term_length trace verdicts m call replied next led is_step in
+      let last = end_led steps replies (trace ++ trace_of_call call replied)
+      (verdicts ++ judged_by replied) next end fresh
       kept then_led rest in
-      subst (λ ds. MemberLed term_length ds (verdicts ++ (judged_by told ++ judged_in replies)) end)
-      (append_assoc trace (trace_of_call call told) (trace_of_steps steps replies))
-      (subst (λ ps. MemberLed term_length ((trace ++ trace_of_call call told) ++ trace_of_steps steps replies) ps end)
-      (append_assoc verdicts (judged_by told) (judged_in replies)) last)
-  end_led (Prunes ∷ steps) (told ∷ replies) trace verdicts m end fresh lives led (next, (tells, leaves), rest) =
+      subst (λ ds. MemberLed term_length ds (verdicts ++ (judged_by replied ++ judged_in replies)) end)
+      (append_assoc trace (trace_of_call call replied) (trace_of_steps steps replies))
+      (subst (λ ps. MemberLed term_length
+      ((trace ++ trace_of_call call replied) ++ trace_of_steps steps replies) ps end)
+      (append_assoc verdicts (judged_by replied) (judged_in replies)) last)
+  end_led (Prunes ∷ steps) (replied ∷ replies) trace verdicts m end fresh lives led (next, (tells, leaves), rest) =
       let kept : MemberLives term_length (trace ++ []) next = rw leaves (prune_lives_on term_length trace m lives) in
       let then_led : MemberLed term_length (trace ++ []) (verdicts ++ []) next =
       rw leaves (pruned_led same decides elect term_length trace verdicts m lives led) in
@@ -526,19 +528,20 @@ module _ {K L D : Type 0} (same : D → D → Bool) (decides : (d e : D) → sam
       (append_assoc trace [] (trace_of_steps steps replies))
       (subst (λ ps. MemberLed term_length ((trace ++ []) ++ trace_of_steps steps replies) ps end)
       (append_assoc verdicts [] (judged_in replies)) last))
-  end_led (Restarts r ∷ steps) (told ∷ replies) trace verdicts m end fresh lives led (next, is_step, rest) =
-      let kept : MemberLives term_length (trace ++ trace_at (Restarts r) told) next =
+  end_led (Restarts r ∷ steps) (replied ∷ replies) trace verdicts m end fresh lives led (next, is_step, rest) =
+      let kept : MemberLives term_length (trace ++ trace_at (Restarts r) replied) next =
       rw is_step.2
       (restart_lives_on same decides elect term_length some trace m r is_step.0 next fresh.0 lives is_step.1) in
-      let then_led : MemberLed term_length (trace ++ trace_at (Restarts r) told) (verdicts ++ judged_by told) next =
+      let then_led : MemberLed term_length (trace ++ trace_at (Restarts r) replied)
+      (verdicts ++ judged_by replied) next =
       rw is_step.2 (restarted_led same decides elect term_length trace verdicts m lives led r is_step.0 next fresh.0
       is_step.1) in
-      let last = end_led steps replies (trace ++ trace_at (Restarts r) told) (verdicts ++ judged_by told) next end
+      let last = end_led steps replies (trace ++ trace_at (Restarts r) replied) (verdicts ++ judged_by replied) next end
       fresh.1 kept then_led rest in
-      subst (λ ds. MemberLed term_length ds (verdicts ++ (judged_by told ++ judged_in replies)) end)
-      (append_assoc trace (trace_at (Restarts r) told) (trace_of_steps steps replies))
-      (subst (λ ps. MemberLed term_length ((trace ++ trace_at (Restarts r) told) ++ trace_of_steps steps replies) ps
-      end) (append_assoc verdicts (judged_by told) (judged_in replies)) last)
+      subst (λ ds. MemberLed term_length ds (verdicts ++ (judged_by replied ++ judged_in replies)) end)
+      (append_assoc trace (trace_at (Restarts r) replied) (trace_of_steps steps replies))
+      (subst (λ ps. MemberLed term_length ((trace ++ trace_at (Restarts r) replied) ++ trace_of_steps steps replies) ps
+      end) (append_assoc verdicts (judged_by replied) (judged_in replies)) last)
 
 module _ {K L D : Type 0} (same : D → D → Bool) (decides : (d e : D) → same d e ≡ true → d ≡ e) (elect : Elect L)
     (term_length i : ℕ) (s : Execution K L D) (ran : IsExecution same elect term_length i s) where

@@ -11,7 +11,7 @@ use Rattle.simplex_voter.specs.Parents.{highest_explicit}
 use Rattle.simplex_voter.specs.Refusals.{is_too_large}
 use Rattle.simplex_member.specs.Calls.{CallFacts, SetProposal, TryPropose, Proposed, TryVerify, Verified, ConstructNotarize, AddNotarization, Certified, ConstructFinalize, AddFinalization}
 use Rattle.simplex_member.specs.Runs.{StepFacts, Calls}
-use Rattle.laws_safety.specs.Continuations.{ExecutionContinues, HasHeard}
+use Rattle.laws_safety.specs.Continuations.{ExecutionContinues, HasReceived}
 use Rattle.laws_safety.specs.Executions.{Execution, trace_of, IsExecution}
 use Rattle.laws_safety.proofs.lists.Splits.{Contains-cases}
 use Rattle.laws_progress.specs.ViewPositions.{IsFreshStart, CanStandOn, BuildsOn, proposal_in}
@@ -88,7 +88,7 @@ module _ {K L D : Type 0} (same : D → D → Bool) (elect : Elect L) where
     pub ran : IsExecution same elect term_length i t
     pub trace : trace_of t ≡ trace_of s ++ trace_done (replica_of p.round.epoch p.round.view p.parent p.payload i)
         p.payload
-    pub heard : (v : ℕ) (o : Proposal D) → HasHeard v o t → HasHeard v o s ⊎ (o ≡ p)
+    pub received : (v : ℕ) (o : Proposal D) → HasReceived v o t → HasReceived v o s ⊎ (o ≡ p)
     pub builds : i ≡ leader → Contains t.steps (Calls (Proposed p.round.view p.payload 0))
 
 module _ {K L D : Type 0} (same : D → D → Bool) (decides : (d e : D) → same d e ≡ true → d ≡ e)
@@ -121,8 +121,8 @@ module _ {K L D : Type 0} (same : D → D → Bool) (decides : (d e : D) → sam
           fresh can j) (lead.2 j))
 
       hears : (calls : List (CallFacts D)) → AllHave (HearsOnly {K = K} {L = L} p) (map Calls calls)
-          → (t : Execution K L D) → t.steps ≡ s.steps ++ map Calls calls → (v : ℕ) (o : Proposal D) → HasHeard v o t
-          → HasHeard v o s ⊎ (o ≡ p)
+          → (t : Execution K L D) → t.steps ≡ s.steps ++ map Calls calls → (v : ℕ) (o : Proposal D) → HasReceived v o t
+          → HasReceived v o s ⊎ (o ≡ p)
       hears calls all t steps v o h = elim (Contains-append_cases s.steps (map Calls calls) (Calls (SetProposal v o))
           (subst (λ ss. Contains ss (Calls (SetProposal v o))) steps h)) [
             | inl old ↦ inl old
@@ -142,7 +142,7 @@ module _ {K L D : Type 0} (same : D → D → Bool) (decides : (d e : D) → sam
               continues = on.continues;
               ran = on.ran;
               trace = on.trace;
-              heard = hears (follower_calls p) (follower_hears p) on.execution on.steps;
+              received = hears (follower_calls p) (follower_hears p) on.execution on.steps;
               builds = λ is. absurd (other is);
             },
           )
@@ -167,7 +167,7 @@ module _ {K L D : Type 0} (same : D → D → Bool) (decides : (d e : D) → sam
               continues = on.continues;
               ran = on.ran;
               trace = on.trace;
-              heard = hears (leader_calls p) (leader_hears p) on.execution on.steps;
+              received = hears (leader_calls p) (leader_hears p) on.execution on.steps;
               builds = λ is. built;
             },
           )

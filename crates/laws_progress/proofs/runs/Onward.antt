@@ -16,8 +16,8 @@ use Rattle.laws_progress.proofs.states.Sequences.{Does}
 pub judged_joined : {K D : Type 0} (replies more : List (ReplyFacts K D))
     → judged_in (replies ++ more) ≡ judged_in replies ++ judged_in more
 judged_joined [] more = refl
-judged_joined (told ∷ replies) more = ap (λ ps. judged_by told ++ ps) (judged_joined replies more)
-    ∙ sym (append_assoc (judged_by told) (judged_in replies) (judged_in more))
+judged_joined (replied ∷ replies) more = ap (λ ps. judged_by replied ++ ps) (judged_joined replies more)
+    ∙ sym (append_assoc (judged_by replied) (judged_in replies) (judged_in more))
 
 module _ {K L D : Type 0} where
   -- a call is no restart
@@ -28,34 +28,34 @@ module _ {K L D : Type 0} where
       [ inl here ↦ absurd (cc) | inr later ↦ only_calls calls r later ]
 
 module _ {K L D : Type 0} (same : D → D → Bool) (elect : Elect L) where
-  pub run_joined : (steps more : List (StepFacts K L D)) (told rest : List (ReplyFacts K D))
-      (m n end : MemberFacts K L D) → IsRun same elect m steps told n → IsRun same elect n more rest end
-      → IsRun same elect m (steps ++ more) (told ++ rest) end
+  pub run_joined : (steps more : List (StepFacts K L D)) (replied rest : List (ReplyFacts K D))
+      (m n end : MemberFacts K L D) → IsRun same elect m steps replied n → IsRun same elect n more rest end
+      → IsRun same elect m (steps ++ more) (replied ++ rest) end
   run_joined [] more [] rest m n end run goes = subst (λ k. IsRun same elect k more rest end) (sym run) goes
-  run_joined [] more (t ∷ told) rest m n end run goes = absurd run
+  run_joined [] more (t ∷ replied) rest m n end run goes = absurd run
   run_joined (s ∷ steps) more [] rest m n end run goes = absurd run
-  run_joined (s ∷ steps) more (t ∷ told) rest m n end (next, is_step, run) goes =
-      (next, is_step, run_joined steps more told rest next n end run goes)
+  run_joined (s ∷ steps) more (t ∷ replied) rest m n end (next, is_step, run) goes =
+      (next, is_step, run_joined steps more replied rest next n end run goes)
 
-  pub traces_joined : (steps more : List (StepFacts K L D)) (told rest : List (ReplyFacts K D))
-      (m n : MemberFacts K L D) → IsRun same elect m steps told n
-      → trace_of_steps (steps ++ more) (told ++ rest) ≡ trace_of_steps steps told ++ trace_of_steps more rest
+  pub traces_joined : (steps more : List (StepFacts K L D)) (replied rest : List (ReplyFacts K D))
+      (m n : MemberFacts K L D) → IsRun same elect m steps replied n
+      → trace_of_steps (steps ++ more) (replied ++ rest) ≡ trace_of_steps steps replied ++ trace_of_steps more rest
   traces_joined [] more [] rest m n run = refl
-  traces_joined [] more (t ∷ told) rest m n run = absurd run
+  traces_joined [] more (t ∷ replied) rest m n run = absurd run
   traces_joined (s ∷ steps) more [] rest m n run = absurd run
-  traces_joined (s ∷ steps) more (t ∷ told) rest m n (next, is_step, run) =
-      ap (λ ds. trace_at s t ++ ds) (traces_joined steps more told rest next n run)
-      ∙ sym (append_assoc (trace_at s t) (trace_of_steps steps told) (trace_of_steps more rest))
+  traces_joined (s ∷ steps) more (t ∷ replied) rest m n (next, is_step, run) =
+      ap (λ ds. trace_at s t ++ ds) (traces_joined steps more replied rest next n run)
+      ∙ sym (append_assoc (trace_at s t) (trace_of_steps steps replied) (trace_of_steps more rest))
 
   -- each step beside its reply
-  pub paired : (steps : List (StepFacts K L D)) (told : List (ReplyFacts K D)) (m n : MemberFacts K L D)
-      → IsRun same elect m steps told n → (more : List (StepFacts K L D × ReplyFacts K D))
-      × (map (λ e. e.0) more ≡ steps) × (map (λ e. e.1) more ≡ told)
+  pub paired : (steps : List (StepFacts K L D)) (replied : List (ReplyFacts K D)) (m n : MemberFacts K L D)
+      → IsRun same elect m steps replied n → (more : List (StepFacts K L D × ReplyFacts K D))
+      × (map (λ e. e.0) more ≡ steps) × (map (λ e. e.1) more ≡ replied)
   paired [] [] m n run = ([], refl, refl)
-  paired [] (t ∷ told) m n run = absurd run
+  paired [] (t ∷ replied) m n run = absurd run
   paired (s ∷ steps) [] m n run = absurd run
-  paired (s ∷ steps) (t ∷ told) m n (next, is_step, run) =
-      let rest = paired steps told next n run in
+  paired (s ∷ steps) (t ∷ replied) m n (next, is_step, run) =
+      let rest = paired steps replied next n run in
       ((s, t) ∷ rest.0, ap (λ ss. s ∷ ss) rest.1, ap (λ ts. t ∷ ts) rest.2)
 
   -- the execution with these calls, each beside its reply

@@ -64,13 +64,13 @@ module _ {D : Type 0} (signer : ℕ) (round : Round) where
       (signer, subst (λ ds. Contains ds vote) (sym is) (Contains-middle before after vote))
 
   -- the vote is all that its step does, and no verdict is received then
-  record IsAll {K L : Type 0} (step : StepFacts K L D) (told : ReplyFacts K D) (before : List (TraceEvent D)) : Type
+  record IsAll {K L : Type 0} (step : StepFacts K L D) (replied : ReplyFacts K D) (before : List (TraceEvent D)) : Type
       0 where
-    alone : IsAlone (trace_at step told) before
-    no_verdict : judged_by told ≡ []
+    alone : IsAlone (trace_at step replied) before
+    no_verdict : judged_by replied ≡ []
 
-  call_all : {K L : Type 0} (call : CallFacts D) (told : ReplyFacts K D) (before after : List (TraceEvent D))
-      → trace_at {L = L} (Calls call) told ≡ before ++ vote ∷ after → IsAll {L = L} (Calls call) told before
+  call_all : {K L : Type 0} (call : CallFacts D) (replied : ReplyFacts K D) (before after : List (TraceEvent D))
+      → trace_at {L = L} (Calls call) replied ≡ before ++ vote ∷ after → IsAll {L = L} (Calls call) replied before
   call_all call (Added b o) before after is = absurd (no_certificate call before after is)
   call_all call (AddedNullification b) before after is = absurd (no_certificate call before after is)
   call_all call (Nullify (Some (retry, entry))) before after is =
@@ -81,8 +81,8 @@ module _ {D : Type 0} (signer : ℕ) (round : Round) where
       record { alone = entry_split entry before after is; no_verdict = refl }
   call_all call _ before after is = absurd (none_split before after vote is)
 
-  restart_all : {K L : Type 0} (r : _) (told : ReplyFacts K D) (before after : List (TraceEvent D))
-      → trace_at {L = L} (Restarts r) told ≡ before ++ vote ∷ after → IsAll {L = L} (Restarts r) told before
+  restart_all : {K L : Type 0} (r : _) (replied : ReplyFacts K D) (before after : List (TraceEvent D))
+      → trace_at {L = L} (Restarts r) replied ≡ before ++ vote ∷ after → IsAll {L = L} (Restarts r) replied before
   restart_all r (Nullify (Some (retry, entry))) before after is =
       record { alone = entry_split entry before after is; no_verdict = refl }
   restart_all r (Finalize (Some entry)) before after is =
@@ -93,8 +93,8 @@ module _ {D : Type 0} (signer : ℕ) (round : Round) where
       absurd (no_floor r.start.floor before after (sym (append-nil (of_floor r.start.floor)) ∙ is))
   restart_all r _ before after is = absurd (none_split before after vote is)
 
-  prune_all : {K L : Type 0} (told : ReplyFacts K D) (before after : List (TraceEvent D))
-      → trace_at {L = L} Prunes told ≡ before ++ vote ∷ after → IsAll {L = L} Prunes told before
+  prune_all : {K L : Type 0} (replied : ReplyFacts K D) (before after : List (TraceEvent D))
+      → trace_at {L = L} Prunes replied ≡ before ++ vote ∷ after → IsAll {L = L} Prunes replied before
   prune_all (Nullify (Some (retry, entry))) before after is =
       record { alone = entry_split entry before after is; no_verdict = refl }
   prune_all (Finalize (Some entry)) before after is =
@@ -103,11 +103,11 @@ module _ {D : Type 0} (signer : ℕ) (round : Round) where
       record { alone = entry_split entry before after is; no_verdict = refl }
   prune_all _ before after is = absurd (none_split before after vote is)
 
-  step_all : {K L : Type 0} (step : StepFacts K L D) (told : ReplyFacts K D) (before after : List (TraceEvent D))
-      → trace_at step told ≡ before ++ vote ∷ after → IsAll step told before
-  step_all (Calls call) told before after is = call_all call told before after is
-  step_all Prunes told before after is = prune_all told before after is
-  step_all (Restarts r) told before after is = restart_all r told before after is
+  step_all : {K L : Type 0} (step : StepFacts K L D) (replied : ReplyFacts K D) (before after : List (TraceEvent D))
+      → trace_at step replied ≡ before ++ vote ∷ after → IsAll step replied before
+  step_all (Calls call) replied before after is = call_all call replied before after is
+  step_all Prunes replied before after is = prune_all replied before after is
+  step_all (Restarts r) replied before after is = restart_all r replied before after is
 
 -- the vote's step, in a run
 
@@ -115,14 +115,14 @@ module _ {K L D : Type 0} (same : D → D → Bool) (elect : Elect L) (signer : 
   record VoteAt (steps : List (StepFacts K L D)) (replies : List (ReplyFacts K D)) (before : List (TraceEvent D)) : Type
       0 where
     first : List (StepFacts K L D)
-    told : List (ReplyFacts K D)
-    as_many : length first ≡ length told
+    replied : List (ReplyFacts K D)
+    as_many : length first ≡ length replied
     step : StepFacts K L D
     reply : ReplyFacts K D
     more : List (StepFacts K L D × ReplyFacts K D)
     steps_are : steps ≡ first ++ step ∷ map (λ e. e.0) more
-    replies_are : replies ≡ told ++ reply ∷ map (λ e. e.1) more
-    done : trace_of_steps first told ≡ before
+    replies_are : replies ≡ replied ++ reply ∷ map (λ e. e.1) more
+    done : trace_of_steps first replied ≡ before
     alone : trace_at step reply ≡ vote signer round ∷ []
     no_verdict : judged_by reply ≡ []
 
@@ -139,7 +139,7 @@ module _ {K L D : Type 0} (same : D → D → Bool) (elect : Elect L) (signer : 
             let pairs = paired same elect steps replies next end run in
             record {
               first = [];
-              told = [];
+              replied = [];
               as_many = refl;
               step = step;
               reply = reply;
@@ -154,7 +154,7 @@ module _ {K L D : Type 0} (same : D → D → Bool) (elect : Elect L) (signer : 
             let v = vote_at steps replies next end run later after there in
             record {
               first = step ∷ v.first;
-              told = reply ∷ v.told;
+              replied = reply ∷ v.replied;
               as_many = omega (arith, v.as_many);
               step = v.step;
               reply = v.reply;
@@ -202,11 +202,11 @@ module _ {K L D : Type 0} (same : D → D → Bool) (decides : (d e : D) → sam
     (before_is : before ≡ of_floor s.start.floor ++ later)
     (v : VoteAt same elect signer round s.steps s.replies later) where
   abbrev earlier : Execution K L D
-  earlier = record s { steps = v.first; replies = v.told }
+  earlier = record s { steps = v.first; replies = v.replied }
 
   -- with the vote's step
   abbrev until : Execution K L D
-  until = record s { steps = v.first ++ v.step ∷ []; replies = v.told ++ v.reply ∷ [] }
+  until = record s { steps = v.first ++ v.step ∷ []; replies = v.replied ++ v.reply ∷ [] }
 
   continues : ExecutionContinues earlier s
   continues = ((v.step, v.reply) ∷ v.more, λ j. record s { steps = v.steps_are j; replies = v.replies_are j })
@@ -217,20 +217,20 @@ module _ {K L D : Type 0} (same : D → D → Bool) (decides : (d e : D) → sam
   until_trace : trace_of until ≡ before ++ vote signer round ∷ []
   until_trace =
       ap (λ ds. of_floor s.start.floor ++ ds)
-      (trace_pushed v.first v.told v.step v.reply v.as_many
-      ∙ ap (λ ds. trace_of_steps v.first v.told ++ ds) v.alone)
-      ∙ (sym (append_assoc (of_floor s.start.floor) (trace_of_steps v.first v.told) (vote signer round ∷ []))
+      (trace_pushed v.first v.replied v.step v.reply v.as_many
+      ∙ ap (λ ds. trace_of_steps v.first v.replied ++ ds) v.alone)
+      ∙ (sym (append_assoc (of_floor s.start.floor) (trace_of_steps v.first v.replied) (vote signer round ∷ []))
       ∙ ap (λ ds. ds ++ vote signer round ∷ []) trace_is)
 
   until_judged : judged_of until ≡ judged_of earlier
-  until_judged = judged_joined v.told (v.reply ∷ [])
-      ∙ (ap (λ ps. judged_in v.told ++ (ps ++ [])) v.no_verdict ∙ append-nil (judged_in v.told))
+  until_judged = judged_joined v.replied (v.reply ∷ [])
+      ∙ (ap (λ ps. judged_in v.replied ++ (ps ++ [])) v.no_verdict ∙ append-nil (judged_in v.replied))
 
   steps_whole : s.steps ≡ (v.first ++ v.step ∷ []) ++ map (λ e. e.0) v.more
   steps_whole = v.steps_are ∙ sym (append_assoc v.first (v.step ∷ []) (map (λ e. e.0) v.more))
 
-  replies_whole : s.replies ≡ (v.told ++ v.reply ∷ []) ++ map (λ e. e.1) v.more
-  replies_whole = v.replies_are ∙ sym (append_assoc v.told (v.reply ∷ []) (map (λ e. e.1) v.more))
+  replies_whole : s.replies ≡ (v.replied ++ v.reply ∷ []) ++ map (λ e. e.1) v.more
+  replies_whole = v.replies_are ∙ sym (append_assoc v.replied (v.reply ∷ []) (map (λ e. e.1) v.more))
 
   until_ran : IsExecution same elect term_length i until
   until_ran = record {
@@ -239,10 +239,12 @@ module _ {K L D : Type 0} (same : D → D → Bool) (decides : (d e : D) → sam
       later = λ r h. ran.lives.later r (subst (λ ss. Contains ss (Restarts r)) (sym steps_whole)
           (Contains-append_left (v.first ++ v.step ∷ []) (map (λ e. e.0) v.more) (Restarts r) h));
     };
-    run = run_from_before same elect s.start (v.first ++ v.step ∷ []) (map (λ e. e.0) v.more) (v.told ++ v.reply ∷ [])
+    run = run_from_before same elect s.start (v.first ++ v.step ∷ []) (map (λ e. e.0) v.more)
+        (v.replied ++ v.reply ∷ [])
         (map (λ e. e.1) v.more)
-        (omega (arith, v.as_many, length-append v.first (v.step ∷ []), length-append v.told (v.reply ∷ [])))
-        (subst (λ ss. IsRunFrom same elect s.start ss ((v.told ++ v.reply ∷ []) ++ map (λ e. e.1) v.more)) steps_whole
+        (omega (arith, v.as_many, length-append v.first (v.step ∷ []), length-append v.replied (v.reply ∷ [])))
+        (subst (λ ss. IsRunFrom same elect s.start ss ((v.replied ++ v.reply ∷ []) ++ map (λ e. e.1) v.more))
+        steps_whole
         (subst (λ rs. IsRunFrom same elect s.start s.steps rs) replies_whole ran.run));
   }
 

@@ -21,7 +21,7 @@ use Rattle.laws_progress.specs.SharedView.{terms_on}
 use Rattle.laws_progress.proofs.states.Calls.{with_work, nothing_done}
 use Rattle.laws_progress.proofs.states.AtTermStart.{StandingMember, StandsAtView}
 use Rattle.laws_progress.proofs.states.Sequences.{Sequence, call_then, calls_in, whole_trace}
-use Rattle.laws_progress.proofs.states.SkippedViews.{abandons, give_up_told, next_is, takes_it, no_fault_then, skips, elsewhere, first_round, entered_first}
+use Rattle.laws_progress.proofs.states.SkippedViews.{abandons, give_up_replied, next_is, takes_it, no_fault_then, skips, elsewhere, first_round, entered_first}
 use Rattle.laws_progress.proofs.states.BeforeTermStart.{Waits, known_as, stands_now}
 
 -- the nullification of a view, of no bytes
@@ -131,9 +131,9 @@ module _ {K L D : Type 0} (same : D → D → Bool) (elect : Elect L) (length : 
     two_calls : (rest : List (CallFacts D × List (TraceEvent D))) → Sequence same elect left rest
         → Sequence same elect m (gives_up_now l.epoch length l.me c ∷ skips_now l.epoch length c ∷ rest)
     two_calls rest behind =
-        let told = give_up_told same elect length some l h x m.outstanding_work c c w in
+        let replied = give_up_replied same elect length some l h x m.outstanding_work c c w in
         call_then same elect m x (ConstructNullify c) _ _ alive refl
-        (no_fault_due x.failed false false w.alive refl refl) told.1
+        (no_fault_due x.failed false false w.alive refl refl) replied.1
         (call_then same elect _ given (AddNullification (null_cert l.epoch c) 0) (AddedNullification _) rest refl
         (takes_it same elect length some l h given m.outstanding_work c [] given_waits less)
         (no_fault_then same elect length some l h given m.outstanding_work c [] given_waits less) refl behind)

@@ -54,8 +54,8 @@ module _ {D : Type 0} where
       record { slot = empty_slot; decided = false; notarization = None; certification = Ready; binding = None }
 
   -- the proposal is stored
-  abbrev pub heard : Proposal D → Work D
-  heard p = record nothing_done {
+  abbrev pub received : Proposal D → Work D
+  received p = record nothing_done {
     slot =
         record { held = Some p; conflict = false; verified = false; build_requested = false; verify_requested = false };
   }
@@ -116,7 +116,7 @@ module _ {K L D : Type 0} (same : D → D → Bool) (elect : Elect L) (reflexive
 
   -- 1: the proposal is passed in
   pub sets_proposal : StandsAtView l (with_work r nothing_done) l.view x
-      → Makes same elect l (with_work r (heard p)) l.view x o (SetProposal l.view p)
+      → Makes same elect l (with_work r (received p)) l.view x o (SetProposal l.view p)
   sets_proposal s =
       let ready = next_ready l elect (with_work r nothing_done) l.view x s in
       let put = put_here l _ (with_proposal same (round_of (with_next_view_ready elect x l.view) l.view) p) l.view
@@ -168,9 +168,9 @@ module _ {K L D : Type 0} (same : D → D → Bool) (elect : Elect L) (reflexive
         leaves = rw (may_vote built s, round) (next_ready l elect _ l.view _ cast);
       }
 
-  pub vote_told : (built : Bool) → StandsAtView l (with_work r (verified built p l.payload)) l.view x
+  pub vote_replied : (built : Bool) → StandsAtView l (with_work r (verified built p l.payload)) l.view x
       → answer same elect x o (ConstructNotarize l.view) ≡ Notarize (Some (NotarizeVote p l.me))
-  vote_told built s = rw (may_vote built s, round_is l _ l.view x s, s.me) refl
+  vote_replied built s = rw (may_vote built s, round_is l _ l.view x s, s.me) refl
 
   -- 5: its notarization comes
   abbrev certificate : List ℕ → ProposalFacts D
@@ -194,9 +194,9 @@ module _ {K L D : Type 0} (same : D → D → Bool) (elect : Elect L) (reflexive
         leaves = rw round (window_led l _ l.view _ (waits l _ l.view l.view _ kept));
       }
 
-  pub notarization_told : (bytes : List ℕ) → (b : Bool) × (k : Option K)
+  pub notarization_replied : (bytes : List ℕ) → (b : Bool) × (k : Option K)
       × (answer same elect x o (AddNotarization (certificate bytes)) ≡ Added b k)
-  notarization_told bytes = (_, _, refl)
+  notarization_replied bytes = (_, _, refl)
 
   -- 6: the application finds it good
   pub is_certified : (built : Bool) (c : ProposalFacts D)
@@ -248,10 +248,10 @@ module _ {K L D : Type 0} (same : D → D → Bool) (elect : Elect L) (reflexive
             (l.view + 1) x s);
       }
 
-  pub end_told : (built : Bool) (c : ProposalFacts D) → r.finalization ≡ None
+  pub end_replied : (built : Bool) (c : ProposalFacts D) → r.finalization ≡ None
       → StandsAtView l (with_work r (certified built p l.payload c)) (l.view + 1) x
       → answer same elect x o (ConstructFinalize l.view) ≡ Finalize (Some (FinalizeVote p l.me))
-  end_told built c none s = rw (may_end built c none s, round_is l _ (l.view + 1) x s, s.me) refl
+  end_replied built c none s = rw (may_end built c none s, round_is l _ (l.view + 1) x s, s.me) refl
 
   -- 8: its finalization comes; of what that leaves nothing is said
   pub takes_finalization : (z : RoundFacts K D) (bytes : List ℕ) → StandsAtView l z (l.view + 1) x
@@ -264,6 +264,6 @@ module _ {K L D : Type 0} (same : D → D → Bool) (elect : Elect L) (reflexive
         (ap (λ b. b && has_late_deadline x 0) (le-ltb x.current (l.view + 1) (omega (arith, s.current)))),
   )
 
-  pub finalization_told : (bytes : List ℕ) → (b : Bool) × (k : Option K)
+  pub finalization_replied : (bytes : List ℕ) → (b : Bool) × (k : Option K)
       × (answer same elect x o (AddFinalization (certificate bytes) 0) ≡ Added b k)
-  finalization_told bytes = (_, _, refl)
+  finalization_replied bytes = (_, _, refl)

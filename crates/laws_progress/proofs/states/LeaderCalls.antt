@@ -72,9 +72,9 @@ module _ {K L D : Type 0} (same : D → D → Bool) (elect : Elect L) (reflexive
         (ap (λ (e : ℕ). Some (Propose (record
         { round = record { epoch = e; view = l.view }; leader = lead.key; parent = (l.parent, l.payload) }))) s.epoch)
 
-    pub propose_told : propose_answer same elect x ≡ Some (Propose (build_context l lead))
+    pub propose_replied : propose_answer same elect x ≡ Some (Propose (build_context l lead))
     unfolding propose_answer
-    propose_told = first_given (request_in same elect x) (views_ahead x) l.view here (ahead_rises l here x s)
+    propose_replied = first_given (request_in same elect x) (views_ahead x) l.view here (ahead_rises l here x s)
         (ahead_here l here x s) (ap is_some requests) nothing ∙ requests
       where
         nothing : (v : ℕ) (u : RoundFacts K D) → v < l.view → find nat_cmp v (views_ahead x) ≡ Some u
@@ -85,13 +85,13 @@ module _ {K L D : Type 0} (same : D → D → Bool) (elect : Elect L) (reflexive
     tries_propose o = record {
       allowed = refl;
       no_fault = no_fault_due x.failed false false s.alive refl refl;
-      leaves = rw (propose_told, tracked_is l here l.view x s, round_is l here l.view x s)
+      leaves = rw (propose_replied, tracked_is l here l.view x s, round_is l here l.view x s)
           (put_here l here (with_work r asked_for) l.view x s);
     }
 
     pub opens : (o : OutstandingWork K D) → context_at (outstanding_work_after same elect x o TryPropose) l.view ≡ Some
         (build_context l lead)
-    opens o = rw propose_told (find-put nat_cmp nat_cmp_total l.view l.view (build_context l lead) o.contexts
+    opens o = rw propose_replied (find-put nat_cmp nat_cmp_total l.view l.view (build_context l lead) o.contexts
         ∙ ap (λ b. cond b (Some (build_context l lead)) (find nat_cmp l.view o.contexts))
         (is_eq-nat_cmp l.view l.view ∙ eq-eqb l.view l.view refl))
 

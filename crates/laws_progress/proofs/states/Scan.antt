@@ -25,7 +25,7 @@ use Rattle.simplex_member.specs.OutstandingWork.{OutstandingWork}
 use Rattle.laws_history.proofs.UnchangedHistories.{from_T}
 use Rattle.laws_progress.proofs.states.AtTermStart.{StandingMember, StandsAtView, remade}
 use Rattle.laws_progress.proofs.states.Words.{built_on, spans_it, no_gap, admitted, payload_is}
-use Rattle.laws_progress.proofs.states.Calls.{with_work, heard, being_verified, Makes}
+use Rattle.laws_progress.proofs.states.Calls.{with_work, received, being_verified, Makes}
 use Rattle.laws_safety.proofs.lives.Progress.{no_fault_due}
 use Rattle.laws_safety.proofs.votes.ShownVotesByVotes.{not_nullified}
 
@@ -60,12 +60,12 @@ module _ {K L D : Type 0} (l : StandingMember D) (r : RoundFacts K D) (x : State
 module _ {K L D : Type 0} (same : D → D → Bool) (elect : Elect L) (reflexive : (d : D) → same d d ≡ true)
     (l : StandingMember D) (q : D) (r : RoundFacts K D) (pending : is_pending r.decision ≡ true)
     (lead : Leader K) (leads : r.leader ≡ Some lead) (other : signs_as r.me lead.idx ≡ false)
-    (x : StateFacts K L D) (s : StandsAtView l (with_work r (heard (built_on l q))) l.view x) where
+    (x : StateFacts K L D) (s : StandsAtView l (with_work r (received (built_on l q))) l.view x) where
   abbrev p : Proposal D
   p = built_on l q
 
   abbrev here : RoundFacts K D
-  here = with_work r (heard p)
+  here = with_work r (received p)
 
   waiting : pending_proposal here ≡ Some (lead, p)
   waiting = rw (leads, other, not_nullified r.decision pending) refl
@@ -83,8 +83,8 @@ module _ {K L D : Type 0} (same : D → D → Bool) (elect : Elect L) (reflexive
   answers_it : answer_in same elect x (l.view, here) ≡ Some (verify.Ready (verify_context (lead, p) l.payload) p)
   answers_it = rw (waiting, stands_ready) refl
 
-  pub verify_told : verify_answer same elect x ≡ verify.Ready (verify_context (lead, p) l.payload) p
-  verify_told = ap (λ o. option_map_or (λ found. found) o verify.Wait)
+  pub verify_replied : verify_answer same elect x ≡ verify.Ready (verify_context (lead, p) l.payload) p
+  verify_replied = ap (λ o. option_map_or (λ found. found) o verify.Wait)
       (first_given (answer_in same elect x) (views_ahead x) l.view here (ahead_rises l here x s) (ahead_here l here x s)
       (ap is_some answers_it) nothing ∙ answers_it)
     where

@@ -18,8 +18,8 @@ use Rattle.laws_safety.specs.Traces.{TraceEvent, Accepts, Signs, trace_of_call, 
 use Rattle.laws_safety.proofs.votes.OutstandingWork.{among_noted}
 use Rattle.laws_progress.proofs.states.AtTermStart.{StandingMember, StandsAtView}
 use Rattle.laws_progress.proofs.states.Words.{built_on}
-use Rattle.laws_progress.proofs.states.Calls.{with_work, nothing_done, verified, sets_proposal, is_verified, votes, vote_told, is_notarized, notarization_told, is_certified, ends, end_told, takes_finalization, finalization_told}
-use Rattle.laws_progress.proofs.states.Scan.{verify_told, tries_verify}
+use Rattle.laws_progress.proofs.states.Calls.{with_work, nothing_done, verified, sets_proposal, is_verified, votes, vote_replied, is_notarized, notarization_replied, is_certified, ends, end_replied, takes_finalization, finalization_replied}
+use Rattle.laws_progress.proofs.states.Scan.{verify_replied, tries_verify}
 use Rattle.laws_progress.proofs.states.LeaderCalls.{built_at, tries_propose, opens, builds_it}
 
 module _ {K L D : Type 0} (same : D → D → Bool) (elect : Elect L) where
@@ -42,20 +42,20 @@ module _ {K L D : Type 0} (same : D → D → Bool) (elect : Elect L) where
   -- calls run one after another, each with its trace
   unfoldable pub Sequence : MemberFacts K L D → List (CallFacts D × List (TraceEvent D)) → Type 0
   Sequence m [] = Unit {0}
-  Sequence m (e ∷ rest) = (told : ReplyFacts K D) × (next : MemberFacts K L D) × IsCall same elect m e.0 told next
-      × (trace_of_call e.0 told ≡ e.1) × Sequence next rest
+  Sequence m (e ∷ rest) = (replied : ReplyFacts K D) × (next : MemberFacts K L D) × IsCall same elect m e.0 replied next
+      × (trace_of_call e.0 replied ≡ e.1) × Sequence next rest
 
   pub ends_there : (m : MemberFacts K L D) → Sequence m []
   unfolding Sequence
   ends_there m = tt
 
-  pub call_then : (m : MemberFacts K L D) (x : StateFacts K L D) (call : CallFacts D) (told : ReplyFacts K D)
+  pub call_then : (m : MemberFacts K L D) (x : StateFacts K L D) (call : CallFacts D) (replied : ReplyFacts K D)
       (rest : List (CallFacts D × List (TraceEvent D))) → m.life ≡ Some x → is_allowed x m.outstanding_work call ≡ true
-      → fault_of x call ≡ None → answer same elect x m.outstanding_work call ≡ told
-      → Sequence (with_call same elect x m call) rest → Sequence m ((call, trace_of_call call told) ∷ rest)
+      → fault_of x call ≡ None → answer same elect x m.outstanding_work call ≡ replied
+      → Sequence (with_call same elect x m call) rest → Sequence m ((call, trace_of_call call replied) ∷ rest)
   unfolding Sequence
-  call_then m x call told rest alive allowed none says behind = (
-    told,
+  call_then m x call replied rest alive allowed none says behind = (
+    replied,
     with_call same elect x m call,
     subst (λ t. IsCall same elect m call t (with_call same elect x m call)) says
         (answered m x call alive allowed none),
@@ -95,10 +95,10 @@ module _ {K L D : Type 0} (same : D → D → Bool) (elect : Elect L) where
       → Parted m a b
   unfolding Sequence
   parted [] b m sequence = record { replies = []; end = m; run = refl; does = refl; rest = sequence }
-  parted (e ∷ a) b m (told, next, is_call, done, sequence) =
+  parted (e ∷ a) b m (replied, next, is_call, done, sequence) =
       let more = parted a b next sequence in
       record {
-        replies = told ∷ more.replies;
+        replies = replied ∷ more.replies;
         end = more.end;
         run = (next, is_call, more.run);
         does = λ i. done i ++ more.does i;
@@ -172,7 +172,7 @@ module _ {K L D : Type 0} (same : D → D → Bool) (elect : Elect L) (reflexive
         let vote = votes same elect reflexive l q r pending x o1 built s in
         let x2 : StateFacts K L D = after_call same elect x o1 (ConstructNotarize l.view) in
         let note = is_notarized same elect reflexive l q r pending x2 o1 built notarization vote.leaves in
-        let note_told = notarization_told same elect reflexive l q r pending x2 o1 notarization in
+        let note_replied = notarization_replied same elect reflexive l q r pending x2 o1 notarization in
         let x3 : StateFacts K L D = after_call same elect x2 o1 (AddNotarization c) in
         let verdict = is_certified same elect reflexive l q r pending x3 o1 built c note.leaves in
         let x4 : StateFacts K L D = after_call same elect x3 o1 (Certified l.view true 0) in
@@ -180,14 +180,15 @@ module _ {K L D : Type 0} (same : D → D → Bool) (elect : Elect L) (reflexive
         let last = ends same elect reflexive l q r pending x4 o4 built c none verdict.leaves in
         let x5 : StateFacts K L D = after_call same elect x4 o4 (ConstructFinalize l.view) in
         let final = takes_finalization same elect reflexive l q r pending x5 o4 _ finalization last.leaves in
-        let final_told = finalization_told same elect reflexive l q r pending x5 o4 finalization in
+        let final_replied = finalization_replied same elect reflexive l q r pending x5 o4 finalization in
         call_then same elect m x _ _ _ alive vote.allowed vote.no_fault
-        (vote_told same elect reflexive l q r pending x o1 built s)
-        (call_then same elect _ x2 _ (Added note_told.0 note_told.1) _ refl note.allowed note.no_fault note_told.2
+        (vote_replied same elect reflexive l q r pending x o1 built s)
+        (call_then same elect _ x2 _
+        (Added note_replied.0 note_replied.1) _ refl note.allowed note.no_fault note_replied.2
         (call_then same elect _ x3 _ (Judged true _) _ refl verdict.allowed verdict.no_fault refl
         (call_then same elect _ x4 _ _ _ refl last.allowed last.no_fault
-        (end_told same elect reflexive l q r pending x4 o4 built c none verdict.leaves)
-        (call_then same elect _ x5 _ (Added final_told.0 final_told.1) _ refl final.0 final.1 final_told.2
+        (end_replied same elect reflexive l q r pending x4 o4 built c none verdict.leaves)
+        (call_then same elect _ x5 _ (Added final_replied.0 final_replied.1) _ refl final.0 final.1 final_replied.2
         (ends_there same elect _)))))
 
   module _ (r : RoundFacts K D) (pending : is_pending r.decision ≡ true) (none : r.finalization ≡ None)
@@ -206,7 +207,7 @@ module _ {K L D : Type 0} (same : D → D → Bool) (elect : Elect L) (reflexive
         let x2 : StateFacts K L D = after_call same elect x1 o TryVerify in
         let o2 = outstanding_work_after same elect x1 o TryVerify in
         let opened : is_verifying o2 l.view ≡ true =
-        rw (verify_told same elect reflexive l q r pending lead leads other x1 hears.leaves)
+        rw (verify_replied same elect reflexive l q r pending lead leads other x1 hears.leaves)
         (among_noted l.view l.view o.verifying
         ∙ ap (λ b. b || is_among l.view o.verifying) (eq-eqb l.view l.view refl)) in
         let finds = is_verified same elect reflexive l q r pending x2 o2 opened tries.leaves in

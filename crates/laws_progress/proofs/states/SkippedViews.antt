@@ -43,11 +43,11 @@ kept_then r c = by_test (is_some r.nullification)
     by_test true = refl
     by_test false = refl
 
-told_by : {D : Type 0} (m : Option ℕ) (me : ℕ) (may b : Bool) (r : Round) → m ≡ Some me → may ≡ true
+replied_by : {D : Type 0} (m : Option ℕ) (me : ℕ) (may b : Bool) (r : Round) → m ≡ Some me → may ≡ true
     → option_and_then {U = Bool × ArtifactFacts D}
     (λ i. option_map (λ retry. (retry, NullifyVote r i)) (if is_some m && may then Some b else None)) m ≡ Some
     (b, NullifyVote r me)
-told_by m me may b r e f = rw (e, f) refl
+replied_by m me may b r e f = rw (e, f) refl
 
 pub small_under : (p v : ℕ) → p ≤ v → is_too_large v ≡ false → is_too_large p ≡ false
 small_under p v low small = grind (arith, nat_tests)
@@ -74,11 +74,11 @@ module _ {K L D : Type 0} (same : D → D → Bool) (elect : Elect L) (length : 
       subst (λ n. Waits length l h n g (after_call same elect x o (ConstructNullify c))) w.current
       (rw (may_give_up, ap is_some w.me) cast)
 
-  pub give_up_told : (b : Bool) × (answer same elect x o (ConstructNullify c) ≡ Nullify
+  pub give_up_replied : (b : Bool) × (answer same elect x o (ConstructNullify c) ≡ Nullify
       (Some (b, NullifyVote (record { epoch = l.epoch; view = c }) l.me)))
-  give_up_told = (
+  give_up_replied = (
     is_nullify (round_of x c).decision,
-    ap Nullify (told_by x.me l.me (may_nullify x c) (is_nullify (round_of x c).decision) (round_number x c) w.me
+    ap Nullify (replied_by x.me l.me (may_nullify x c) (is_nullify (round_of x c).decision) (round_number x c) w.me
         may_give_up ∙ ap (λ (n : ℕ).
         Some (is_nullify (round_of x c).decision, NullifyVote (record { epoch = n; view = c }) l.me)) w.epoch),
   )

@@ -36,10 +36,11 @@ no_subject vote e = absurd (cc)
 
 module _ {K D : Type 0} where
   -- no vote is returned, since there is no key, the rule doesn't hold, or the call is refused
-  untold : (Rule : Type 0) (me : Option ℕ) (about : Option (Subject D)) (told : ReplyFacts K D) → signed_in told ≡ []
-      → ((d : TraceEvent D) → ends_in_fault told ≡ false → Rule → IsSignedFor me about d → ⊥)
-      → IsExact Rule me about told
-  untold Rule me about told none never = record {
+  unreplied : (Rule : Type 0) (me : Option ℕ) (about : Option (Subject D)) (replied : ReplyFacts K D)
+      → signed_in replied ≡ []
+      → ((d : TraceEvent D) → ends_in_fault replied ≡ false → Rule → IsSignedFor me about d → ⊥)
+      → IsExact Rule me about replied
+  unreplied Rule me about replied none never = record {
     only = λ d h. absurd
         (let g : Contains [] d = subst (λ (ds : List (TraceEvent D)). Contains ds d) none h in omega (arith, g.1));
     due = λ d kept rule signed. absurd (never d kept rule signed);
@@ -47,12 +48,12 @@ module _ {K D : Type 0} where
 
   refused : (Rule : Type 0) (me : Option ℕ) (about : Option (Subject D)) (f : Fault)
       → IsExact {K = K} Rule me about (Refused f)
-  refused Rule me about f = untold Rule me about (Refused f) refl (λ d kept rule signed. false≢true (sym kept))
+  refused Rule me about f = unreplied Rule me about (Refused f) refl (λ d kept rule signed. false≢true (sym kept))
 
   -- one is
-  told_so : (Rule : Type 0) (m : ℕ) (about : Subject D) (told : ReplyFacts K D) → Rule
-      → signed_in told ≡ Signs m about ∷ [] → IsExact Rule (Some m) (Some about) told
-  told_so Rule m about told holds is = record {
+  replied_so : (Rule : Type 0) (m : ℕ) (about : Subject D) (replied : ReplyFacts K D) → Rule
+      → signed_in replied ≡ Signs m about ∷ [] → IsExact Rule (Some m) (Some about) replied
+  replied_so Rule m about replied holds is = record {
     only = λ d h. (let e : Signs m about ≡ d =
         only_one _ d (subst (λ (ds : List (TraceEvent D)). Contains ds d) is h) in
         (holds, (m, about, refl, refl, sym e)));
@@ -63,7 +64,7 @@ module _ {K D : Type 0} where
         let i = signed.0 in
         let vote = signed.1 in
         let whole : Signs m about ∷ [] ≡ d ∷ [] = cc in
-        let out : signed_in told ≡ d ∷ [] = cc in out);
+        let out : signed_in replied ≡ d ∷ [] = cc in out);
   }
 
   module _ (Rule : Type 0) (may : Bool) (whole : Rule → may ≡ true) (parts : may ≡ true → Rule) where
@@ -71,44 +72,44 @@ module _ {K D : Type 0} where
         → IsExact {K = K} {D = D} Rule me (Some (subject.Nullify r))
         (Nullify (option_and_then (λ m. option_map (λ again. (again, NullifyVote r m))
         (if is_some me && may_be then Some retry else None)) me))
-    exact_nullify may_be is None retry r = untold Rule None (Some (subject.Nullify r)) _ refl
+    exact_nullify may_be is None retry r = unreplied Rule None (Some (subject.Nullify r)) _ refl
         (λ d kept rule signed. no_key signed.0 signed.2)
-    exact_nullify true is (Some m) retry r = told_so Rule m (subject.Nullify r) _ (parts is) refl
+    exact_nullify true is (Some m) retry r = replied_so Rule m (subject.Nullify r) _ (parts is) refl
     exact_nullify false is (Some m) retry r =
-        untold Rule (Some m) (Some (subject.Nullify r)) _ refl
+        unreplied Rule (Some m) (Some (subject.Nullify r)) _ refl
         (λ d kept rule signed. false≢true (let h = whole rule in cc))
 
     exact_finalize : (may_be : Bool) → may ≡ may_be → (me : Option ℕ) (p : Option (Proposal D))
         → IsExact {K = K} Rule me (option_map subject.Finalize p)
         (Finalize
         (option_and_then (λ m. option_map (λ q. FinalizeVote q m) (if is_some me && may_be then p else None)) me))
-    exact_finalize may_be is None p = untold Rule None (option_map subject.Finalize p) _ refl
+    exact_finalize may_be is None p = unreplied Rule None (option_map subject.Finalize p) _ refl
         (λ d kept rule signed. no_key signed.0 signed.2)
-    exact_finalize true is (Some m) (Some p) = told_so Rule m (subject.Finalize p) _ (parts is) refl
-    exact_finalize true is (Some m) None = untold Rule (Some m) None _ refl
+    exact_finalize true is (Some m) (Some p) = replied_so Rule m (subject.Finalize p) _ (parts is) refl
+    exact_finalize true is (Some m) None = unreplied Rule (Some m) None _ refl
         (λ d kept rule signed. no_subject signed.1 signed.3)
-    exact_finalize false is (Some m) p = untold Rule (Some m) (option_map subject.Finalize p) _ refl
+    exact_finalize false is (Some m) p = unreplied Rule (Some m) (option_map subject.Finalize p) _ refl
         (λ d kept rule signed. false≢true (let h = whole rule in cc))
 
     exact_notarize : (may_be : Bool) → may ≡ may_be → (me : Option ℕ) (p : Option (Proposal D))
         → IsExact {K = K} Rule me (option_map subject.Notarize p)
         (Notarize
         (option_and_then (λ m. option_map (λ q. NotarizeVote q m) (if is_some me && may_be then p else None)) me))
-    exact_notarize may_be is None p = untold Rule None (option_map subject.Notarize p) _ refl
+    exact_notarize may_be is None p = unreplied Rule None (option_map subject.Notarize p) _ refl
         (λ d kept rule signed. no_key signed.0 signed.2)
-    exact_notarize true is (Some m) (Some p) = told_so Rule m (subject.Notarize p) _ (parts is) refl
-    exact_notarize true is (Some m) None = untold Rule (Some m) None _ refl
+    exact_notarize true is (Some m) (Some p) = replied_so Rule m (subject.Notarize p) _ (parts is) refl
+    exact_notarize true is (Some m) None = unreplied Rule (Some m) None _ refl
         (λ d kept rule signed. no_subject signed.1 signed.3)
-    exact_notarize false is (Some m) p = untold Rule (Some m) (option_map subject.Notarize p) _ refl
+    exact_notarize false is (Some m) p = unreplied Rule (Some m) (option_map subject.Notarize p) _ refl
         (λ d kept rule signed. false≢true (let h = whole rule in cc))
 
 module _ {K D : Type 0} where
   -- a reply with no vote stays one where the call isn't allowed or is refused
-  still_none : (allowed : Bool) (f : Option Fault) (told : ReplyFacts K D) → signed_in told ≡ []
-      → signed_in (if allowed then unless_refused f told else NotAllowed) ≡ []
-  still_none false f told none = refl
-  still_none true (Some f) told none = refl
-  still_none true None told none = none
+  still_none : (allowed : Bool) (f : Option Fault) (replied : ReplyFacts K D) → signed_in replied ≡ []
+      → signed_in (if allowed then unless_refused f replied else NotAllowed) ≡ []
+  still_none false f replied none = refl
+  still_none true (Some f) replied none = refl
+  still_none true None replied none = none
 
 module _ (K D : Type 0) where
   restart_signs_none : (result : Result (Unit {0}) RecoverError) → signed_in {K = K} {D = D} (restart_reply result) ≡ []
@@ -125,16 +126,16 @@ module _ {K L D : Type 0} (same : D → D → Bool) (elect : Elect L) where
       (option_map subject.Notarize (proposal_at x v)) f
   call_refused x _ f = refl
 
-  call_told : (x : StateFacts K L D) (o : OutstandingWork K D) (call : CallFacts D)
+  call_replied : (x : StateFacts K L D) (o : OutstandingWork K D) (call : CallFacts D)
       → ExactAt same elect (Some x) (Calls call) (reply_of same elect x o call)
-  call_told x o (ConstructNullify v) = by_fault (plain_refusal x)
+  call_replied x o (ConstructNullify v) = by_fault (plain_refusal x)
     where
       by_fault : (f : Option Fault) → IsExact (NullifyRule x v) x.me (Some (subject.Nullify (round_number x v)))
           (unless_refused f (answer same elect x o (ConstructNullify v)))
       by_fault (Some f) = call_refused x (ConstructNullify v) f
       by_fault None = exact_nullify (NullifyRule x v) (may_nullify x v) (nullify_whole x v) (nullify_parts x v)
           (may_nullify x v) refl x.me (is_nullify (round_of x v).decision) (round_number x v)
-  call_told x o (ConstructFinalize v) = by_fault (plain_refusal x)
+  call_replied x o (ConstructFinalize v) = by_fault (plain_refusal x)
     where
       by_fault : (f : Option Fault) → IsExact (FinalizeRule elect x v) x.me
           (option_map subject.Finalize (proposal_at x v))
@@ -142,7 +143,7 @@ module _ {K L D : Type 0} (same : D → D → Bool) (elect : Elect L) where
       by_fault (Some f) = call_refused x (ConstructFinalize v) f
       by_fault None = exact_finalize (FinalizeRule elect x v) (may_finalize elect x v) (finalize_whole elect x v)
           (finalize_parts elect x v) (may_finalize elect x v) refl x.me (proposal_at x v)
-  call_told x o (ConstructNotarize v) = by_fault (plain_refusal x)
+  call_replied x o (ConstructNotarize v) = by_fault (plain_refusal x)
     where
       by_fault : (f : Option Fault) → IsExact (NotarizeRule same elect x v) x.me
           (option_map subject.Notarize (proposal_at x v))
@@ -151,17 +152,17 @@ module _ {K L D : Type 0} (same : D → D → Bool) (elect : Elect L) where
       by_fault None = exact_notarize (NotarizeRule same elect x v) (may_notarize same elect x v)
           (notarize_whole same elect x v) (notarize_parts same elect x v) (may_notarize same elect x v) refl x.me
           (proposal_at x v)
-  call_told x o call = still_none (is_allowed x o call) (fault_of x call) (answer same elect x o call) refl
+  call_replied x o call = still_none (is_allowed x o call) (fault_of x call) (answer same elect x o call) refl
 
-  pub call_exact : (m next : MemberFacts K L D) (call : CallFacts D) (told : ReplyFacts K D)
-      → IsCall same elect m call told next → ExactAt same elect m.life (Calls call) told
+  pub call_exact : (m next : MemberFacts K L D) (call : CallFacts D) (replied : ReplyFacts K D)
+      → IsCall same elect m call replied next → ExactAt same elect m.life (Calls call) replied
   unfolding IsCall
-  call_exact m next call told is_call = by_life m.life is_call
+  call_exact m next call replied is_call = by_life m.life is_call
     where
-      by_life : (o : Option (StateFacts K L D)) → AnswersAlive same elect o m call told next
-          → ExactAt same elect o (Calls call) told
+      by_life : (o : Option (StateFacts K L D)) → AnswersAlive same elect o m call replied next
+          → ExactAt same elect o (Calls call) replied
       by_life None (tells, leaves) = rw tells refl
-      by_life (Some x) (inl (tells, leaves)) = rw tells (call_told x m.outstanding_work call)
+      by_life (Some x) (inl (tells, leaves)) = rw tells (call_replied x m.outstanding_work call)
       by_life (Some x) (inr (allowed, tells, leaves)) = rw tells (call_refused x call fault.OutOfMemory)
 
   pub restart_exact : (life : Option (StateFacts K L D)) (r : RestartFacts K L D)
@@ -173,19 +174,19 @@ module _ {K L D : Type 0} (same : D → D → Bool) (elect : Elect L) where
   prune_exact None = refl
   prune_exact (Some x) = refl
 
-  pub step_exact : (m next : MemberFacts K L D) (step : StepFacts K L D) (told : ReplyFacts K D)
-      → IsStep same elect m step told next → ExactAt same elect m.life step told
-  step_exact m next (Calls call) told is_step = call_exact m next call told is_step
-  step_exact m next Prunes told is_step = rw is_step.0 (prune_exact m.life)
-  step_exact m next (Restarts r) told (result, restarts, is) = rw is (restart_exact m.life r result)
+  pub step_exact : (m next : MemberFacts K L D) (step : StepFacts K L D) (replied : ReplyFacts K D)
+      → IsStep same elect m step replied next → ExactAt same elect m.life step replied
+  step_exact m next (Calls call) replied is_step = call_exact m next call replied is_step
+  step_exact m next Prunes replied is_step = rw is_step.0 (prune_exact m.life)
+  step_exact m next (Restarts r) replied (result, restarts, is) = rw is (restart_exact m.life r result)
 
   exact_steps : (m end : MemberFacts K L D) (steps : List (StepFacts K L D)) (replies : List (ReplyFacts K D))
       → IsRun same elect m steps replies end → RunsExactly same elect m steps replies
   exact_steps m end [] [] run = tt
-  exact_steps m end [] (told ∷ replies) run = absurd run
+  exact_steps m end [] (replied ∷ replies) run = absurd run
   exact_steps m end (step ∷ steps) [] run = absurd run
-  exact_steps m end (step ∷ steps) (told ∷ replies) (next, is_step, run) =
-      (step_exact m next step told is_step, (next, is_step, exact_steps next end steps replies run))
+  exact_steps m end (step ∷ steps) (replied ∷ replies) (next, is_step, run) =
+      (step_exact m next step replied is_step, (next, is_step, exact_steps next end steps replies run))
 
   pub run_exact : (s : Execution K L D) → IsRunFrom same elect s.start s.steps s.replies → SignsExactly same elect s
   unfolding IsRunFrom

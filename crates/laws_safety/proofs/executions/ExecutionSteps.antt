@@ -29,14 +29,14 @@ if_ok_on (Err e) on h = tt
 
 module _ {K L D : Type 0} (same : D → D → Bool) (elect : Elect L) where
   run_push : (m mid next : MemberFacts K L D) (steps : List (StepFacts K L D)) (replies : List (ReplyFacts K D))
-      (step : StepFacts K L D) (told : ReplyFacts K D) → IsRun same elect m steps replies mid
-      → IsStep same elect mid step told next → IsRun same elect m (steps ++ step ∷ []) (replies ++ told ∷ []) next
-  run_push m mid next [] [] step told run is_step =
-      (next, subst (λ k. IsStep same elect k step told next) (sym run) is_step, refl)
-  run_push m mid next [] (t ∷ replies) step told run is_step = absurd run
-  run_push m mid next (s ∷ steps) [] step told run is_step = absurd run
-  run_push m mid next (s ∷ steps) (t ∷ replies) step told (k, first, run) is_step =
-      (k, first, run_push k mid next steps replies step told run is_step)
+      (step : StepFacts K L D) (replied : ReplyFacts K D) → IsRun same elect m steps replies mid
+      → IsStep same elect mid step replied next → IsRun same elect m (steps ++ step ∷ []) (replies ++ replied ∷ []) next
+  run_push m mid next [] [] step replied run is_step =
+      (next, subst (λ k. IsStep same elect k step replied next) (sym run) is_step, refl)
+  run_push m mid next [] (t ∷ replies) step replied run is_step = absurd run
+  run_push m mid next (s ∷ steps) [] step replied run is_step = absurd run
+  run_push m mid next (s ∷ steps) (t ∷ replies) step replied (k, first, run) is_step =
+      (k, first, run_push k mid next steps replies step replied run is_step)
 
   module _ (term_length i : ℕ) where
     lives_on : (start : StartFacts K L D) (steps : List (StepFacts K L D)) (step : StepFacts K L D)
@@ -48,14 +48,14 @@ module _ {K L D : Type 0} (same : D → D → Bool) (elect : Elect L) where
           [ inl old ↦ lives.later r old | inr new ↦ begins r (only_one step (Restarts r) new) ];
     }
 
-    step_on : (s : Execution K L D) (m next : MemberFacts K L D) (step : StepFacts K L D) (told : ReplyFacts K D)
+    step_on : (s : Execution K L D) (m next : MemberFacts K L D) (step : StepFacts K L D) (replied : ReplyFacts K D)
         → ((r : RestartFacts K L D) → step ≡ Restarts r → BeginsAs term_length i r.start.setup)
-        → HasExecution same elect term_length i s m → IsStep same elect m step told next
-        → HasExecution same elect term_length i (with_step s step told) next
-    step_on s m next step told begins has is_step = record {
+        → HasExecution same elect term_length i s m → IsStep same elect m step replied next
+        → HasExecution same elect term_length i (with_step s step replied) next
+    step_on s m next step replied begins has is_step = record {
       lives = lives_on s.start s.steps step has.lives begins;
       accepted = has.accepted;
-      run = run_push (new_member same elect s.start) m next s.steps s.replies step told has.run is_step;
+      run = run_push (new_member same elect s.start) m next s.steps s.replies step replied has.run is_step;
     }
 
     pub begin_execution : (start : StartFacts K L D) (m : MemberFacts K L D) → BeginsAs term_length i start.setup
@@ -67,10 +67,10 @@ module _ {K L D : Type 0} (same : D → D → Bool) (elect : Elect L) where
       run = sym is;
     }
 
-    pub call_on : (s : Execution K L D) (m next : MemberFacts K L D) (call : CallFacts D) (told : ReplyFacts K D)
-        → IsCall same elect m call told next → HasExecution same elect term_length i s m
-        → HasExecution same elect term_length i (with_step s (Calls call) told) next
-    call_on s m next call told is_call has = step_on s m next (Calls call) told (λ r e. absurd (cc)) has is_call
+    pub call_on : (s : Execution K L D) (m next : MemberFacts K L D) (call : CallFacts D) (replied : ReplyFacts K D)
+        → IsCall same elect m call replied next → HasExecution same elect term_length i s m
+        → HasExecution same elect term_length i (with_step s (Calls call) replied) next
+    call_on s m next call replied is_call has = step_on s m next (Calls call) replied (λ r e. absurd (cc)) has is_call
 
     pub prune_on : (s : Execution K L D) (m : MemberFacts K L D) → HasExecution same elect term_length i s m
         → HasExecution same elect term_length i (with_step s Prunes Done) (pruned_member m)
@@ -88,28 +88,28 @@ module _ {K L D : Type 0} (same : D → D → Bool) (elect : Elect L) where
     -- what it has done grows by what the step shows
 
     steps_pushed : (m end : MemberFacts K L D) (steps : List (StepFacts K L D)) (replies : List (ReplyFacts K D))
-        (step : StepFacts K L D) (told : ReplyFacts K D) → IsRun same elect m steps replies end
-        → trace_of_steps (steps ++ step ∷ []) (replies ++ told ∷ []) ≡ trace_of_steps steps replies ++ trace_at step
-        told
-    steps_pushed m end [] [] step told run = append-nil (trace_at step told)
-    steps_pushed m end [] (t ∷ replies) step told run = absurd run
-    steps_pushed m end (s ∷ steps) [] step told run = absurd run
-    steps_pushed m end (s ∷ steps) (t ∷ replies) step told (next, is_step, run) =
-        ap (λ ds. trace_at s t ++ ds) (steps_pushed next end steps replies step told run)
-        ∙ sym (append_assoc (trace_at s t) (trace_of_steps steps replies) (trace_at step told))
+        (step : StepFacts K L D) (replied : ReplyFacts K D) → IsRun same elect m steps replies end
+        → trace_of_steps (steps ++ step ∷ []) (replies ++ replied ∷ []) ≡ trace_of_steps steps replies ++ trace_at step
+        replied
+    steps_pushed m end [] [] step replied run = append-nil (trace_at step replied)
+    steps_pushed m end [] (t ∷ replies) step replied run = absurd run
+    steps_pushed m end (s ∷ steps) [] step replied run = absurd run
+    steps_pushed m end (s ∷ steps) (t ∷ replies) step replied (next, is_step, run) =
+        ap (λ ds. trace_at s t ++ ds) (steps_pushed next end steps replies step replied run)
+        ∙ sym (append_assoc (trace_at s t) (trace_of_steps steps replies) (trace_at step replied))
 
-    done_on : (s : Execution K L D) (m next : MemberFacts K L D) (step : StepFacts K L D) (told : ReplyFacts K D)
+    done_on : (s : Execution K L D) (m next : MemberFacts K L D) (step : StepFacts K L D) (replied : ReplyFacts K D)
         (all more : List (TraceEvent D)) → HasExecution same elect term_length i s m → trace_of s ≡ all
-        → trace_at step told ≡ more → HasExecution same elect term_length i (with_step s step told) next
+        → trace_at step replied ≡ more → HasExecution same elect term_length i (with_step s step replied) next
         → HasHistory same elect term_length i (all ++ more) next
-    done_on s m next step told all more has is shows now = record {
-      execution = with_step s step told;
-      told = now;
+    done_on s m next step replied all more has is shows now = record {
+      execution = with_step s step replied;
+      executed = now;
       same_trace =
           ap (λ ds. of_floor s.start.floor ++ ds)
-          (steps_pushed (new_member same elect s.start) m s.steps s.replies step told has.run)
-          ∙ (sym (append_assoc (of_floor s.start.floor) (trace_of_steps s.steps s.replies) (trace_at step told))
-          ∙ (ap (λ ds. ds ++ trace_at step told) is ∙ ap (λ ds. all ++ ds) shows));
+          (steps_pushed (new_member same elect s.start) m s.steps s.replies step replied has.run)
+          ∙ (sym (append_assoc (of_floor s.start.floor) (trace_of_steps s.steps s.replies) (trace_at step replied))
+          ∙ (ap (λ ds. ds ++ trace_at step replied) is ∙ ap (λ ds. all ++ ds) shows));
     }
 
     pub start_done : (start : StartFacts K L D) (m : MemberFacts K L D) (all : List (TraceEvent D))
@@ -119,30 +119,31 @@ module _ {K L D : Type 0} (same : D → D → Bool) (elect : Elect L) where
     start_done start m all begins none is shows =
         record {
           execution = new_execution start;
-          told = begin_execution start m begins none is;
+          executed = begin_execution start m begins none is;
           same_trace = append-nil (of_floor start.floor) ∙ shows;
         }
 
-    pub call_done : (m next : MemberFacts K L D) (call : CallFacts D) (told : ReplyFacts K D)
-        (all more : List (TraceEvent D)) → IsCall same elect m call told next
-        → trace_at {L = L} (Calls call) told ≡ more → HasHistory same elect term_length i all m
+    pub call_done : (m next : MemberFacts K L D) (call : CallFacts D) (replied : ReplyFacts K D)
+        (all more : List (TraceEvent D)) → IsCall same elect m call replied next
+        → trace_at {L = L} (Calls call) replied ≡ more → HasHistory same elect term_length i all m
         → HasHistory same elect term_length i (all ++ more) next
-    call_done m next call told all more is_call shows done =
-        done_on done.execution m next (Calls call) told all more done.told done.same_trace shows
-        (call_on done.execution m next call told is_call done.told)
+    call_done m next call replied all more is_call shows done =
+        done_on done.execution m next (Calls call) replied all more done.executed done.same_trace shows
+        (call_on done.execution m next call replied is_call done.executed)
 
     pub prune_done : (m : MemberFacts K L D) (all : List (TraceEvent D)) → HasHistory same elect term_length i all m
         → HasHistory same elect term_length i (all ++ []) (pruned_member m)
-    prune_done m all done = done_on done.execution m (pruned_member m) Prunes Done all [] done.told done.same_trace refl
-        (prune_on done.execution m done.told)
+    prune_done m all done = done_on done.execution m (pruned_member m) Prunes Done all
+        [] done.executed done.same_trace refl
+        (prune_on done.execution m done.executed)
 
     pub restart_done : (m next : MemberFacts K L D) (q : RestartFacts K L D) (result : Result (Unit {0}) RecoverError)
         (all more : List (TraceEvent D)) → IsRestart same elect m q result next → BeginsAs term_length i q.start.setup
         → trace_at (Restarts q) (restart_reply {K = K} {D = D} result) ≡ more
         → HasHistory same elect term_length i all m → HasHistory same elect term_length i (all ++ more) next
     restart_done m next q result all more restarts begins shows done =
-        done_on done.execution m next (Restarts q) (restart_reply result) all more done.told done.same_trace shows
-        (restart_on done.execution m next q result restarts begins done.told)
+        done_on done.execution m next (Restarts q) (restart_reply result) all more done.executed done.same_trace shows
+        (restart_on done.execution m next q result restarts begins done.executed)
 
     pub execution_ran : (s : Execution K L D) (m : MemberFacts K L D) → HasExecution same elect term_length i s m
         → IsExecution same elect term_length i s
@@ -151,7 +152,7 @@ module _ {K L D : Type 0} (same : D → D → Bool) (elect : Elect L) where
 
     pub done_ran : (all : List (TraceEvent D)) (m : MemberFacts K L D) → HasHistory same elect term_length i all m
         → (s : Execution K L D) × IsExecution same elect term_length i s × (trace_of s ≡ all)
-    done_ran all m done = (done.execution, execution_ran done.execution m done.told, done.same_trace)
+    done_ran all m done = (done.execution, execution_ran done.execution m done.executed, done.same_trace)
 
     module _ (decides : (d e : D) → same d e ≡ true → d ≡ e) where
       pub so_far_lawful : (s : Execution K L D) (m : MemberFacts K L D) → HasExecution same elect term_length i s m
@@ -160,4 +161,5 @@ module _ {K L D : Type 0} (same : D → D → Bool) (elect : Elect L) where
 
       pub done_lawful : (all : List (TraceEvent D)) (m : MemberFacts K L D) → HasHistory same elect term_length i all m
           → IsLawful term_length all
-      done_lawful all m done = subst (IsLawful term_length) done.same_trace (so_far_lawful done.execution m done.told)
+      done_lawful all m done = subst (IsLawful term_length) done.same_trace
+          (so_far_lawful done.execution m done.executed)

@@ -11,7 +11,7 @@ use Rattle.simplex_member.specs.declared.member.calls.Reply.TheVariants as reply
 use Rattle.simplex_member.specs.declared.member.runs.Step.{Step}
 use Rattle.simplex_member.specs.declared.member.runs.Step.TheVariants as step
 use Rattle.simplex_record.specs.declared.record.start.Start.{Start}
-use Rattle.simplex_member.specs.Calls.{ReplyFacts, told, asked, CallFacts, Added, AddedNullification}
+use Rattle.simplex_member.specs.Calls.{ReplyFacts, reply_facts, asked, CallFacts, Added, AddedNullification}
 use Rattle.simplex_member.specs.declared.member.restart.Restart.{Restart}
 use Rattle.simplex_member.specs.Restarts.{RestartFacts, restart_facts}
 use Rattle.simplex_member.specs.Runs.{Calls, Restarts, step_facts, steps_of, restart_reply}
@@ -25,7 +25,7 @@ use Rattle.laws_safety.specs.Executions.{trace_of, BeginsAs, RunsAs}
 use Rattle.laws_safety.proofs.lists.Splits.{Contains-cases, Contains-cons_rest}
 
 module _ {S D K G C : Type 0} (bytes_of : C → List ℕ) where
-  votes_shown : (r : Reply S D K G C) → votes_in r ≡ signed_in (told bytes_of r)
+  votes_shown : (r : Reply S D K G C) → votes_in r ≡ signed_in (reply_facts bytes_of r)
   votes_shown (reply.Notarize None) = refl
   votes_shown (reply.Notarize (Some vote)) = refl
   votes_shown (reply.Nullify None) = refl
@@ -58,25 +58,26 @@ module _ (L : Type 0) {S D K G C : Type 0} (bytes_of : C → List ℕ) where
   asked_hands _ = refl
 
   taken_where : (c : Call S D K G C) (r : Reply S D K G C)
-      → taken_by c r ≡ where_added (told bytes_of r) (certificates_in c)
+      → taken_by c r ≡ where_added (reply_facts bytes_of r) (certificates_in c)
   taken_where c (reply.Added newly leader) = refl
   taken_where c (reply.AddedNullification newly) = refl
   taken_where c _ = refl
 
   call_shown : (c : Call S D K G C) (r : Reply S D K G C)
-      → taken_by c r ≡ accepted_by (asked bytes_of c) (told bytes_of r)
+      → taken_by c r ≡ accepted_by (asked bytes_of c) (reply_facts bytes_of r)
   call_shown c r = taken_where c r
-      ∙ sym (accepted_where (asked bytes_of c) (told bytes_of r) ∙ ap (where_added (told bytes_of r)) (asked_hands c))
+      ∙ sym (accepted_where (asked bytes_of c) (reply_facts bytes_of r)
+      ∙ ap (where_added (reply_facts bytes_of r)) (asked_hands c))
 
   pub made_shown : (c : Call S D K G C) (r : Reply S D K G C)
-      → trace_at {L = L} (Calls (asked bytes_of c)) (told bytes_of r) ≡ taken_by c r ++ votes_in r
+      → trace_at {L = L} (Calls (asked bytes_of c)) (reply_facts bytes_of r) ≡ taken_by c r ++ votes_in r
   made_shown c r = sym (ap (λ ds. ds ++ votes_in r) (call_shown c r)
-      ∙ ap (λ ds. accepted_by (asked bytes_of c) (told bytes_of r) ++ ds) (votes_shown bytes_of r))
+      ∙ ap (λ ds. accepted_by (asked bytes_of c) (reply_facts bytes_of r) ++ ds) (votes_shown bytes_of r))
 
 module _ {S L D K G C : Type 0} (me : S → Option ℕ) (members : S → List K) (terms : L → Terms) (elects_early : L → Bool)
     (bytes_of : C → List ℕ) where
   taken_shown : (s : Step S L D K G C) (r : Reply S D K G C)
-      → taken_in s r ≡ accepted_at (step_facts me members terms elects_early bytes_of s) (told bytes_of r)
+      → taken_in s r ≡ accepted_at (step_facts me members terms elects_early bytes_of s) (reply_facts bytes_of r)
   taken_shown (step.Call c) r = call_shown L bytes_of c r
   taken_shown step.PruneRecord r = refl
   taken_shown (step.Restart q) reply.Restarted = floor_shown bytes_of q.start.floor
@@ -84,14 +85,14 @@ module _ {S L D K G C : Type 0} (me : S → Option ℕ) (members : S → List K)
 
   all_shown : (steps : List (Step S L D K G C)) (replies : List (Reply S D K G C))
       → shown_by steps replies ≡ trace_of_steps (steps_of me members terms elects_early bytes_of steps)
-      (map (told bytes_of) replies)
+      (map (reply_facts bytes_of) replies)
   all_shown [] replies = refl
   all_shown (s ∷ steps) [] = refl
   all_shown (s ∷ steps) (r ∷ replies) =
       ap (λ ds. (ds ++ votes_in r) ++ shown_by steps replies) (taken_shown s r)
-      ∙ (ap (λ ds. (accepted_at (step_facts me members terms elects_early bytes_of s) (told bytes_of r) ++ ds)
+      ∙ (ap (λ ds. (accepted_at (step_facts me members terms elects_early bytes_of s) (reply_facts bytes_of r) ++ ds)
       ++ shown_by steps replies) (votes_shown bytes_of r)
-      ∙ ap (λ ds. trace_at (step_facts me members terms elects_early bytes_of s) (told bytes_of r) ++ ds)
+      ∙ ap (λ ds. trace_at (step_facts me members terms elects_early bytes_of s) (reply_facts bytes_of r) ++ ds)
       (all_shown steps replies))
 
   pub execution_shown : (start : Start S L D K G C) (steps : List (Step S L D K G C)) (replies : List (Reply S D K G C))

@@ -9,7 +9,7 @@ use Rattle.simplex_voter.specs.ProposalRequests.{proposal_of}
 use Rattle.simplex_record.specs.Events.{Event, after_event, Proposed}
 use Rattle.std.specs.Option.{option_or}
 use Rattle.laws_safety.proofs.frames.EachRound.{rounds_or_gone}
-use Rattle.laws_safety.proofs.votes.HeldProposals.{settled_held, own_held, heard_held}
+use Rattle.laws_safety.proofs.votes.HeldProposals.{settled_held, own_held, received_held}
 use Rattle.simplex_record.proofs.Paths.{event_path, asked_of_all}
 use Rattle.simplex_record.proofs.Steps as step
 use Rattle.simplex_record.proofs.Steps.{RoundStep, notarization_by, finalization_by, proposal_by, note_by}
@@ -19,7 +19,7 @@ module _ {K D : Type 0} (Q : Proposal D → Type 0) where
   pub record BringsProposals (e : Event K D) : Type 0 where
     pub notarized : (c : ProposalFacts D) → notarization_by e ≡ Some c → Q c.proposal
     pub finalized : (c : ProposalFacts D) → finalization_by e ≡ Some c → Q c.proposal
-    pub heard : (v : ℕ) (p : Proposal D) → proposal_by e ≡ Some (v, p) → Q p
+    pub received : (v : ℕ) (p : Proposal D) → proposal_by e ≡ Some (v, p) → Q p
     pub noted : (p : Proposal D) → note_by e ≡ Some p → Q p
     pub built : (context : Context D K) (payload : D) (now : ℕ) → e ≡ Proposed context payload now
         → Q (proposal_of context payload)
@@ -54,8 +54,8 @@ module _ {K L D : Type 0} (same : D → D → Bool) (decides : (d e : D) → sam
       the_one c.proposal q (brings.finalized c says) (sym (settled_held same decides r.slot c.proposal) ∙ is)
   change_held y v r s (step.VotedAgain p binding says at bound) holds q is =
       one_of r.slot.held p q holds (brings.noted p says) (sym (own_held same r.slot p decides) ∙ is)
-  change_held y v r s (step.Heard p says undecided) holds q is =
-      one_of r.slot.held p q holds (brings.heard v p says) (sym (heard_held same r.slot p) ∙ is)
+  change_held y v r s (step.Received p says undecided) holds q is =
+      one_of r.slot.held p q holds (brings.received v p says) (sym (received_held same r.slot p) ∙ is)
   change_held y v r s (step.Built context payload now says answered at) holds q is =
       one_of r.slot.held (proposal_of context payload) q holds (brings.built context payload now says)
       (sym (own_held same r.slot (proposal_of context payload) decides) ∙ is)

@@ -55,11 +55,11 @@ module _ {K L D : Type 0} (same : D → D → Bool) (elect : Elect L) (term_leng
       by_test true (_, leaves) = rw leaves sound
       by_test false goes = from_copy (cut_member m r.drop r.prune) r.start result left fresh goes
 
-  pub told_keeps : (m : MemberFacts K L D) (call : CallFacts D) (told : ReplyFacts K D) (left : MemberFacts K L D)
-      → IsCall same elect m call told left → HoldsIn P m.life → HoldsIn P left.life
-  told_keeps m call told left is_step sound =
+  pub replied_keeps : (m : MemberFacts K L D) (call : CallFacts D) (replied : ReplyFacts K D) (left : MemberFacts K L D)
+      → IsCall same elect m call replied left → HoldsIn P m.life → HoldsIn P left.life
+  replied_keeps m call replied left is_step sound =
       elim (call_outcome same elect (λ c t x y. P x → P y) (λ c f x s. s) (λ c x s. s)
-      (λ c x o allowed s. call_by_any same elect x o P s (λ e. keeps x e s) c) m call told left is_step) [
+      (λ c x o allowed s. call_by_any same elect x o P s (λ e. keeps x e s) c) m call replied left is_step) [
         | inl (fault, tells, dies) ↦ subst (HoldsIn P) (sym dies) tt
         | inr (x, y, alive, lives, leads) ↦ subst (HoldsIn P) (sym lives) (leads (subst (HoldsIn P) alive sound))
       ]
@@ -68,13 +68,13 @@ module _ {K L D : Type 0} (same : D → D → Bool) (elect : Elect L) (term_leng
   pub run_keeps : (steps : List (StepFacts K L D)) (replies : List (ReplyFacts K D)) (m end : MemberFacts K L D)
       → KeepTerms term_length steps → HoldsIn P m.life → IsRun same elect m steps replies end → HoldsIn P end.life
   run_keeps [] [] m end fresh sound run = subst (λ n. HoldsIn P n.life) run sound
-  run_keeps [] (told ∷ replies) m end fresh sound run = absurd run
+  run_keeps [] (replied ∷ replies) m end fresh sound run = absurd run
   run_keeps (step ∷ steps) [] m end fresh sound run = absurd run
-  run_keeps (Calls call ∷ steps) (told ∷ replies) m end fresh sound (next, is_step, rest) =
-      run_keeps steps replies next end fresh (told_keeps m call told next is_step sound) rest
-  run_keeps (Prunes ∷ steps) (told ∷ replies) m end fresh sound (next, (tells, leaves), rest) =
+  run_keeps (Calls call ∷ steps) (replied ∷ replies) m end fresh sound (next, is_step, rest) =
+      run_keeps steps replies next end fresh (replied_keeps m call replied next is_step sound) rest
+  run_keeps (Prunes ∷ steps) (replied ∷ replies) m end fresh sound (next, (tells, leaves), rest) =
       run_keeps steps replies next end fresh (rw leaves sound) rest
-  run_keeps (Restarts r ∷ steps) (told ∷ replies) m end fresh sound (next, is_step, rest) =
+  run_keeps (Restarts r ∷ steps) (replied ∷ replies) m end fresh sound (next, is_step, rest) =
       run_keeps steps replies next end fresh.1 (restart_keeps m r is_step.0 next fresh.0 sound is_step.1) rest
 
   -- from the start of a run on

@@ -22,29 +22,30 @@ pub record ConflictsLast {K L D : Type 0} (replies : List (ReplyFacts K D)) (x y
   pub conflicts : ConflictsStay replies x y
 
 module _ {K D : Type 0} where
-  more_dropped : (told : ReplyFacts K D) (replies : List (ReplyFacts K D)) (v : ℕ) → WasDropped replies v
-      → WasDropped (told ∷ replies) v
-  more_dropped told replies v (views, there, among) = (views, Contains-cons_rest told replies _ there, among)
+  more_dropped : (replied : ReplyFacts K D) (replies : List (ReplyFacts K D)) (v : ℕ) → WasDropped replies v
+      → WasDropped (replied ∷ replies) v
+  more_dropped replied replies v (views, there, among) = (views, Contains-cons_rest replied replies _ there, among)
 
-  first_dropped : (told : ReplyFacts K D) (replies : List (ReplyFacts K D)) (v : ℕ) → WasDropped (told ∷ []) v
-      → WasDropped (told ∷ replies) v
-  first_dropped told replies v (views, there, among) = (views, Contains-append_left (told ∷ []) replies _ there, among)
+  first_dropped : (replied : ReplyFacts K D) (replies : List (ReplyFacts K D)) (v : ℕ) → WasDropped (replied ∷ []) v
+      → WasDropped (replied ∷ replies) v
+  first_dropped replied replies v (views, there, among) =
+      (views, Contains-append_left (replied ∷ []) replies _ there, among)
 
 module _ {K L D : Type 0} where
   pub keeps : (replies : List (ReplyFacts K D)) (x : StateFacts K L D) → ConflictsLast replies x x
   keeps replies x = record { floor = omega arith; conflicts = λ v is. inl is }
 
-  pub keeps_on : (told : ReplyFacts K D) (replies : List (ReplyFacts K D)) (x y z : StateFacts K L D)
-      → ConflictsLast (told ∷ []) x y → ConflictsLast replies y z → ConflictsLast (told ∷ replies) x z
-  keeps_on told replies x y z p q = record { floor = omega (arith, p.floor, q.floor); conflicts = conflicts }
+  pub keeps_on : (replied : ReplyFacts K D) (replies : List (ReplyFacts K D)) (x y z : StateFacts K L D)
+      → ConflictsLast (replied ∷ []) x y → ConflictsLast replies y z → ConflictsLast (replied ∷ replies) x z
+  keeps_on replied replies x y z p q = record { floor = omega (arith, p.floor, q.floor); conflicts = conflicts }
     where
-      conflicts : ConflictsStay (told ∷ replies) x z
+      conflicts : ConflictsStay (replied ∷ replies) x z
       conflicts v is = elim (p.conflicts v is) [
         | inr pruned ↦ inr (record
-            { dropped = first_dropped told replies v pruned.dropped; below = omega (arith, pruned.below, q.floor) })
+            { dropped = first_dropped replied replies v pruned.dropped; below = omega (arith, pruned.below, q.floor) })
         | inl stays ↦ elim (q.conflicts v stays) [
           | inl still ↦ inl still
-          | inr pruned ↦ inr (record { dropped = more_dropped told replies v pruned.dropped; below = pruned.below })
+          | inr pruned ↦ inr (record { dropped = more_dropped replied replies v pruned.dropped; below = pruned.below })
         ]
       ]
 
@@ -65,10 +66,10 @@ module _ {K L D : Type 0} (same : D → D → Bool) (elect : Elect L) where
         })
       ]
 
-  told_keeps : (m : MemberFacts K L D) (call : CallFacts D) (told : ReplyFacts K D) (left : MemberFacts K L D)
-      → IsCall same elect m call told left → WhileAlive (ConflictsLast (told ∷ [])) m.life left.life
-  told_keeps =
-      each_call same elect (λ call told. ConflictsLast (told ∷ []))
+  replied_keeps : (m : MemberFacts K L D) (call : CallFacts D) (replied : ReplyFacts K D) (left : MemberFacts K L D)
+      → IsCall same elect m call replied left → WhileAlive (ConflictsLast (replied ∷ [])) m.life left.life
+  replied_keeps =
+      each_call same elect (λ call replied. ConflictsLast (replied ∷ []))
       (λ call fault x. keeps (Refused fault ∷ []) x) (λ call x. keeps (NotAllowed ∷ []) x)
       (λ call x o allowed. call_keeps call x o allowed)
 
@@ -76,11 +77,12 @@ module _ {K L D : Type 0} (same : D → D → Bool) (elect : Elect L) where
       → IsLifetime same elect m calls replies end → WhileAlive (ConflictsLast replies) m.life end.life
   life_keeps m end [] [] life = subst (λ n. WhileAlive (ConflictsLast []) m.life n.life) life
       (alive_still (ConflictsLast []) m.life (λ x. keeps [] x))
-  life_keeps m end [] (told ∷ replies) life = absurd life
+  life_keeps m end [] (replied ∷ replies) life = absurd life
   life_keeps m end (call ∷ calls) [] life = absurd life
-  life_keeps m end (call ∷ calls) (told ∷ replies) (next, is_call, rest) =
-      alive_joined (ConflictsLast (told ∷ [])) (ConflictsLast replies) (ConflictsLast (told ∷ replies)) m.life next.life
+  life_keeps m end (call ∷ calls) (replied ∷ replies) (next, is_call, rest) =
+      alive_joined (ConflictsLast (replied ∷ [])) (ConflictsLast replies)
+      (ConflictsLast (replied ∷ replies)) m.life next.life
       end.life
-      (λ x y z p q. keeps_on told replies x y z p q)
-      (told_keeps m call told next is_call)
+      (λ x y z p q. keeps_on replied replies x y z p q)
+      (replied_keeps m call replied next is_call)
       (life_keeps next end calls replies rest)

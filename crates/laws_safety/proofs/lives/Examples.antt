@@ -91,8 +91,8 @@ far = AddNotarization (certificate 1 0) ∷ AddFinalization (certificate 1 9) 0 
 still_there : has_conflict (after far) 1 ≡ true
 still_there = refl
 
-told_dropped : prune_answer (after far) ≡ 1 ∷ 2 ∷ []
-told_dropped = refl
+replied_dropped : prune_answer (after far) ≡ 1 ∷ 2 ∷ []
+replied_dropped = refl
 
 abbrev pruned : State
 pruned = after (AddNotarization (certificate 1 0) ∷ AddFinalization (certificate 1 9) 0 ∷ AddFinalization

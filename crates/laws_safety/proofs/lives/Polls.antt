@@ -24,7 +24,7 @@ use Rattle.laws_safety.specs.Traces.{TraceEvent, of_floor, trace_at, trace_of_st
 use Rattle.laws_safety.specs.LifetimeLaws.{CurrentTimesOut, PollIsAnswered, PollsAreAnswered}
 use Rattle.laws_safety.specs.TermLengths.{HasTerms, KeepTerms}
 use Rattle.laws_safety.proofs.frames.Fresh.{fresh_state}
-use Rattle.laws_safety.proofs.frames.RunsKeep.{HoldsIn, told_keeps, restart_keeps, run_induction}
+use Rattle.laws_safety.proofs.frames.RunsKeep.{HoldsIn, replied_keeps, restart_keeps, run_induction}
 use Rattle.laws_safety.proofs.lives.ViewTimeouts.{TimesOut as Timed, floor_times_out, event_times_out, says_timeout}
 use Rattle.laws_safety.proofs.records.RunsLawful.{LivesOn, MemberLives, step_lives, run_lives, start_lives}
 
@@ -80,14 +80,15 @@ module _ {K L D : Type 0} (x : StateFacts K L D) (now : ℕ) where
           (retried r now x.settings.timeout_retry (has_skip_budget x) some))
 
 module _ {K L D : Type 0} (same : D → D → Bool) (elect : Elect L) where
-  poll_answered : (m next : MemberFacts K L D) (now : ℕ) (told : ReplyFacts K D)
+  poll_answered : (m next : MemberFacts K L D) (now : ℕ) (replied : ReplyFacts K D)
       → ((x : StateFacts K L D) → m.life ≡ Some x → has_timeout x ≡ true)
-      → IsCall same elect m (NextTimeout now) told next → PollIsAnswered {L = L} (Calls (NextTimeout now)) told
+      → IsCall same elect m (NextTimeout now) replied next → PollIsAnswered {L = L} (Calls (NextTimeout now)) replied
   unfolding IsCall
-  poll_answered m next now told has is_call = by_life m.life refl is_call
+  poll_answered m next now replied has is_call = by_life m.life refl is_call
     where
-      by_life : (o : Option (StateFacts K L D)) → m.life ≡ o → AnswersAlive same elect o m (NextTimeout now) told next
-          → PollIsAnswered {L = L} (Calls (NextTimeout now)) told
+      by_life : (o : Option (StateFacts K L D)) → m.life ≡ o
+          → AnswersAlive same elect o m (NextTimeout now) replied next
+          → PollIsAnswered {L = L} (Calls (NextTimeout now)) replied
       by_life None dead (tells, leaves) = inr (inl tells)
       by_life (Some x) alive (inr (_, _, inl (needs, _))) = absurd (false≢true needs)
       by_life (Some x) alive (inr (_, _, inr (_, falls, _))) = absurd (false≢true falls)
@@ -98,8 +99,8 @@ module _ {K L D : Type 0} (same : D → D → Bool) (elect : Elect L) where
           due : has_timeout x ≡ true
           due = has x alive
 
-          by_fault : (failed late : Bool) → told ≡ unless_refused (first_fault failed false late)
-              (TimesOut (next_timeout_answer x now)) → PollIsAnswered {L = L} (Calls (NextTimeout now)) told
+          by_fault : (failed late : Bool) → replied ≡ unless_refused (first_fault failed false late)
+              (TimesOut (next_timeout_answer x now)) → PollIsAnswered {L = L} (Calls (NextTimeout now)) replied
           by_fault true late is = inr (inl is)
           by_fault false true is = inr (inr is)
           by_fault false false is = let answer = polled x now due in inl (answer.0, is ∙ ap TimesOut answer.1)
@@ -133,37 +134,37 @@ module _ {K L D : Type 0} (same : D → D → Bool) (decides : (d e : D) → sam
 
 module _ {K L D : Type 0} (same : D → D → Bool) (decides : (d e : D) → same d e ≡ true → d ≡ e) (elect : Elect L)
     (term_length : ℕ) (some : 0 < term_length) where
-  step_times_out : (step : StepFacts K L D) (steps : List (StepFacts K L D)) (told : ReplyFacts K D)
+  step_times_out : (step : StepFacts K L D) (steps : List (StepFacts K L D)) (replied : ReplyFacts K D)
       (m next : MemberFacts K L D) → KeepTerms term_length (step ∷ steps) → HoldsIn Timed m.life
-      → IsStep same elect m step told next → HoldsIn Timed next.life
-  step_times_out (Calls call) steps told m next keep timed is_step =
-      told_keeps same elect term_length Timed (floor_times_out same elect term_length) (event_times_out same elect) m
-      call told next is_step timed
-  step_times_out Prunes steps told m next keep timed is_step = rw is_step.1 timed
-  step_times_out (Restarts r) steps told m next keep timed is_step =
+      → IsStep same elect m step replied next → HoldsIn Timed next.life
+  step_times_out (Calls call) steps replied m next keep timed is_step =
+      replied_keeps same elect term_length Timed (floor_times_out same elect term_length) (event_times_out same elect) m
+      call replied next is_step timed
+  step_times_out Prunes steps replied m next keep timed is_step = rw is_step.1 timed
+  step_times_out (Restarts r) steps replied m next keep timed is_step =
       restart_keeps same elect term_length Timed (floor_times_out same elect term_length) (event_times_out same elect) m
       r is_step.0 next keep.0 timed is_step.1
 
-  step_answered : (step : StepFacts K L D) (told : ReplyFacts K D) (trace : List (TraceEvent D))
+  step_answered : (step : StepFacts K L D) (replied : ReplyFacts K D) (trace : List (TraceEvent D))
       (m next : MemberFacts K L D) → HoldsIn Timed m.life → MemberLives term_length trace m
-      → IsStep same elect m step told next → PollIsAnswered step told
-  step_answered (Calls (NextTimeout now)) told trace m next timed lives is_step =
-      poll_answered same elect m next now told
+      → IsStep same elect m step replied next → PollIsAnswered step replied
+  step_answered (Calls (NextTimeout now)) replied trace m next timed lives is_step =
+      poll_answered same elect m next now replied
       (λ x alive. has_its_timeout term_length trace m.closed lives.0 m.entries m.outstanding_work x
       (subst (HoldsIn Timed) alive timed)
       (subst (LivesOn term_length trace m.closed lives.0 m.entries m.outstanding_work) alive lives.1)) is_step
-  step_answered _ told trace m next timed lives is_step = tt
+  step_answered _ replied trace m next timed lives is_step = tt
 
   run_polls : (steps : List (StepFacts K L D)) (replies : List (ReplyFacts K D)) (trace : List (TraceEvent D))
       (m end : MemberFacts K L D) → KeepTerms term_length steps → HoldsIn Timed m.life → MemberLives term_length trace m
       → IsRun same elect m steps replies end → PollsAreAnswered steps replies
   run_polls [] replies trace m end keep timed lives run = tt
   run_polls (step ∷ steps) [] trace m end keep timed lives run = tt
-  run_polls (step ∷ steps) (told ∷ replies) trace m end keep timed lives (next, is_step, rest) =
-      let kept = step_lives same decides elect term_length some step steps told trace m next keep lives is_step in (
-        step_answered step told trace m next timed lives is_step,
-        run_polls steps replies (trace ++ trace_at step told) next end kept.0
-            (step_times_out step steps told m next keep timed is_step) kept.1 rest,
+  run_polls (step ∷ steps) (replied ∷ replies) trace m end keep timed lives (next, is_step, rest) =
+      let kept = step_lives same decides elect term_length some step steps replied trace m next keep lives is_step in (
+        step_answered step replied trace m next timed lives is_step,
+        run_polls steps replies (trace ++ trace_at step replied) next end kept.0
+            (step_times_out step steps replied m next keep timed is_step) kept.1 rest,
       )
 
 module _ {K L D : Type 0} (same : D → D → Bool) (decides : (d e : D) → same d e ≡ true → d ≡ e) (elect : Elect L) where

@@ -266,7 +266,7 @@ module _ {K L D : Type 0} (same : D → D → Bool) (elect : Elect L) (x : State
         nullification = inl refl;
         finalization = inl refl;
       }
-  change_lasts y v r s (step.Heard p says free) =
+  change_lasts y v r s (step.Received p says free) =
       record {
         conflict = λ h. voted_conflict (same_proposal same) r.slot p h;
         notarization_handed = λ h. h;
@@ -363,9 +363,9 @@ found_key test v (e ∷ es) there passes = elim (cases_eq v e.0) [
 ]
 
 -- a view below the retained ones isn't tracked after a call whose reply says that it was dropped
-pub record Drops {K L D : Type 0} (x y : StateFacts K L D) (told : ReplyFacts K D) (v : ℕ) : Type 0 where
+pub record Drops {K L D : Type 0} (x y : StateFacts K L D) (replied : ReplyFacts K D) (v : ℕ) : Type 0 where
   pub gone : IsGone x y v
-  pub dropped : is_tracked x v ≡ true → WasDropped (told ∷ []) v
+  pub dropped : is_tracked x v ≡ true → WasDropped (replied ∷ []) v
 
 -- of the events of a call
 abbrev pub AllLast : {K L D : Type 0} → StateFacts K L D → List (Event K D) → StateFacts K L D → Type 0
@@ -391,16 +391,16 @@ module _ {K L D : Type 0} (same : D → D → Bool) (elect : Elect L) (x : State
   call_lasts o call allowed v =
       elim (call_by_event same elect x o (AllLast x) (none_lasts x) taken_lasts call allowed v) [
         | inl lasts ↦ inl lasts
-        | inr (prunes, gone) ↦ inr (record { gone = gone; dropped = λ tracked. told call prunes gone.below tracked })
+        | inr (prunes, gone) ↦ inr (record { gone = gone; dropped = λ tracked. replied call prunes gone.below tracked })
       ]
     where
-      told : (call : CallFacts D) → list_any is_prune (events_of o call) ≡ true → v < min_active x
+      replied : (call : CallFacts D) → list_any is_prune (events_of o call) ≡ true → v < min_active x
           → is_tracked x v ≡ true → WasDropped (answer same elect x o call ∷ []) v
-      told Prune prunes below tracked = (let under : nat_lt v (min_active x) ≡ true = grind (arith, nat_tests) in
+      replied Prune prunes below tracked = (let under : nat_lt v (min_active x) ≡ true = grind (arith, nat_tests) in
           (prune_answer x, (0, omega arith, refl), found_key (λ u. nat_lt u (min_active x)) v x.rounds tracked under))
-      told (Proposed w payload now) prunes below tracked =
+      replied (Proposed w payload now) prunes below tracked =
           absurd
           (true≢false (sym prunes ∙ in_context_prunes (λ c. event.Proposed c payload now) (λ c. refl) (context_at o w)))
-      told (SupersedeProposalRequest w) prunes below tracked =
+      replied (SupersedeProposalRequest w) prunes below tracked =
           absurd (true≢false (sym prunes ∙ in_context_prunes event.Supersede (λ c. refl) (context_at o w)))
-      told _ prunes below tracked = absurd (true≢false (sym prunes))
+      replied _ prunes below tracked = absurd (true≢false (sym prunes))

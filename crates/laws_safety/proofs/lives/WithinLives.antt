@@ -36,9 +36,9 @@ module _ {K L D : Type 0} (same : D → D → Bool) (elect : Elect L) where
       → Holds call (answer same elect x o call) x (after_call same elect x o call)) where
     -- the call is refused and leaves no state, or it leads from one state to another
     abbrev pub Outcome : MemberFacts K L D → CallFacts D → ReplyFacts K D → MemberFacts K L D → Type 0
-    Outcome m call told left =
-        ((fault : Fault) × (told ≡ Refused fault) × (left.life ≡ None))
-        ⊎ ((x y : StateFacts K L D) × (m.life ≡ Some x) × (left.life ≡ Some y) × Holds call told x y)
+    Outcome m call replied left =
+        ((fault : Fault) × (replied ≡ Refused fault) × (left.life ≡ None))
+        ⊎ ((x y : StateFacts K L D) × (m.life ≡ Some x) × (left.life ≡ Some y) × Holds call replied x y)
 
     living_call : (m : MemberFacts K L D) (call : CallFacts D) (x : StateFacts K L D) → m.life ≡ Some x
         → (y : StateFacts K L D) × ((left_of same elect x m call).life ≡ Some y)
@@ -58,13 +58,14 @@ module _ {K L D : Type 0} (same : D → D → Bool) (elect : Elect L) where
         by_allowed true allowed = by_fault (fault_of x call) refl allowed
         by_allowed false refuses = rw refuses (x, alive, not_allowed call x)
 
-    pub call_outcome : (m : MemberFacts K L D) (call : CallFacts D) (told : ReplyFacts K D) (left : MemberFacts K L D)
-        → IsCall same elect m call told left → Outcome m call told left
+    pub call_outcome : (m : MemberFacts K L D) (call : CallFacts D) (replied : ReplyFacts K D)
+        (left : MemberFacts K L D)
+        → IsCall same elect m call replied left → Outcome m call replied left
     unfolding IsCall
-    call_outcome m call told left is_call = by_life m.life refl is_call
+    call_outcome m call replied left is_call = by_life m.life refl is_call
       where
-        by_life : (o : Option (StateFacts K L D)) → m.life ≡ o → AnswersAlive same elect o m call told left
-            → Outcome m call told left
+        by_life : (o : Option (StateFacts K L D)) → m.life ≡ o → AnswersAlive same elect o m call replied left
+            → Outcome m call replied left
         by_life None dead (tells, leaves) = inl (_, tells, ap (λ n. n.life) leaves ∙ dead)
         by_life (Some x) alive (inl (tells, leaves)) =
             let goes = living_call m call x alive in
@@ -80,18 +81,18 @@ module _ {K L D : Type 0} (same : D → D → Bool) (elect : Elect L) where
             (x, x, alive, ap (λ n. n.life) leaves ∙ alive, subst (λ t. Holds call t x x) (sym tells) (refused call _ x))
         by_life (Some x) alive (inr (_, tells, inr (_, _, leaves))) = inl (_, tells, ap (λ n. n.life) leaves)
 
-    pub each_call : (m : MemberFacts K L D) (call : CallFacts D) (told : ReplyFacts K D) (left : MemberFacts K L D)
-        → IsCall same elect m call told left → WhileAlive (Holds call told) m.life left.life
-    each_call m call told left is_step = elim (call_outcome m call told left is_step) [
+    pub each_call : (m : MemberFacts K L D) (call : CallFacts D) (replied : ReplyFacts K D) (left : MemberFacts K L D)
+        → IsCall same elect m call replied left → WhileAlive (Holds call replied) m.life left.life
+    each_call m call replied left is_step = elim (call_outcome m call replied left is_step) [
       | inl (fault, tells, dies) ↦ rw dies tt
       | inr (x, y, alive, lives, holds) ↦ rw (alive, lives) holds
     ]
 
 module _ {K L D : Type 0} (same : D → D → Bool) (elect : Elect L) where
-  call_never_falls : (m : MemberFacts K L D) (call : CallFacts D) (told : ReplyFacts K D) (left : MemberFacts K L D)
-      → IsCall same elect m call told left → WhileAlive NeverFalls m.life left.life
+  call_never_falls : (m : MemberFacts K L D) (call : CallFacts D) (replied : ReplyFacts K D) (left : MemberFacts K L D)
+      → IsCall same elect m call replied left → WhileAlive NeverFalls m.life left.life
   call_never_falls =
-      each_call same elect (λ call told. NeverFalls)
+      each_call same elect (λ call replied. NeverFalls)
       (λ call fault x. never_fell x) (λ call x. never_fell x)
       (λ call x o allowed. never_falls x _ (call_goes same elect x o call))
 
@@ -99,9 +100,9 @@ module _ {K L D : Type 0} (same : D → D → Bool) (elect : Elect L) where
       → IsLifetime same elect m calls replies end → WhileAlive NeverFalls m.life end.life
   life_never_falls m end [] [] life = subst (λ n. WhileAlive NeverFalls m.life n.life) life
       (alive_still NeverFalls m.life (λ x. never_fell x))
-  life_never_falls m end [] (told ∷ replies) life = absurd life
+  life_never_falls m end [] (replied ∷ replies) life = absurd life
   life_never_falls m end (call ∷ calls) [] life = absurd life
-  life_never_falls m end (call ∷ calls) (told ∷ replies) (next, is_call, rest) =
+  life_never_falls m end (call ∷ calls) (replied ∷ replies) (next, is_call, rest) =
       alive_joined NeverFalls NeverFalls NeverFalls m.life next.life end.life (λ x y z. falls_never x y z)
-      (call_never_falls m call told next is_call)
+      (call_never_falls m call replied next is_call)
       (life_never_falls next end calls replies rest)

@@ -15,43 +15,43 @@ use Rattle.laws_safety.specs.Replicas.{FewFaulty, Backed, IsNetworkOf}
 use Rattle.laws_safety.specs.Executions.{BeginsAs, IsExecution}
 use Rattle.laws_safety.specs.ScenarioSteps.{in_turn}
 use Rattle.laws_safety.proofs.networks.Continuations.{AreExecutions, network_of, backed_so}
-use Rattle.laws_safety.proofs.networks.ScenarioSteps.{told_in, ran_as_told}
+use Rattle.laws_safety.proofs.networks.ScenarioSteps.{replied_in, ran_as_replied}
 
-early_told : told_in early ≡ early.replies
+early_replied : replied_in early ≡ early.replies
 unfolding standing propose_answer proposed_answer find_parent captured_parent_valid has_valid_parent_span
     ancestry_payload_for_child first_unnullified_view explicit_ancestry_payload optimistic_ancestry_payload
     is_handoff_parent is_voted_ancestor can_chain_on in_issuance_window is_admitted verification_matches
     parent_payload_for may_notarize may_nullify may_finalize has_conflicting_nullify required_certification_parent
-early_told = refl
+early_replied = refl
 
-following_told : told_in following_early ≡ following_early.replies
+following_replied : replied_in following_early ≡ following_early.replies
 unfolding standing propose_answer proposed_answer find_parent captured_parent_valid has_valid_parent_span
     ancestry_payload_for_child first_unnullified_view explicit_ancestry_payload optimistic_ancestry_payload
     is_handoff_parent is_voted_ancestor can_chain_on in_issuance_window is_admitted verification_matches
     parent_payload_for may_notarize may_nullify may_finalize has_conflicting_nullify required_certification_parent
-following_told = refl
+following_replied = refl
 
-joining_told : told_in joining ≡ joining.replies
+joining_replied : replied_in joining ≡ joining.replies
 unfolding standing propose_answer proposed_answer find_parent captured_parent_valid has_valid_parent_span
     ancestry_payload_for_child first_unnullified_view explicit_ancestry_payload optimistic_ancestry_payload
     is_handoff_parent is_voted_ancestor can_chain_on in_issuance_window is_admitted verification_matches
     parent_payload_for may_notarize may_nullify may_finalize has_conflicting_nullify required_certification_parent
-joining_told = refl
+joining_replied = refl
 
 begins : (me : ℕ) → BeginsAs 2 me (ahead_start me).setup
 begins me = record { terms = record { terms = refl; some = omega arith }; signs_as = inl refl }
 
 early_ran : IsExecution nat_eq in_turn 2 0 early
 unfolding first_recover_error
-early_ran = ran_as_told 2 0 early (begins 0) tt refl tt early_told
+early_ran = ran_as_replied 2 0 early (begins 0) tt refl tt early_replied
 
 following_ran : IsExecution nat_eq in_turn 2 1 following_early
 unfolding first_recover_error
-following_ran = ran_as_told 2 1 following_early (begins 1) tt refl tt following_told
+following_ran = ran_as_replied 2 1 following_early (begins 1) tt refl tt following_replied
 
 joining_ran : IsExecution nat_eq in_turn 2 2 joining
 unfolding first_recover_error
-joining_ran = ran_as_told 2 2 joining (begins 2) tt refl tt joining_told
+joining_ran = ran_as_replied 2 2 joining (begins 2) tt refl tt joining_replied
 
 few : FewFaulty voted_ahead
 few = inl (omega arith, omega arith)

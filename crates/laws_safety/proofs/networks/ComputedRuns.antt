@@ -38,10 +38,10 @@ module _ {K L D : Type 0} (same : D → D → Bool) (elect : Elect L) where
   grows_at m r = retention_grows m r.prune r.start.setup.settings.view_retention
 
   -- the reply to a restart, by whether the retention grows and by the error that applies
-  abbrev pub told_restart : Bool → Option RecoverError → ReplyFacts K D
-  told_restart true due = NotRestarted error.RetentionGrown
-  told_restart false None = Restarted
-  told_restart false (Some e) = NotRestarted e
+  abbrev pub replied_restart : Bool → Option RecoverError → ReplyFacts K D
+  replied_restart true due = NotRestarted error.RetentionGrown
+  replied_restart false None = Restarted
+  replied_restart false (Some e) = NotRestarted e
 
   -- and the member after it
   abbrev pub left_restart : Bool → Option RecoverError → MemberFacts K L D → RestartFacts K L D → MemberFacts K L D
@@ -53,7 +53,7 @@ module _ {K L D : Type 0} (same : D → D → Bool) (elect : Elect L) where
   -- the reply, if memory never runs out
   abbrev pub reply_then : Option (StateFacts K L D) → MemberFacts K L D → StepFacts K L D → ReplyFacts K D
   reply_then life m Prunes = Done
-  reply_then life m (Restarts r) = told_restart (grows_at m r) (due_error m r)
+  reply_then life m (Restarts r) = replied_restart (grows_at m r) (due_error m r)
   reply_then None m (Calls call) = Refused fault.Failed
   reply_then (Some x) m (Calls call) = reply_of same elect x m.outstanding_work call
 
@@ -91,10 +91,11 @@ module _ {K L D : Type 0} (same : D → D → Bool) (elect : Elect L) where
   unfolding IsCall
   call_made m call = call_answered m.life m call
 
-  told_so : (grows : Bool) (due : Option RecoverError) → told_restart grows due ≡ restart_reply (result_then grows due)
-  told_so true due = refl
-  told_so false None = refl
-  told_so false (Some e) = refl
+  replied_so : (grows : Bool) (due : Option RecoverError)
+      → replied_restart grows due ≡ restart_reply (result_then grows due)
+  replied_so true due = refl
+  replied_so false None = refl
+  replied_so false (Some e) = refl
 
   restart_by : (grows : Bool) (due : Option RecoverError) (m : MemberFacts K L D) (r : RestartFacts K L D)
       → due_error m r ≡ due → IsNonDecreasingBy entry_view (cut_member m r.drop r.prune).entries
@@ -123,13 +124,13 @@ module _ {K L D : Type 0} (same : D → D → Bool) (elect : Elect L) where
       let grows = grows_at m r in
       let due = due_error m r in (
         next_then m.life m (Restarts r),
-        (result_then grows due, restart_made m r fits.0, told_so grows due),
+        (result_then grows due, restart_made m r fits.0, replied_so grows due),
         fits_run (next_then m.life m (Restarts r)) steps fits.1,
       )
 
   -- the replies to the steps of an execution, from its start on
-  abbrev pub told_from : Execution K L D → List (ReplyFacts K D)
-  told_from s = replies_from (new_member same elect s.start) s.steps
+  abbrev pub replied_from : Execution K L D → List (ReplyFacts K D)
+  replied_from s = replies_from (new_member same elect s.start) s.steps
 
   pub fits_run_from : (s : Execution K L D)
       → recover_error same (new_state s.start.setup) s.start.floor s.start.now [] ≡ None
@@ -140,8 +141,8 @@ module _ {K L D : Type 0} (same : D → D → Bool) (elect : Elect L) where
   fits_run_from s none fits is = (
     none,
     end_from (new_member same elect s.start) s.steps,
-    subst (λ (told : List (ReplyFacts K D)).
-        IsRun same elect (new_member same elect s.start) s.steps told
+    subst (λ (replied : List (ReplyFacts K D)).
+        IsRun same elect (new_member same elect s.start) s.steps replied
         (end_from (new_member same elect s.start) s.steps))
         is (fits_run (new_member same elect s.start) s.steps fits),
   )

@@ -18,7 +18,7 @@ use Rattle.simplex_voter.proofs.Gaps.{and_parts}
 use Rattle.simplex_member.specs.Calls.{SetProposal, Proposed, ReplyFacts}
 use Rattle.simplex_member.specs.Runs.{StepFacts, Calls, Restarts}
 use Rattle.laws_safety.specs.Accountability.{IsBackedNetwork}
-use Rattle.laws_safety.specs.Continuations.{and_then, ReplicasContinue, EachHonest, SomeHonest, HasSignedAs, HasAccepted, HasHeard, HasBuilt, IsHonestlySigned, HonestlyBacked, ContinuesToFinalize}
+use Rattle.laws_safety.specs.Continuations.{and_then, ReplicasContinue, EachHonest, SomeHonest, HasSignedAs, HasAccepted, HasReceived, HasBuilt, IsHonestlySigned, HonestlyBacked, ContinuesToFinalize}
 use Rattle.laws_safety.specs.Traces.{TraceEvent, Accepts, Signs}
 use Rattle.laws_safety.specs.Replicas.{Replica, Faulty, Honest, FewFaulty, AtLeastFrom, quorum, MayHaveSigned, Backed, IsNetworkOf}
 use Rattle.laws_safety.specs.Executions.{Execution, trace_of, IsExecution}
@@ -245,12 +245,12 @@ abbrev passes_handing : (ℕ → Proposal ℕ → Bool) → StepFacts ℕ ℕ �
 passes_handing test (Calls (SetProposal v p)) = test v p
 passes_handing test _ = true
 
-abbrev each_heard : (ℕ → Proposal ℕ → Bool) → List (Replica ℕ ℕ ℕ) → Bool
-each_heard test network = each_honest (λ i s. each_one (passes_handing test) s.steps) 0 network
+abbrev each_received : (ℕ → Proposal ℕ → Bool) → List (Replica ℕ ℕ ℕ) → Bool
+each_received test network = each_honest (λ i s. each_one (passes_handing test) s.steps) 0 network
 
-heard_so : (test : ℕ → Proposal ℕ → Bool) (network : List (Replica ℕ ℕ ℕ)) → each_heard test network ≡ true
-    → EachHonest network (λ i s. (v : ℕ) (p : Proposal ℕ) → HasHeard v p s → test v p ≡ true)
-heard_so test network is i s at v p h =
+received_so : (test : ℕ → Proposal ℕ → Bool) (network : List (Replica ℕ ℕ ℕ)) → each_received test network ≡ true
+    → EachHonest network (λ i s. (v : ℕ) (p : Proposal ℕ) → HasReceived v p s → test v p ≡ true)
+received_so test network is i s at v p h =
     each_one-true (passes_handing test) s.steps
     (each_honest-true (λ j t. each_one (passes_handing test) t.steps) 0 network is i s at) (Calls (SetProposal v p))
     h
@@ -369,7 +369,7 @@ module _ (elect : Elect ℕ) (term_length : ℕ) where
         later
 
     proposed_so : (v : ℕ) (p : Proposal ℕ) → is_proposed v p ≡ true
-        → SomeHonest network (λ j t. HasHeard v p t) ⊎ SomeHonest later (HasBuilt p)
+        → SomeHonest network (λ j t. HasReceived v p t) ⊎ SomeHonest later (HasBuilt p)
     proposed_so v p is = elim (or_cases (some_honest (λ i s. has_step (Calls (SetProposal v p)) s) 0 network)
         (some_honest (has_built p) 0 later) is) [
           | inl old ↦
@@ -414,7 +414,7 @@ module _ (elect : Elect ℕ) (term_length : ℕ) where
     pub record PassesTests : Type 0 where
       pub backed : each_accepted (is_backed later) later ≡ true
       pub certificates : each_accepted comes_from_honest later ≡ true
-      pub proposals : each_heard is_proposed later ≡ true
+      pub proposals : each_received is_proposed later ≡ true
       pub finalized : each_honest is_finalized 0 later ≡ true
       pub new : are_finalized_below ≡ true
 
@@ -424,7 +424,7 @@ module _ (elect : Elect ℕ) (term_length : ℕ) where
       continues = goes;
       runs = network_of later later_few all tests.backed;
       certificates = λ i s at c h. from_honest c (accepted_so comes_from_honest later tests.certificates i s at c h);
-      proposals = λ i s at v p h. proposed_so v p (heard_so is_proposed later tests.proposals i s at v p h);
+      proposals = λ i s at v p h. proposed_so v p (received_so is_proposed later tests.proposals i s at v p h);
       finalized = finalized_so tests.finalized;
       new = new_so few tests.new;
     }

@@ -19,18 +19,18 @@ use Rattle.laws_safety.specs.Executions.{new_member, Execution, BeginsAs, IsExec
 use Rattle.laws_safety.specs.ScenarioSteps.{round, certificate, nullification, one, two}
 use Rattle.laws_safety.proofs.networks.Continuations.{network_of}
 use Rattle.laws_safety.proofs.networks.Scripts.{patient_ran}
-use Rattle.laws_safety.proofs.networks.ComputedRuns.{FindsRisingRecords, fits_run_from, rises, each_begins, told_from}
+use Rattle.laws_safety.proofs.networks.ComputedRuns.{FindsRisingRecords, fits_run_from, rises, each_begins, replied_from}
 
 -- the replies to the steps, and that the record rises at each restart
 abbrev FitsFrom : Execution ℕ ℕ ℕ → Type 0
 FitsFrom s = FindsRisingRecords nat_eq leader (new_member nat_eq leader s.start) s.steps
 
-refusing_told : told_from nat_eq leader refusing ≡ refusing.replies
+refusing_replied : replied_from nat_eq leader refusing ≡ refusing.replies
 unfolding first_recover_error recovered_state after_kept_entry may_drop pruned_entries has_valid_parent_span
     ancestry_payload_for_child first_unnullified_view explicit_ancestry_payload in_issuance_window is_admitted
     verification_matches parent_payload_for may_notarize may_nullify may_finalize has_conflicting_nullify
     required_certification_parent
-refusing_told = refl
+refusing_replied = refl
 
 -- the record that remains at the first two restarts, and at the others
 abbrev finalized_first : List (ArtifactFacts ℕ)
@@ -63,15 +63,15 @@ refusing_ran =
     record {
       lives =
           record { first = begins; later = each_begins 5 1 refusing.steps (begins, (wider, (begins, (begins, tt)))) };
-      run = fits_run_from nat_eq leader refusing refl refusing_fits refusing_told;
+      run = fits_run_from nat_eq leader refusing refl refusing_fits refusing_replied;
     }
 
-changing_told : told_from nat_eq leader changing ≡ changing.replies
+changing_replied : replied_from nat_eq leader changing ≡ changing.replies
 unfolding first_recover_error recovered_state after_kept_entry may_drop pruned_entries standing has_valid_parent_span
     ancestry_payload_for_child first_unnullified_view explicit_ancestry_payload in_issuance_window is_admitted
     verification_matches parent_payload_for may_notarize may_nullify may_finalize has_conflicting_nullify
     required_certification_parent optimistic_ancestry_payload is_handoff_parent is_voted_ancestor can_chain_on
-changing_told = refl
+changing_replied = refl
 
 -- the record that remains at the first restart, and at the others
 abbrev without_votes : List (ArtifactFacts ℕ)
@@ -108,28 +108,28 @@ changing_ran =
     record { terms = record { terms = refl; some = omega arith }; signs_as = inl refl } in
     record {
       lives = record { first = keyless; later = each_begins 5 1 changing.steps (other, (keyless, (begins, tt))) };
-      run = fits_run_from nat_eq leader changing refl changing_fits changing_told;
+      run = fits_run_from nat_eq leader changing refl changing_fits changing_replied;
     }
 
 -- the networks that they are members of
 
-patient_told_0 : told_from nat_eq leader (patient 0) ≡ (patient 0).replies
+patient_replied_0 : replied_from nat_eq leader (patient 0) ≡ (patient 0).replies
 unfolding standing has_valid_parent_span ancestry_payload_for_child first_unnullified_view explicit_ancestry_payload
     in_issuance_window is_admitted verification_matches parent_payload_for may_notarize may_nullify may_finalize
     has_conflicting_nullify required_certification_parent
-patient_told_0 = refl
+patient_replied_0 = refl
 
-patient_told_2 : told_from nat_eq leader (patient 2) ≡ (patient 2).replies
+patient_replied_2 : replied_from nat_eq leader (patient 2) ≡ (patient 2).replies
 unfolding standing has_valid_parent_span ancestry_payload_for_child first_unnullified_view explicit_ancestry_payload
     in_issuance_window is_admitted verification_matches parent_payload_for may_notarize may_nullify may_finalize
     has_conflicting_nullify required_certification_parent
-patient_told_2 = refl
+patient_replied_2 = refl
 
-giving_up_told : told_from nat_eq leader abandoning ≡ abandoning.replies
+giving_up_replied : replied_from nat_eq leader abandoning ≡ abandoning.replies
 unfolding standing has_valid_parent_span ancestry_payload_for_child first_unnullified_view explicit_ancestry_payload
     in_issuance_window is_admitted verification_matches parent_payload_for may_notarize may_nullify may_finalize
     has_conflicting_nullify required_certification_parent
-giving_up_told = refl
+giving_up_replied = refl
 
 giving_up_ran : IsExecution nat_eq leader 5 0 abandoning
 unfolding first_recover_error
@@ -138,7 +138,7 @@ giving_up_ran =
     record { terms = record { terms = refl; some = omega arith }; signs_as = inl refl } in
     record {
       lives = record { first = begins; later = each_begins 5 0 abandoning.steps tt };
-      run = fits_run_from nat_eq leader abandoning refl tt giving_up_told;
+      run = fits_run_from nat_eq leader abandoning refl tt giving_up_replied;
     }
 
 few_with_refusing : FewFaulty with_refusing
@@ -146,11 +146,11 @@ few_with_refusing = inl (omega arith, omega arith)
 
 pub refusing_network : IsNetworkOf nat_eq leader 5 with_refusing
 refusing_network = network_of leader 5 with_refusing few_with_refusing
-    (patient_ran 0 patient_told_0, (refusing_ran, (patient_ran 2 patient_told_2, tt))) refl
+    (patient_ran 0 patient_replied_0, (refusing_ran, (patient_ran 2 patient_replied_2, tt))) refl
 
 few_with_changing : FewFaulty with_changing
 few_with_changing = inl (omega arith, omega arith)
 
 pub changing_network : IsNetworkOf nat_eq leader 5 with_changing
 changing_network = network_of leader 5 with_changing few_with_changing
-    (giving_up_ran, (changing_ran, (patient_ran 2 patient_told_2, tt))) refl
+    (giving_up_ran, (changing_ran, (patient_ran 2 patient_replied_2, tt))) refl

@@ -24,7 +24,7 @@ use Rattle.laws_safety.specs.ScenarioSteps.{one, in_turn}
 use Rattle.laws_safety.specs.Executions.{Execution, trace_of, IsExecution}
 use Rattle.laws_safety.proofs.networks.ComputedRuns.{rises}
 use Rattle.laws_safety.proofs.networks.Continuations.{AreExecutions, all_ran_before, network_of, goes_on_so}
-use Rattle.laws_safety.proofs.networks.ScenarioSteps.{begins, told_in, FitsIn, ran_as_told}
+use Rattle.laws_safety.proofs.networks.ScenarioSteps.{begins, replied_in, FitsIn, ran_as_replied}
 use Rattle.laws_safety.proofs.lists.Splits.{only_one}
 
 abbrev leading : Execution ℕ ℕ ℕ
@@ -36,26 +36,26 @@ following = and_then (deceived 1 rival one) (follows_past_conflict 1 2000 Certif
 abbrev forgetting : Execution ℕ ℕ ℕ
 forgetting = and_then (warned 2) (follows_past_conflict 2 1000 LeaderTimeout)
 
-leading_told : told_in leading ≡ leading.replies
+leading_replied : replied_in leading ≡ leading.replies
 unfolding first_recover_error recovered_state after_kept_entry may_drop pruned_entries standing propose_answer
     proposed_answer find_parent captured_parent_valid has_valid_parent_span ancestry_payload_for_child
     first_unnullified_view explicit_ancestry_payload in_issuance_window is_admitted verification_matches
     parent_payload_for may_notarize may_nullify may_finalize has_conflicting_nullify required_certification_parent
-leading_told = refl
+leading_replied = refl
 
-following_told : told_in following ≡ following.replies
+following_replied : replied_in following ≡ following.replies
 unfolding first_recover_error recovered_state after_kept_entry may_drop pruned_entries standing has_valid_parent_span
     ancestry_payload_for_child first_unnullified_view explicit_ancestry_payload in_issuance_window is_admitted
     verification_matches parent_payload_for may_notarize may_nullify may_finalize has_conflicting_nullify
     required_certification_parent
-following_told = refl
+following_replied = refl
 
-forgetting_told : told_in forgetting ≡ forgetting.replies
+forgetting_replied : replied_in forgetting ≡ forgetting.replies
 unfolding first_recover_error recovered_state after_kept_entry may_drop pruned_entries standing has_valid_parent_span
     ancestry_payload_for_child first_unnullified_view explicit_ancestry_payload in_issuance_window is_admitted
     verification_matches parent_payload_for may_notarize may_nullify may_finalize has_conflicting_nullify
     required_certification_parent
-forgetting_told = refl
+forgetting_replied = refl
 
 -- the record that is left at a restart: a vote, or nothing
 abbrev with_vote : List (ArtifactFacts ℕ)
@@ -90,18 +90,19 @@ forgetting_fits = (rises entry_view 0 with_none refl, tt)
 
 leading_ran : IsExecution nat_eq in_turn 1 0 leading
 unfolding first_recover_error
-leading_ran = ran_as_told 1 0 leading (begins 1 0 (omega arith)) (begins 1 0 (omega arith), tt) refl leading_fits
-    leading_told
+leading_ran = ran_as_replied 1 0 leading (begins 1 0 (omega arith)) (begins 1 0 (omega arith), tt) refl leading_fits
+    leading_replied
 
 following_ran : IsExecution nat_eq in_turn 1 1 following
 unfolding first_recover_error
-following_ran = ran_as_told 1 1 following (begins 1 1 (omega arith)) (begins 1 1 (omega arith), tt) refl following_fits
-    following_told
+following_ran = ran_as_replied 1 1 following (begins 1 1 (omega arith))
+    (begins 1 1 (omega arith), tt) refl following_fits
+    following_replied
 
 forgetting_ran : IsExecution nat_eq in_turn 1 2 forgetting
 unfolding first_recover_error
-forgetting_ran = ran_as_told 1 2 forgetting (begins 1 2 (omega arith)) (begins 1 2 (omega arith), tt) refl
-    forgetting_fits forgetting_told
+forgetting_ran = ran_as_replied 1 2 forgetting (begins 1 2 (omega arith)) (begins 1 2 (omega arith), tt) refl
+    forgetting_fits forgetting_replied
 
 few : FewFaulty divided
 few = inl (omega arith, omega arith)

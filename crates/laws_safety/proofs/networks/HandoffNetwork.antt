@@ -19,7 +19,7 @@ use Rattle.laws_safety.specs.Replicas.{FewFaulty, Backed, IsNetworkOf}
 use Rattle.laws_safety.specs.Executions.{Execution, trace_of, IsExecution}
 use Rattle.laws_safety.specs.ScenarioSteps.{in_turn}
 use Rattle.laws_safety.proofs.networks.Continuations.{done, each_one, each_one-true, notarizes_below, AreExecutions, all_ran_before, network_of, goes_on_so}
-use Rattle.laws_safety.proofs.networks.ScenarioSteps.{begins, told_in, ran_as_told}
+use Rattle.laws_safety.proofs.networks.ScenarioSteps.{begins, replied_in, ran_as_replied}
 
 abbrev left_first : Execution ℕ ℕ ℕ
 left_first = and_then takes_over (follows_past_handoff 0)
@@ -30,38 +30,38 @@ left_second = and_then (can_not_verify 1) (leads_past_handoff 1)
 abbrev left_third : Execution ℕ ℕ ℕ
 left_third = and_then (can_not_verify 2) (follows_past_handoff 2)
 
-left_first_told : told_in left_first ≡ left_first.replies
+left_first_replied : replied_in left_first ≡ left_first.replies
 unfolding standing propose_answer proposed_answer find_parent captured_parent_valid has_valid_parent_span
     ancestry_payload_for_child first_unnullified_view explicit_ancestry_payload optimistic_ancestry_payload
     is_handoff_parent is_voted_ancestor can_chain_on in_issuance_window is_admitted verification_matches
     parent_payload_for may_notarize may_nullify may_finalize has_conflicting_nullify required_certification_parent
-left_first_told = refl
+left_first_replied = refl
 
-left_second_told : told_in left_second ≡ left_second.replies
+left_second_replied : replied_in left_second ≡ left_second.replies
 unfolding standing propose_answer proposed_answer find_parent captured_parent_valid has_valid_parent_span
     ancestry_payload_for_child first_unnullified_view explicit_ancestry_payload optimistic_ancestry_payload
     is_handoff_parent is_voted_ancestor can_chain_on in_issuance_window is_admitted verification_matches
     parent_payload_for may_notarize may_nullify may_finalize has_conflicting_nullify required_certification_parent
-left_second_told = refl
+left_second_replied = refl
 
-left_third_told : told_in left_third ≡ left_third.replies
+left_third_replied : replied_in left_third ≡ left_third.replies
 unfolding standing propose_answer proposed_answer find_parent captured_parent_valid has_valid_parent_span
     ancestry_payload_for_child first_unnullified_view explicit_ancestry_payload optimistic_ancestry_payload
     is_handoff_parent is_voted_ancestor can_chain_on in_issuance_window is_admitted verification_matches
     parent_payload_for may_notarize may_nullify may_finalize has_conflicting_nullify required_certification_parent
-left_third_told = refl
+left_third_replied = refl
 
 left_first_ran : IsExecution nat_eq in_turn 2 0 left_first
 unfolding first_recover_error
-left_first_ran = ran_as_told 2 0 left_first (begins 2 0 (omega arith)) tt refl tt left_first_told
+left_first_ran = ran_as_replied 2 0 left_first (begins 2 0 (omega arith)) tt refl tt left_first_replied
 
 left_second_ran : IsExecution nat_eq in_turn 2 1 left_second
 unfolding first_recover_error
-left_second_ran = ran_as_told 2 1 left_second (begins 2 1 (omega arith)) tt refl tt left_second_told
+left_second_ran = ran_as_replied 2 1 left_second (begins 2 1 (omega arith)) tt refl tt left_second_replied
 
 left_third_ran : IsExecution nat_eq in_turn 2 2 left_third
 unfolding first_recover_error
-left_third_ran = ran_as_told 2 2 left_third (begins 2 2 (omega arith)) tt refl tt left_third_told
+left_third_ran = ran_as_replied 2 2 left_third (begins 2 2 (omega arith)) tt refl tt left_third_replied
 
 few : FewFaulty taken_over
 few = inl (omega arith, omega arith)

@@ -16,7 +16,7 @@ use Rattle.laws_safety.specs.Replicas.{FewFaulty, IsNetworkOf}
 use Rattle.laws_safety.specs.ScenarioSteps.{round, one, in_turn}
 use Rattle.laws_safety.specs.Executions.{Execution, IsExecution}
 use Rattle.laws_safety.proofs.networks.Continuations.{not_accepted, AreExecutions, all_ran_before, network_of, goes_on_so}
-use Rattle.laws_safety.proofs.networks.ScenarioSteps.{begins, told_in, ran_as_told}
+use Rattle.laws_safety.proofs.networks.ScenarioSteps.{begins, replied_in, ran_as_replied}
 
 abbrev supplied_first : Execution ℕ ℕ ℕ
 supplied_first = and_then lacks_nullification has_nullification
@@ -27,38 +27,38 @@ supplied_second = and_then skips_two (finishes 1)
 abbrev supplied_third : Execution ℕ ℕ ℕ
 supplied_third = and_then member_without_notarization has_notarization
 
-supplied_first_told : told_in supplied_first ≡ supplied_first.replies
+supplied_first_replied : replied_in supplied_first ≡ supplied_first.replies
 unfolding standing propose_answer proposed_answer find_parent captured_parent_valid has_valid_parent_span
     ancestry_payload_for_child first_unnullified_view explicit_ancestry_payload optimistic_ancestry_payload
     is_handoff_parent is_voted_ancestor can_chain_on in_issuance_window is_admitted verification_matches
     parent_payload_for may_notarize may_nullify may_finalize has_conflicting_nullify required_certification_parent
-supplied_first_told = refl
+supplied_first_replied = refl
 
-supplied_second_told : told_in supplied_second ≡ supplied_second.replies
+supplied_second_replied : replied_in supplied_second ≡ supplied_second.replies
 unfolding standing propose_answer proposed_answer find_parent captured_parent_valid has_valid_parent_span
     ancestry_payload_for_child first_unnullified_view explicit_ancestry_payload optimistic_ancestry_payload
     is_handoff_parent is_voted_ancestor can_chain_on in_issuance_window is_admitted verification_matches
     parent_payload_for may_notarize may_nullify may_finalize has_conflicting_nullify required_certification_parent
-supplied_second_told = refl
+supplied_second_replied = refl
 
-supplied_third_told : told_in supplied_third ≡ supplied_third.replies
+supplied_third_replied : replied_in supplied_third ≡ supplied_third.replies
 unfolding standing propose_answer proposed_answer find_parent captured_parent_valid has_valid_parent_span
     ancestry_payload_for_child first_unnullified_view explicit_ancestry_payload optimistic_ancestry_payload
     is_handoff_parent is_voted_ancestor can_chain_on in_issuance_window is_admitted verification_matches
     parent_payload_for may_notarize may_nullify may_finalize has_conflicting_nullify required_certification_parent
-supplied_third_told = refl
+supplied_third_replied = refl
 
 supplied_first_ran : IsExecution nat_eq in_turn 1 0 supplied_first
 unfolding first_recover_error
-supplied_first_ran = ran_as_told 1 0 supplied_first (begins 1 0 (omega arith)) tt refl tt supplied_first_told
+supplied_first_ran = ran_as_replied 1 0 supplied_first (begins 1 0 (omega arith)) tt refl tt supplied_first_replied
 
 supplied_second_ran : IsExecution nat_eq in_turn 1 1 supplied_second
 unfolding first_recover_error
-supplied_second_ran = ran_as_told 1 1 supplied_second (begins 1 1 (omega arith)) tt refl tt supplied_second_told
+supplied_second_ran = ran_as_replied 1 1 supplied_second (begins 1 1 (omega arith)) tt refl tt supplied_second_replied
 
 supplied_third_ran : IsExecution nat_eq in_turn 1 2 supplied_third
 unfolding first_recover_error
-supplied_third_ran = ran_as_told 1 2 supplied_third (begins 1 2 (omega arith)) tt refl tt supplied_third_told
+supplied_third_ran = ran_as_replied 1 2 supplied_third (begins 1 2 (omega arith)) tt refl tt supplied_third_replied
 
 few : FewFaulty missing_certificates
 few = inl (omega arith, omega arith)

@@ -20,7 +20,7 @@ use Rattle.laws_safety.specs.Traces.{Accepts}
 use Rattle.laws_safety.specs.Replicas.{Honest, Backed, IsNetworkOf}
 use Rattle.laws_safety.specs.PlainNetwork.{plain_first, plain_proposer, plain_follower, plain_four, PlainExecution}
 use Rattle.laws_safety.specs.Executions.{trace_of, IsExecution}
-use Rattle.laws_safety.proofs.networks.ComputedRuns.{fits_run_from, each_begins, told_from}
+use Rattle.laws_safety.proofs.networks.ComputedRuns.{fits_run_from, each_begins, replied_from}
 
 -- payloads are the same if their bytes are, and the members lead round-robin
 abbrev same : PlainDigest → PlainDigest → Bool
@@ -41,27 +41,29 @@ elector = record {
 pub payload : PlainDigest
 payload = record { bytes = 0 ∷ 0 ∷ 0 ∷ 0 ∷ 0 ∷ 0 ∷ 0 ∷ 7 ∷ []; sized = refl }
 
-leader_told : told_from same in_turn (plain_proposer elector payload) ≡ (plain_proposer elector payload).replies
+leader_replied : replied_from same in_turn (plain_proposer elector payload) ≡ (plain_proposer elector payload).replies
 unfolding elector payload standing propose_answer proposed_answer find_parent captured_parent_valid
     has_valid_parent_span ancestry_payload_for_child first_unnullified_view explicit_ancestry_payload
     optimistic_ancestry_payload is_handoff_parent is_voted_ancestor can_chain_on in_issuance_window is_admitted
     verification_matches parent_payload_for may_notarize may_nullify may_finalize has_conflicting_nullify
     required_certification_parent
-leader_told = refl
+leader_replied = refl
 
-follower_told_1 : told_from same in_turn (plain_follower elector payload 1) ≡ (plain_follower elector payload 1).replies
+follower_replied_1 : replied_from same in_turn (plain_follower elector payload 1)
+    ≡ (plain_follower elector payload 1).replies
 unfolding elector payload standing has_valid_parent_span ancestry_payload_for_child first_unnullified_view
     explicit_ancestry_payload optimistic_ancestry_payload is_handoff_parent is_voted_ancestor can_chain_on
     in_issuance_window is_admitted verification_matches parent_payload_for may_notarize may_nullify may_finalize
     has_conflicting_nullify required_certification_parent
-follower_told_1 = refl
+follower_replied_1 = refl
 
-follower_told_2 : told_from same in_turn (plain_follower elector payload 2) ≡ (plain_follower elector payload 2).replies
+follower_replied_2 : replied_from same in_turn (plain_follower elector payload 2)
+    ≡ (plain_follower elector payload 2).replies
 unfolding elector payload standing has_valid_parent_span ancestry_payload_for_child first_unnullified_view
     explicit_ancestry_payload optimistic_ancestry_payload is_handoff_parent is_voted_ancestor can_chain_on
     in_issuance_window is_admitted verification_matches parent_payload_for may_notarize may_nullify may_finalize
     has_conflicting_nullify required_certification_parent
-follower_told_2 = refl
+follower_replied_2 = refl
 
 leader_ran : IsExecution same in_turn 5 0 (plain_proposer elector payload)
 unfolding elector payload first_recover_error
@@ -70,19 +72,19 @@ leader_ran = record {
     first = record { terms = record { terms = refl; some = omega arith }; signs_as = inl refl };
     later = each_begins 5 0 (plain_proposer elector payload).steps tt;
   };
-  run = fits_run_from same in_turn (plain_proposer elector payload) refl tt leader_told;
+  run = fits_run_from same in_turn (plain_proposer elector payload) refl tt leader_replied;
 }
 
-follower_ran : (me : ℕ) → told_from same in_turn
+follower_ran : (me : ℕ) → replied_from same in_turn
     (plain_follower elector payload me) ≡ (plain_follower elector payload me).replies
     → IsExecution same in_turn 5 me (plain_follower elector payload me)
 unfolding elector payload first_recover_error
-follower_ran me told = record {
+follower_ran me replied = record {
   lives = record {
     first = record { terms = record { terms = refl; some = omega arith }; signs_as = inl refl };
     later = each_begins 5 me (plain_follower elector payload me).steps tt;
   };
-  run = fits_run_from same in_turn (plain_follower elector payload me) refl tt told;
+  run = fits_run_from same in_turn (plain_follower elector payload me) refl tt replied;
 }
 
 abbrev PlainBack : Subject PlainDigest → Type 0
@@ -129,8 +131,8 @@ plain_replicas P a b c (suc (suc (suc (suc k)))) s is = absurd (cc)
 pub plain_network : IsNetworkOf same in_turn 5 (plain_four elector payload)
 plain_network = record {
   few_faulty = inl (omega arith, omega arith);
-  honest = plain_replicas (λ i s. IsExecution same in_turn 5 i s) leader_ran (follower_ran 1 follower_told_1)
-      (follower_ran 2 follower_told_2);
+  honest = plain_replicas (λ i s. IsExecution same in_turn 5 i s) leader_ran (follower_ran 1 follower_replied_1)
+      (follower_ran 2 follower_replied_2);
   backed = λ i s c at h. plain_replicas (λ j t. (d : Subject PlainDigest) → Contains (trace_of t) (Accepts d)
       → PlainBack d) leader_accepts (follower_accepts 1) (follower_accepts 2) i s at c h;
 }

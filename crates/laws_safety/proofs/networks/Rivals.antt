@@ -21,7 +21,7 @@ use Rattle.laws_safety.specs.Rivals.{voting_for, two_proposals, known_of_two_pro
 use Rattle.laws_safety.specs.Scripts.{leader}
 use Rattle.laws_safety.specs.Executions.{trace_of, IsExecution}
 use Rattle.laws_safety.specs.ScenarioSteps.{round, one, two}
-use Rattle.laws_safety.proofs.networks.ComputedRuns.{fits_run_from, each_begins, told_from}
+use Rattle.laws_safety.proofs.networks.ComputedRuns.{fits_run_from, each_begins, replied_from}
 use Rattle.laws_safety.proofs.networks.Continuations.{same_trace_event, same_trace_event-true, each_one, each_one-true, enough, enough-true, passes, backed_network_of, backed_so}
 use Rattle.laws_safety.proofs.networks.Scripts.{begins, skipping_ran_1}
 
@@ -69,23 +69,23 @@ accept_so members is i trace c at h = certified_so members c
 
 -- the members ran
 
-first_told : told_from nat_eq leader (voting_for one 0) ≡ (voting_for one 0).replies
+first_replied : replied_from nat_eq leader (voting_for one 0) ≡ (voting_for one 0).replies
 unfolding standing has_valid_parent_span ancestry_payload_for_child first_unnullified_view explicit_ancestry_payload
     in_issuance_window is_admitted verification_matches parent_payload_for may_notarize may_nullify may_finalize
     has_conflicting_nullify required_certification_parent
-first_told = refl
+first_replied = refl
 
-second_told : told_from nat_eq leader (voting_for rival 1) ≡ (voting_for rival 1).replies
+second_replied : replied_from nat_eq leader (voting_for rival 1) ≡ (voting_for rival 1).replies
 unfolding standing has_valid_parent_span ancestry_payload_for_child first_unnullified_view explicit_ancestry_payload
     in_issuance_window is_admitted verification_matches parent_payload_for may_notarize may_nullify may_finalize
     has_conflicting_nullify required_certification_parent
-second_told = refl
+second_replied = refl
 
-misled_told : told_from nat_eq leader misled ≡ misled.replies
+misled_replied : replied_from nat_eq leader misled ≡ misled.replies
 unfolding standing has_valid_parent_span ancestry_payload_for_child first_unnullified_view explicit_ancestry_payload
     in_issuance_window is_admitted verification_matches parent_payload_for may_notarize may_nullify may_finalize
     has_conflicting_nullify required_certification_parent
-misled_told = refl
+misled_replied = refl
 
 first_ran : IsExecution nat_eq leader 5 0 (voting_for one 0)
 unfolding first_recover_error
@@ -94,7 +94,7 @@ first_ran = record {
     first = begins 5 0 (voting_for one 0).start.floor (omega arith);
     later = each_begins 5 0 (voting_for one 0).steps tt;
   };
-  run = fits_run_from nat_eq leader (voting_for one 0) refl tt first_told;
+  run = fits_run_from nat_eq leader (voting_for one 0) refl tt first_replied;
 }
 
 second_ran : IsExecution nat_eq leader 5 1 (voting_for rival 1)
@@ -104,14 +104,14 @@ second_ran = record {
     first = begins 5 1 (voting_for rival 1).start.floor (omega arith);
     later = each_begins 5 1 (voting_for rival 1).steps tt;
   };
-  run = fits_run_from nat_eq leader (voting_for rival 1) refl tt second_told;
+  run = fits_run_from nat_eq leader (voting_for rival 1) refl tt second_replied;
 }
 
 misled_ran : IsExecution nat_eq leader 1 0 misled
 unfolding first_recover_error
 misled_ran = record {
   lives = record { first = begins 1 0 misled.start.floor (omega arith); later = each_begins 1 0 misled.steps tt };
-  run = fits_run_from nat_eq leader misled refl tt misled_told;
+  run = fits_run_from nat_eq leader misled refl tt misled_replied;
 }
 
 -- two proposals of one view

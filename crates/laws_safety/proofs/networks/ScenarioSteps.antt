@@ -12,16 +12,16 @@ pub begins : (term_length me : ℕ) → 0 < term_length → BeginsAs term_length
 begins term_length me some = record { terms = record { terms = refl; some = some }; signs_as = inl refl }
 
 -- the replies to the steps of an execution by the definitions
-abbrev pub told_in : Execution ℕ ℕ ℕ → List (ReplyFacts ℕ ℕ)
-told_in s = replies_from nat_eq in_turn (new_member nat_eq in_turn s.start) s.steps
+abbrev pub replied_in : Execution ℕ ℕ ℕ → List (ReplyFacts ℕ ℕ)
+replied_in s = replies_from nat_eq in_turn (new_member nat_eq in_turn s.start) s.steps
 
 abbrev pub FitsIn : Execution ℕ ℕ ℕ → Type 0
 FitsIn s = FindsRisingRecords nat_eq in_turn (new_member nat_eq in_turn s.start) s.steps
 
-pub ran_as_told : (term_length me : ℕ) (s : Execution ℕ ℕ ℕ) → BeginsAs term_length me s.start.setup
+pub ran_as_replied : (term_length me : ℕ) (s : Execution ℕ ℕ ℕ) → BeginsAs term_length me s.start.setup
     → AllBegin term_length me s.steps → recover_error nat_eq (new_state s.start.setup) s.start.floor s.start.now
-    [] ≡ None → FitsIn s → told_in s ≡ s.replies → IsExecution nat_eq in_turn term_length me s
-ran_as_told term_length me s first later accepted fits told = record {
+    [] ≡ None → FitsIn s → replied_in s ≡ s.replies → IsExecution nat_eq in_turn term_length me s
+ran_as_replied term_length me s first later accepted fits replied = record {
   lives = record { first = first; later = each_begins term_length me s.steps later };
-  run = fits_run_from nat_eq in_turn s accepted fits told;
+  run = fits_run_from nat_eq in_turn s accepted fits replied;
 }

@@ -21,35 +21,35 @@ use Rattle.laws_safety.specs.Scripts.{leader, start_at, impatient, patient, forg
 use Rattle.laws_safety.specs.ScenarioSteps.{round, proposal, certificate, one, two}
 use Rattle.laws_safety.specs.Traces.{Accepts, Signs}
 use Rattle.laws_safety.specs.Executions.{new_member, Execution, trace_of, BeginsAs, IsExecution}
-use Rattle.laws_safety.proofs.networks.ComputedRuns.{FindsRisingRecords, fits_run_from, rises, each_begins, told_from}
+use Rattle.laws_safety.proofs.networks.ComputedRuns.{FindsRisingRecords, fits_run_from, rises, each_begins, replied_from}
 
 pub begins : (term_length me : ℕ) (floor : FloorFacts ℕ) → 0 < term_length
     → BeginsAs term_length me (start_at term_length floor me).setup
 begins term_length me floor some = record { terms = record { terms = refl; some = some }; signs_as = inl refl }
 
 module _ where
-  impatient_told : told_from nat_eq leader impatient ≡ impatient.replies
+  impatient_replied : replied_from nat_eq leader impatient ≡ impatient.replies
   unfolding has_valid_parent_span ancestry_payload_for_child first_unnullified_view explicit_ancestry_payload
       in_issuance_window is_admitted verification_matches parent_payload_for may_notarize may_nullify may_finalize
       has_conflicting_nullify required_certification_parent
-  impatient_told = refl
+  impatient_replied = refl
 
-  patient_told_1 : told_from nat_eq leader (patient 1) ≡ (patient 1).replies
+  patient_replied_1 : replied_from nat_eq leader (patient 1) ≡ (patient 1).replies
   unfolding standing has_valid_parent_span ancestry_payload_for_child first_unnullified_view explicit_ancestry_payload
       in_issuance_window is_admitted verification_matches parent_payload_for may_notarize may_nullify may_finalize
       has_conflicting_nullify required_certification_parent
-  patient_told_1 = refl
+  patient_replied_1 = refl
 
   -- the record that remains at the restart of the third member
   abbrev kept : List (ArtifactFacts ℕ)
   kept = NotarizeVote one 2 ∷ Accepted (Notarized (certificate one)) ∷ Verdict (round 1) true ∷ FinalizeVote one 2 ∷ []
 
-  forgetful_told : told_from nat_eq leader (forgetful) ≡ (forgetful).replies
+  forgetful_replied : replied_from nat_eq leader (forgetful) ≡ (forgetful).replies
   unfolding first_recover_error recovered_state after_kept_entry may_drop pruned_entries standing has_valid_parent_span
       ancestry_payload_for_child first_unnullified_view explicit_ancestry_payload in_issuance_window is_admitted
       verification_matches parent_payload_for may_notarize may_nullify may_finalize has_conflicting_nullify
       required_certification_parent
-  forgetful_told = refl
+  forgetful_replied = refl
 
   forgetful_fits : FindsRisingRecords nat_eq leader (new_member nat_eq leader (forgetful).start) (forgetful).steps
   unfolding first_recover_error recovered_state after_kept_entry may_drop pruned_entries standing has_valid_parent_span
@@ -65,26 +65,26 @@ module _ where
       first = begins 5 2 (Genesis 0) (omega arith);
       later = each_begins 5 2 (forgetful).steps (begins 5 2 (Genesis 0) (omega arith), tt);
     };
-    run = fits_run_from nat_eq leader (forgetful) refl forgetful_fits forgetful_told;
+    run = fits_run_from nat_eq leader (forgetful) refl forgetful_fits forgetful_replied;
   }
 
-  skipping_told_0 : told_from nat_eq leader (skipping 0) ≡ (skipping 0).replies
+  skipping_replied_0 : replied_from nat_eq leader (skipping 0) ≡ (skipping 0).replies
   unfolding standing has_valid_parent_span ancestry_payload_for_child first_unnullified_view explicit_ancestry_payload
       in_issuance_window is_admitted verification_matches parent_payload_for may_notarize may_nullify may_finalize
       has_conflicting_nullify required_certification_parent
-  skipping_told_0 = refl
+  skipping_replied_0 = refl
 
-  skipping_told_1 : told_from nat_eq leader (skipping 1) ≡ (skipping 1).replies
+  skipping_replied_1 : replied_from nat_eq leader (skipping 1) ≡ (skipping 1).replies
   unfolding standing has_valid_parent_span ancestry_payload_for_child first_unnullified_view explicit_ancestry_payload
       in_issuance_window is_admitted verification_matches parent_payload_for may_notarize may_nullify may_finalize
       has_conflicting_nullify required_certification_parent
-  skipping_told_1 = refl
+  skipping_replied_1 = refl
 
-  skipping_told_2 : told_from nat_eq leader (skipping 2) ≡ (skipping 2).replies
+  skipping_replied_2 : replied_from nat_eq leader (skipping 2) ≡ (skipping 2).replies
   unfolding standing has_valid_parent_span ancestry_payload_for_child first_unnullified_view explicit_ancestry_payload
       in_issuance_window is_admitted verification_matches parent_payload_for may_notarize may_nullify may_finalize
       has_conflicting_nullify required_certification_parent
-  skipping_told_2 = refl
+  skipping_replied_2 = refl
 
   -- the record that remains at the first restart, and at each later one
   abbrev once : List (ArtifactFacts ℕ)
@@ -94,12 +94,12 @@ module _ where
   twice = Accepted (Notarized (certificate two)) ∷ Verdict (round 2) true ∷ FinalizeVote two 1 ∷ Accepted
       (CertifiedFinal (certificate (proposal 3 2))) ∷ []
 
-  restarting_told : told_from nat_eq leader restarting ≡ restarting.replies
+  restarting_replied : replied_from nat_eq leader restarting ≡ restarting.replies
   unfolding first_recover_error recovered_state after_kept_entry may_drop pruned_entries standing has_valid_parent_span
       ancestry_payload_for_child first_unnullified_view explicit_ancestry_payload in_issuance_window is_admitted
       verification_matches parent_payload_for may_notarize may_nullify may_finalize has_conflicting_nullify
       required_certification_parent
-  restarting_told = refl
+  restarting_replied = refl
 
   restarting_fits : FindsRisingRecords nat_eq leader (new_member nat_eq leader restarting.start) restarting.steps
   unfolding first_recover_error recovered_state after_kept_entry may_drop pruned_entries standing has_valid_parent_span
@@ -112,27 +112,27 @@ module _ where
   unfolding first_recover_error
   impatient_ran = record {
     lives = record { first = begins 5 0 (Genesis 0) (omega arith); later = each_begins 5 0 impatient.steps tt };
-    run = fits_run_from nat_eq leader impatient refl tt impatient_told;
+    run = fits_run_from nat_eq leader impatient refl tt impatient_replied;
   }
 
-  pub patient_ran : (me : ℕ) → told_from nat_eq leader (patient me) ≡ (patient me).replies
+  pub patient_ran : (me : ℕ) → replied_from nat_eq leader (patient me) ≡ (patient me).replies
       → IsExecution nat_eq leader 5 me (patient me)
   unfolding first_recover_error
-  patient_ran me told = record {
+  patient_ran me replied = record {
     lives = record { first = begins 5 me (Genesis 0) (omega arith); later = each_begins 5 me (patient me).steps tt };
-    run = fits_run_from nat_eq leader (patient me) refl tt told;
+    run = fits_run_from nat_eq leader (patient me) refl tt replied;
   }
 
-  skipping_ran : (me : ℕ) → told_from nat_eq leader (skipping me) ≡ (skipping me).replies
+  skipping_ran : (me : ℕ) → replied_from nat_eq leader (skipping me) ≡ (skipping me).replies
       → IsExecution nat_eq leader 1 me (skipping me)
   unfolding first_recover_error
-  skipping_ran me told = record {
+  skipping_ran me replied = record {
     lives = record { first = begins 1 me (Genesis 0) (omega arith); later = each_begins 1 me (skipping me).steps tt };
-    run = fits_run_from nat_eq leader (skipping me) refl tt told;
+    run = fits_run_from nat_eq leader (skipping me) refl tt replied;
   }
 
   pub skipping_ran_1 : IsExecution nat_eq leader 1 1 (skipping 1)
-  skipping_ran_1 = skipping_ran 1 skipping_told_1
+  skipping_ran_1 = skipping_ran 1 skipping_replied_1
 
   pub restarting_ran : IsExecution nat_eq leader 5 1 restarting
   unfolding first_recover_error
@@ -147,7 +147,7 @@ module _ where
         ),
       );
     };
-    run = fits_run_from nat_eq leader restarting refl restarting_fits restarting_told;
+    run = fits_run_from nat_eq leader restarting refl restarting_fits restarting_replied;
   }
 
   -- the networks
@@ -216,7 +216,7 @@ module _ where
   pub four_network : IsNetworkOf nat_eq leader 5 four
   four_network = record {
     few_faulty = inl (omega arith, omega arith);
-    honest = four_replicas (λ i s. IsExecution nat_eq leader 5 i s) impatient_ran (patient_ran 1 patient_told_1)
+    honest = four_replicas (λ i s. IsExecution nat_eq leader 5 i s) impatient_ran (patient_ran 1 patient_replied_1)
         forgetful_ran;
     backed = λ i s c at h. four_replicas (λ j t. (d : Subject ℕ) → Contains (trace_of t) (Accepts d) → FourBack d)
         (impatient_accepts FourBack notarized_one notarized_two finalized_one)
@@ -253,7 +253,7 @@ module _ where
 
   pub overrun_network : IsBackedNetwork nat_eq leader 5 overrun
   overrun_network = record {
-    honest = overrun_replicas (λ i s. IsExecution nat_eq leader 5 i s) impatient_ran (patient_ran 1 patient_told_1);
+    honest = overrun_replicas (λ i s. IsExecution nat_eq leader 5 i s) impatient_ran (patient_ran 1 patient_replied_1);
     backed = λ i s c at h. overrun_replicas (λ j t. (d : Subject ℕ) → Contains (trace_of t) (Accepts d) → OverrunBack d)
         (impatient_accepts OverrunBack overrun_one overrun_two overrun_final)
         (patient_accepts 1 OverrunBack overrun_one overrun_two) i s at c h;
@@ -356,8 +356,8 @@ module _ where
   pub five_network : IsNetworkOf nat_eq leader 1 five
   five_network = record {
     few_faulty = inr (omega arith);
-    honest = five_replicas (λ i s. IsExecution nat_eq leader 1 i s) (skipping_ran 0 skipping_told_0) skipping_ran_1
-        (skipping_ran 2 skipping_told_2);
+    honest = five_replicas (λ i s. IsExecution nat_eq leader 1 i s) (skipping_ran 0 skipping_replied_0) skipping_ran_1
+        (skipping_ran 2 skipping_replied_2);
     backed = λ i s c at h. five_replicas (λ j t. (d : Subject ℕ) → Contains (trace_of t) (Accepts d) → FiveBack d)
         (skipping_accepts 0) (skipping_accepts 1) (skipping_accepts 2) i s at c h;
   }

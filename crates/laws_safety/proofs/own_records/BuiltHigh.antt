@@ -57,7 +57,7 @@ module _ {K D : Type 0} (Q : Proposal D → Type 0) where
   brings_nothing no_notarization no_finalization no_proposal no_note not_built = record {
     notarized = λ c says. absurd (let clash = sym no_notarization ∙ says in cc);
     finalized = λ c says. absurd (let clash = sym no_finalization ∙ says in cc);
-    heard = λ v p says. absurd (let clash = sym no_proposal ∙ says in cc);
+    received = λ v p says. absurd (let clash = sym no_proposal ∙ says in cc);
     noted = λ p says. absurd (let clash = sym no_note ∙ says in cc);
     built = λ context payload now says. absurd (not_built context payload now says);
   }
@@ -82,7 +82,7 @@ module _ {K L D : Type 0} (past : List (StepFacts K L D)) (x : StateFacts K L D)
     record {
       notarized = λ d says. absurd (cc);
       finalized = λ d says. absurd (cc);
-      heard = λ w p says. absurd (cc);
+      received = λ w p says. absurd (cc);
       noted = λ p says. absurd (cc);
       built = λ d other moment says large.
           (let here : c ≡ d = cc in
@@ -113,7 +113,7 @@ module _ {K L D : Type 0} (past : List (StepFacts K L D)) (x : StateFacts K L D)
           (small_view (now_past (calls.AddNotarization c)) c.proposal
           (no_fault x.failed (names_too_large c.proposal) false none)));
       finalized = λ d says. absurd (cc);
-      heard = λ w p says. absurd (cc);
+      received = λ w p says. absurd (cc);
       noted = λ p says. absurd (cc);
       built = λ d other moment says. absurd (cc);
     },
@@ -126,7 +126,7 @@ module _ {K L D : Type 0} (past : List (StepFacts K L D)) (x : StateFacts K L D)
           subst (λ (k : ProposalFacts D). WasBuilt (now_past (calls.AddFinalization c now)) k.proposal) same
           (small_view (now_past (calls.AddFinalization c now)) c.proposal
           (no_fault x.failed (names_too_large c.proposal) _ none)));
-      heard = λ w p says. absurd (cc);
+      received = λ w p says. absurd (cc);
       noted = λ p says. absurd (cc);
       built = λ d other moment says. absurd (cc);
     },
@@ -136,7 +136,7 @@ module _ {K L D : Type 0} (past : List (StepFacts K L D)) (x : StateFacts K L D)
     record {
       notarized = λ d says. absurd (cc);
       finalized = λ d says. absurd (cc);
-      heard = λ w q says. (let pair : ◌≡◌ {A = ℕ × Proposal D} (v, p) (w, q) = cc in
+      received = λ w q says. (let pair : ◌≡◌ {A = ℕ × Proposal D} (v, p) (w, q) = cc in
           let same : p ≡ q = ap (λ t. t.1) pair in
           subst (WasBuilt (now_past (calls.SetProposal v p))) same
           (small_view (now_past (calls.SetProposal v p)) p (no_fault x.failed (names_too_large p) false none)));
@@ -242,7 +242,7 @@ module _ {K L D : Type 0} (same : D → D → Bool) (decides : (d e : D) → sam
     notarized = λ d says. absurd (cc);
     finalized = λ d says. (let here : c ≡ d = cc in
         subst (λ (k : ProposalFacts D). Q k.proposal) here (small_view past c.proposal small));
-    heard = λ w p says. absurd (cc);
+    received = λ w p says. absurd (cc);
     noted = λ p says. absurd (cc);
     built = λ d other moment says. absurd (cc);
   }) all
@@ -252,7 +252,7 @@ module _ {K L D : Type 0} (same : D → D → Bool) (decides : (d e : D) → sam
   replayed_held x (NotarizeVote p m) small all = by_event x (Replay (NotarizeVote p m)) (record {
     notarized = λ d says. absurd (cc);
     finalized = λ d says. absurd (cc);
-    heard = λ w q says. absurd (cc);
+    received = λ w q says. absurd (cc);
     noted = λ q says. (let here : p ≡ q = cc in subst Q here (small_view past p small));
     built = λ d other moment says. absurd (cc);
   }) all
@@ -283,7 +283,7 @@ module _ {K L D : Type 0} (same : D → D → Bool) (decides : (d e : D) → sam
         notarized = λ d says. (let here : c ≡ d = cc in
             subst (λ (k : ProposalFacts D). Q k.proposal) here (small_view past c.proposal small));
         finalized = λ d says. absurd (cc);
-        heard = λ w p says. absurd (cc);
+        received = λ w p says. absurd (cc);
         noted = λ p says. absurd (cc);
         built = λ d other moment says. absurd (cc);
       }) all)
@@ -297,7 +297,7 @@ module _ {K L D : Type 0} (same : D → D → Bool) (decides : (d e : D) → sam
         notarized = λ d says. absurd (cc);
         finalized = λ d says. (let here : c ≡ d = cc in
             subst (λ (k : ProposalFacts D). Q k.proposal) here (small_view past c.proposal small));
-        heard = λ w p says. absurd (cc);
+        received = λ w p says. absurd (cc);
         noted = λ p says. absurd (cc);
         built = λ d other moment says. absurd (cc);
       }) all)

@@ -237,12 +237,12 @@ module _ {K L D : Type 0} (same : D → D → Bool) (elect : Elect L) (term_leng
       by_allowed false not_allowed = rw not_allowed keeps
 
   call_keeps : 0 < term_length → (trace : List (TraceEvent D)) (m : MemberFacts K L D) (call : CallFacts D)
-      (told : ReplyFacts K D) (left : MemberFacts K L D) → MemberLives term_length trace m → KeepsOnce m
-      → IsCall same elect m call told left → KeepsOnce left
+      (replied : ReplyFacts K D) (left : MemberFacts K L D) → MemberLives term_length trace m → KeepsOnce m
+      → IsCall same elect m call replied left → KeepsOnce left
   unfolding IsCall
-  call_keeps some trace m call told left lives keeps is_call = by_life m.life refl is_call
+  call_keeps some trace m call replied left lives keeps is_call = by_life m.life refl is_call
     where
-      by_life : (o : Option (StateFacts K L D)) → m.life ≡ o → AnswersAlive same elect o m call told left
+      by_life : (o : Option (StateFacts K L D)) → m.life ≡ o → AnswersAlive same elect o m call replied left
           → KeepsOnce left
       by_life None dead (tells, leaves) = rw leaves keeps
       by_life (Some x) alive (inl (tells, leaves)) = rw leaves (answered some trace m call x alive lives keeps)
@@ -252,25 +252,25 @@ module _ {K L D : Type 0} (same : D → D → Bool) (elect : Elect L) (term_leng
 module _ {K L D : Type 0} (same : D → D → Bool) (decides : (d e : D) → same d e ≡ true → d ≡ e) (elect : Elect L)
     (term_length : ℕ) (some : 0 < term_length) where
   -- a step
-  step_keeps : (step : StepFacts K L D) (steps : List (StepFacts K L D)) (told : ReplyFacts K D)
+  step_keeps : (step : StepFacts K L D) (steps : List (StepFacts K L D)) (replied : ReplyFacts K D)
       (trace : List (TraceEvent D)) (m next : MemberFacts K L D) → KeepTerms term_length (step ∷ steps)
-      → MemberLives term_length trace m → KeepsOnce m → IsStep same elect m step told next → KeepsOnce next
-  step_keeps (Calls call) steps told trace m next fresh lives keeps is_step =
-      call_keeps same elect term_length some trace m call told next lives keeps is_step
-  step_keeps Prunes steps told trace m next fresh lives keeps is_step = rw is_step.1 (prune_keeps m keeps)
-  step_keeps (Restarts r) steps told trace m next fresh lives keeps is_step =
+      → MemberLives term_length trace m → KeepsOnce m → IsStep same elect m step replied next → KeepsOnce next
+  step_keeps (Calls call) steps replied trace m next fresh lives keeps is_step =
+      call_keeps same elect term_length some trace m call replied next lives keeps is_step
+  step_keeps Prunes steps replied trace m next fresh lives keeps is_step = rw is_step.1 (prune_keeps m keeps)
+  step_keeps (Restarts r) steps replied trace m next fresh lives keeps is_step =
       restart_keeps same elect term_length m r is_step.0 next fresh.0 keeps is_step.1
 
   run_keeps : (steps : List (StepFacts K L D)) (replies : List (ReplyFacts K D)) (trace : List (TraceEvent D))
       (m end : MemberFacts K L D) → KeepTerms term_length steps → MemberLives term_length trace m → KeepsOnce m
       → IsRun same elect m steps replies end → KeepsOnce end
   run_keeps [] [] trace m end fresh lives keeps run = subst KeepsOnce run keeps
-  run_keeps [] (told ∷ replies) trace m end fresh lives keeps run = absurd run
+  run_keeps [] (replied ∷ replies) trace m end fresh lives keeps run = absurd run
   run_keeps (step ∷ steps) [] trace m end fresh lives keeps run = absurd run
-  run_keeps (step ∷ steps) (told ∷ replies) trace m end fresh lives keeps (next, is_step, rest) =
-      let kept = step_lives same decides elect term_length some step steps told trace m next fresh lives is_step in
-      run_keeps steps replies (trace ++ trace_at step told) next end kept.0 kept.1
-      (step_keeps step steps told trace m next fresh lives keeps is_step) rest
+  run_keeps (step ∷ steps) (replied ∷ replies) trace m end fresh lives keeps (next, is_step, rest) =
+      let kept = step_lives same decides elect term_length some step steps replied trace m next fresh lives is_step in
+      run_keeps steps replies (trace ++ trace_at step replied) next end kept.0 kept.1
+      (step_keeps step steps replied trace m next fresh lives keeps is_step) rest
 
 module _ {K L D : Type 0} (same : D → D → Bool) (decides : (d e : D) → same d e ≡ true → d ≡ e) (elect : Elect L)
     (term_length : ℕ) (start : StartFacts K L D) (begins : HasTerms term_length start.setup) where

@@ -65,8 +65,8 @@ module _ {D : Type 0} where
   floor_signs_none (FinalizedFloor c) i vote h = (let is = only_one _ (Signs i vote) h in absurd (cc))
 
 module _ {K D : Type 0} where
-  accepted_signs_none : (call : CallFacts D) (told : ReplyFacts K D) (i : ℕ) (vote : Subject D)
-      → Contains (accepted_by call told) (Signs i vote) → ⊥
+  accepted_signs_none : (call : CallFacts D) (replied : ReplyFacts K D) (i : ℕ) (vote : Subject D)
+      → Contains (accepted_by call replied) (Signs i vote) → ⊥
   accepted_signs_none call (Added newly leader) i vote h = handed_signs_none call i vote h
   accepted_signs_none call (AddedNullification newly) i vote h = handed_signs_none call i vote h
   accepted_signs_none call _ i vote h = absurd (omega (arith, h.1))
@@ -84,18 +84,18 @@ none_finalized (Some h) vote i j p about is = absurd (cc)
 
 module _ {K L D : Type 0} (same : D → D → Bool) (elect : Elect L) where
   -- a vote to notarize is for the held proposal
-  noted_held : (x : StateFacts K L D) (call : CallFacts D) (told : ReplyFacts K D) (i : ℕ) (p : Proposal D)
-      → ExactAt same elect (Some x) (Calls call) told → Contains (signed_in told) (Signs i (subject.Notarize p))
+  noted_held : (x : StateFacts K L D) (call : CallFacts D) (replied : ReplyFacts K D) (i : ℕ) (p : Proposal D)
+      → ExactAt same elect (Some x) (Calls call) replied → Contains (signed_in replied) (Signs i (subject.Notarize p))
       → (v : ℕ) × ((round_of x v).slot.held ≡ Some p)
-  noted_held x (calls.ConstructNotarize v) told i p exact h =
+  noted_held x (calls.ConstructNotarize v) replied i p exact h =
       (let so = (exact.only (Signs i (subject.Notarize p)) h).1 in
       (v, held_voted (proposal_at x v) so.1 i so.0 p so.3 so.4))
-  noted_held x (calls.ConstructFinalize v) told i p exact h =
+  noted_held x (calls.ConstructFinalize v) replied i p exact h =
       (let so = (exact.only (Signs i (subject.Notarize p)) h).1 in
       absurd (none_finalized (proposal_at x v) so.1 i so.0 p so.3 so.4))
-  noted_held x (calls.ConstructNullify v) told i p exact h =
+  noted_held x (calls.ConstructNullify v) replied i p exact h =
       (let so = (exact.only (Signs i (subject.Notarize p)) h).1 in absurd (cc))
-  noted_held x _ told i p exact h =
+  noted_held x _ replied i p exact h =
       absurd (let none = subst (λ ds. Contains ds (Signs i (subject.Notarize p))) exact h in omega (arith, none.1))
 
 module _ {K L D : Type 0} where
@@ -137,12 +137,12 @@ module _ {K L D : Type 0} (same : D → D → Bool) (decides : (d e : D) → sam
       by_allowed true allowed = by_fault (fault_of x call) refl allowed
       by_allowed false not_allowed = rw not_allowed as_before
 
-  call_holds : (call : CallFacts D) (told : ReplyFacts K D) (next : MemberFacts K L D)
-      → IsCall same elect m call told next → HoldsBuilt (past ++ Calls call ∷ []) next.life
+  call_holds : (call : CallFacts D) (replied : ReplyFacts K D) (next : MemberFacts K L D)
+      → IsCall same elect m call replied next → HoldsBuilt (past ++ Calls call ∷ []) next.life
   unfolding IsCall
-  call_holds call told next is_call = by_life m.life refl is_call
+  call_holds call replied next is_call = by_life m.life refl is_call
     where
-      by_life : (o : Option (StateFacts K L D)) → m.life ≡ o → AnswersAlive same elect o m call told next
+      by_life : (o : Option (StateFacts K L D)) → m.life ≡ o → AnswersAlive same elect o m call replied next
           → HoldsBuilt (past ++ Calls call ∷ []) next.life
       by_life None dead (tells, leaves) = rw leaves (holds_still past (Calls call ∷ []) m.life votes.holds)
       by_life (Some x) alive (inl (tells, leaves)) = rw leaves (answered call x alive)
@@ -150,27 +150,28 @@ module _ {K L D : Type 0} (same : D → D → Bool) (decides : (d e : D) → sam
           rw leaves (holds_still past (Calls call ∷ []) m.life votes.holds)
       by_life (Some x) alive (inr (allowed, tells, inr (no_fault, falls, leaves))) = rw leaves tt
 
-  new_vote : (call : CallFacts D) (told : ReplyFacts K D) (i : ℕ) (p : Proposal D) (o : Option (StateFacts K L D))
-      → HoldsBuilt past o → ExactAt same elect o (Calls call) told
-      → Contains (signed_in told) (Signs i (subject.Notarize p)) → WasBuilt past p
-  new_vote call told i p None holds exact h =
+  new_vote : (call : CallFacts D) (replied : ReplyFacts K D) (i : ℕ) (p : Proposal D) (o : Option (StateFacts K L D))
+      → HoldsBuilt past o → ExactAt same elect o (Calls call) replied
+      → Contains (signed_in replied) (Signs i (subject.Notarize p)) → WasBuilt past p
+  new_vote call replied i p None holds exact h =
       absurd (let none = subst (λ ds. Contains ds (Signs i (subject.Notarize p))) exact h in omega (arith, none.1))
-  new_vote call told i p (Some x) holds exact h = let found = noted_held same elect x call told i p exact h in
+  new_vote call replied i p (Some x) holds exact h = let found = noted_held same elect x call replied i p exact h in
       holds found.0 p found.1
 
-  pub call_builds : (call : CallFacts D) (told : ReplyFacts K D) (next : MemberFacts K L D)
-      → IsCall same elect m call told next → VotesBuilt (past ++ Calls call ∷ []) (trace ++ trace_of_call call told)
+  pub call_builds : (call : CallFacts D) (replied : ReplyFacts K D) (next : MemberFacts K L D)
+      → IsCall same elect m call replied next
+      → VotesBuilt (past ++ Calls call ∷ []) (trace ++ trace_of_call call replied)
       next
-  call_builds call told next is_call = record {
-    holds = call_holds call told next is_call;
+  call_builds call replied next is_call = record {
+    holds = call_holds call replied next is_call;
     voted = λ p h. built_still past (Calls call ∷ []) p
-        (elim (signed_cases trace (trace_of_call call told) (subject.Notarize p) h) [
+        (elim (signed_cases trace (trace_of_call call replied) (subject.Notarize p) h) [
           | inl old ↦ votes.voted p old
-          | inr new ↦ elim (Contains-append_cases (accepted_by call told) (signed_in told)
+          | inr new ↦ elim (Contains-append_cases (accepted_by call replied) (signed_in replied)
               (Signs new.0 (subject.Notarize p)) new.1) [
-                | inl accepted ↦ absurd (accepted_signs_none call told new.0 (subject.Notarize p) accepted)
-                | inr signed ↦ new_vote call told new.0 p m.life votes.holds
-                    (call_exact same elect m next call told is_call)
+                | inl accepted ↦ absurd (accepted_signs_none call replied new.0 (subject.Notarize p) accepted)
+                | inr signed ↦ new_vote call replied new.0 p m.life votes.holds
+                    (call_exact same elect m next call replied is_call)
                     signed
               ]
         ]);
@@ -245,25 +246,26 @@ module _ {K L D : Type 0} (same : D → D → Bool) (decides : (d e : D) → sam
       subst (λ all. VotesBuilt all (trace ++ []) end) (sym (append-nil past))
       (subst (λ all. VotesBuilt past all end) (sym (append-nil trace))
       (subst (λ n. VotesBuilt past trace n) run votes))
-  run_builds [] (told ∷ replies) past trace m end fresh own votes run = absurd run
+  run_builds [] (replied ∷ replies) past trace m end fresh own votes run = absurd run
   run_builds (step ∷ steps) [] past trace m end fresh own votes run = absurd run
-  run_builds (Calls call ∷ steps) (told ∷ replies) past trace m end fresh own votes (next, is_step, rest) =
-      one_more past (Calls call) steps trace (trace_at {L = L} (Calls call) told) (trace_of_steps steps replies) end
-      (run_builds steps replies (past ++ Calls call ∷ []) (trace ++ trace_of_call call told) next end fresh
-      (called same decides itself elect term_length some trace m next call told own is_step)
-      (call_builds same decides elect term_length past trace m own votes call told next is_step)
+  run_builds (Calls call ∷ steps) (replied ∷ replies) past trace m end fresh own votes (next, is_step, rest) =
+      one_more past (Calls call) steps trace (trace_at {L = L} (Calls call) replied) (trace_of_steps steps replies) end
+      (run_builds steps replies (past ++ Calls call ∷ []) (trace ++ trace_of_call call replied) next end fresh
+      (called same decides itself elect term_length some trace m next call replied own is_step)
+      (call_builds same decides elect term_length past trace m own votes call replied next is_step)
       rest)
-  run_builds (Prunes ∷ steps) (told ∷ replies) past trace m end fresh own votes (next, (tells, leaves), rest) =
+  run_builds (Prunes ∷ steps) (replied ∷ replies) past trace m end fresh own votes (next, (tells, leaves), rest) =
       rw tells (one_more past Prunes steps trace [] (trace_of_steps steps replies) end
       (run_builds steps replies (past ++ Prunes ∷ []) (trace ++ []) next end fresh
       (rw leaves (pruned same decides itself elect term_length some trace m own))
       (rw leaves (prune_builds same decides elect term_length past trace m own votes))
       rest))
-  run_builds (Restarts r ∷ steps) (told ∷ replies) past trace m end fresh own votes
+  run_builds (Restarts r ∷ steps) (replied ∷ replies) past trace m end fresh own votes
       (next, (result, restarts, tells), rest) =
-      one_more past (Restarts r) steps trace (trace_at (Restarts r) told) (trace_of_steps steps replies) end
-      (run_builds steps replies (past ++ Restarts r ∷ []) (trace ++ trace_at (Restarts r) told) next end fresh.1
-      (restarted same decides itself elect term_length some trace m next r told fresh.0 own (result, restarts, tells))
+      one_more past (Restarts r) steps trace (trace_at (Restarts r) replied) (trace_of_steps steps replies) end
+      (run_builds steps replies (past ++ Restarts r ∷ []) (trace ++ trace_at (Restarts r) replied) next end fresh.1
+      (restarted same decides itself elect term_length some trace m next r replied fresh.0 own
+      (result, restarts, tells))
       (subst (λ reply. VotesBuilt (past ++ Restarts r ∷ []) (trace ++ trace_at (Restarts r) reply) next) (sym tells)
       (restart_builds same decides elect term_length past trace m own votes next r result restarts))
       rest)

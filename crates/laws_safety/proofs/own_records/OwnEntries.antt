@@ -26,5 +26,6 @@ module _ {K L D : Type 0} (same : D → D → Bool) (decides : (d e : D) → sam
   pub done_entries_once : (i : ℕ) (all : List (TraceEvent D)) (m : MemberFacts K L D)
       → HasHistory same elect term_length i all m → HoldsEachEntryOnce m
   done_entries_once i all m done =
-      own_entries_once done.execution.start done.execution.steps done.execution.replies m done.told.lives.first.terms
-      (keep_terms term_length i done.execution.steps done.told.lives.later) done.told.run
+      own_entries_once done.execution.start done.execution.steps done.execution.replies m
+      done.executed.lives.first.terms
+      (keep_terms term_length i done.execution.steps done.executed.lives.later) done.executed.run

@@ -34,7 +34,7 @@ use Rattle.laws_safety.proofs.records.RunsLawful.{MemberLives, between_of, cut_b
 use Rattle.laws_safety.proofs.records.PrunedRecords.{shown_tracked, tracked_stays}
 use Rattle.laws_safety.proofs.lists.Filters.{Contains-filtered, same_entries}
 use Rattle.simplex_member.specs.PrunedRecord.{stays_within, pruned_member}
-use Rattle.laws_safety.proofs.own_records.VerdictsByCalls.{call_told}
+use Rattle.laws_safety.proofs.own_records.VerdictsByCalls.{call_replied}
 use Rattle.laws_safety.proofs.own_records.ShownVerdicts.{TellsVerdicts, shows_more}
 use Rattle.laws_safety.proofs.own_records.SmallViews.{AreSmall}
 use Rattle.laws_safety.proofs.own_records.Verdicts.{ShowsVerdicts}
@@ -113,8 +113,8 @@ module _ {K L D : Type 0} where
   own_of trace entries None own = own
   own_of trace entries (Some x) tells = tells.own
 
-  untold : (trace : List (TraceEvent D)) (m : MemberFacts K L D) → MemberTells trace m → MemberTells (trace ++ []) m
-  untold trace m tells = subst (λ a. MemberTells a m) (sym (append-nil trace)) tells
+  unreplied : (trace : List (TraceEvent D)) (m : MemberFacts K L D) → MemberTells trace m → MemberTells (trace ++ []) m
+  unreplied trace m tells = subst (λ a. MemberTells a m) (sym (append-nil trace)) tells
 
   cut_own : (trace : List (TraceEvent D)) (m : MemberFacts K L D) (n : ℕ) (prune : Bool) → OwnRecord trace m.entries
       → OwnRecord trace (cut_member m n prune).entries
@@ -128,14 +128,14 @@ module _ {K L D : Type 0} where
   -- a pruning within the lifetime: what the state tracks, and so shows, stays in the record
   prune_tells_on : (trace : List (TraceEvent D)) (m : MemberFacts K L D) → MemberTells trace m
       → MemberTells (trace ++ []) (pruned_member m)
-  prune_tells_on trace m tells = untold trace (pruned_member m) (by_life m.life refl tells)
+  prune_tells_on trace m tells = unreplied trace (pruned_member m) (by_life m.life refl tells)
     where
       by_life : (o : Option (StateFacts K L D)) → m.life ≡ o → TellsOn trace m.entries o
           → TellsOn trace (pruned_member m).entries o
       by_life None dead own = own_bounded trace m.entries own (stays_within m)
-      by_life (Some x) alive told = record {
-        own = own_bounded trace m.entries told.own (stays_within m);
-        shows = rw alive (shows_still m.entries x (finalized_in m.entries - m.retention) told.shows);
+      by_life (Some x) alive replied = record {
+        own = own_bounded trace m.entries replied.own (stays_within m);
+        shows = rw alive (shows_still m.entries x (finalized_in m.entries - m.retention) replied.shows);
       }
 
   -- the same entries, and the floor's finalization besides
@@ -165,28 +165,28 @@ module _ {K L D : Type 0} (same : D → D → Bool) (elect : Elect L) (term_leng
           → MemberTells (trace ++ trace_of_call call (reply_of same elect x m.outstanding_work call))
           (left_of same elect x m call)
       by_fault None no_fault allowed = rw (allowed, no_fault)
-          (call_told same elect trace m.entries x m.outstanding_work
+          (call_replied same elect trace m.entries x m.outstanding_work
           (subst (λ life. TellsOn trace m.entries life) alive tells) call allowed)
-      by_fault (Some f) refused allowed = rw (allowed, refused) (untold trace m tells)
+      by_fault (Some f) refused allowed = rw (allowed, refused) (unreplied trace m tells)
 
       by_allowed : (b : Bool) → is_allowed x m.outstanding_work call ≡ b
           → MemberTells (trace ++ trace_of_call call (reply_of same elect x m.outstanding_work call))
           (left_of same elect x m call)
       by_allowed true allowed = by_fault (fault_of x call) refl allowed
-      by_allowed false not_allowed = rw not_allowed (untold trace m tells)
+      by_allowed false not_allowed = rw not_allowed (unreplied trace m tells)
 
-  call_tells_on : (call : CallFacts D) (told : ReplyFacts K D) (left : MemberFacts K L D) → MemberTells trace m
-      → IsCall same elect m call told left → MemberTells (trace ++ trace_of_call call told) left
+  call_tells_on : (call : CallFacts D) (replied : ReplyFacts K D) (left : MemberFacts K L D) → MemberTells trace m
+      → IsCall same elect m call replied left → MemberTells (trace ++ trace_of_call call replied) left
   unfolding IsCall
-  call_tells_on call told left tells is_call = by_life m.life refl is_call
+  call_tells_on call replied left tells is_call = by_life m.life refl is_call
     where
-      by_life : (o : Option (StateFacts K L D)) → m.life ≡ o → AnswersAlive same elect o m call told left
-          → MemberTells (trace ++ trace_of_call call told) left
-      by_life None dead (tell, leaves) = rw (tell, leaves) (untold trace m tells)
+      by_life : (o : Option (StateFacts K L D)) → m.life ≡ o → AnswersAlive same elect o m call replied left
+          → MemberTells (trace ++ trace_of_call call replied) left
+      by_life None dead (tell, leaves) = rw (tell, leaves) (unreplied trace m tells)
       by_life (Some x) alive (inl (tell, leaves)) = rw (tell, leaves) (answered call x alive tells)
-      by_life (Some x) alive (inr (_, tell, inl (_, leaves))) = rw (tell, leaves) (untold trace m tells)
+      by_life (Some x) alive (inr (_, tell, inl (_, leaves))) = rw (tell, leaves) (unreplied trace m tells)
       by_life (Some x) alive (inr (_, tell, inr (_, _, leaves))) =
-          rw (tell, leaves) (untold trace (without_lifetime m) (own_of trace m.entries m.life tells))
+          rw (tell, leaves) (unreplied trace (without_lifetime m) (own_of trace m.entries m.life tells))
 
   -- a restart
 
@@ -207,7 +207,7 @@ module _ {K L D : Type 0} (same : D → D → Bool) (elect : Elect L) (term_leng
   continues : (n : MemberFacts K L D) (r : RestartFacts K L D) (result : Result (Unit {0}) RecoverError)
       (left : MemberFacts K L D) → OwnRecord trace n.entries → RecoversByView same elect n r.start result left
       → MemberTells (trace ++ trace_at (Restarts r) (restart_reply {K = K} {D = D} result)) left
-  continues n r result left own (inl (is, leaves)) = rw (is, leaves) (untold trace (without_lifetime n) own)
+  continues n r result left own (inl (is, leaves)) = rw (is, leaves) (unreplied trace (without_lifetime n) own)
   continues n r result left own (inr (copy, by_view, goes)) =
       by_error (recover_error same (new_state r.start.setup) r.start.floor r.start.now copy) goes
     where
@@ -219,7 +219,7 @@ module _ {K L D : Type 0} (same : D → D → Bool) (elect : Elect L) (term_leng
           rw (is, leaves)
           (subst (λ more. MemberTells (trace ++ more) (new_lifetime same elect n r.start copy))
           (sym (append-nil (of_floor r.start.floor))) (from_copy n r.start copy own by_view))
-      by_error (Some e) (is, leaves) = rw (is, leaves) (untold trace (without_lifetime n) own)
+      by_error (Some e) (is, leaves) = rw (is, leaves) (unreplied trace (without_lifetime n) own)
 
   restart_tells_on : (r : RestartFacts K L D) (result : Result (Unit {0}) RecoverError) (left : MemberFacts K L D)
       → MemberTells trace m → IsRestart same elect m r result left
@@ -230,7 +230,7 @@ module _ {K L D : Type 0} (same : D → D → Bool) (elect : Elect L) (term_leng
     where
       by_test : (b : Bool) → IsRestartWhere same elect b m r result left
           → MemberTells (trace ++ trace_at (Restarts r) (restart_reply {K = K} {D = D} result)) left
-      by_test true (is, leaves) = rw (is, leaves) (untold trace m tells)
+      by_test true (is, leaves) = rw (is, leaves) (unreplied trace m tells)
       by_test false goes = continues (cut_member m r.drop r.prune) r result left
           (cut_own trace m r.drop r.prune (own_of trace m.entries m.life tells)) goes
 
@@ -247,19 +247,21 @@ pub record LivesAndTells {K L D : Type 0} (term_length : ℕ) (trace : List (Tra
 
 module _ {K L D : Type 0} (same : D → D → Bool) (decides : (d e : D) → same d e ≡ true → d ≡ e)
     (itself : (d : D) → same d d ≡ true) (elect : Elect L) (term_length : ℕ) (some : 0 < term_length) where
-  pub called : (trace : List (TraceEvent D)) (m next : MemberFacts K L D) (call : CallFacts D) (told : ReplyFacts K D)
-      → LivesAndTells term_length trace m → IsCall same elect m call told next
-      → LivesAndTells term_length (trace ++ trace_of_call call told) next
-  called trace m next call told own is = record {
-    lives = call_lives_on same decides elect term_length some trace m call told next own.lives is;
-    tells = call_tells_on same elect term_length trace m call told next own.tells is;
+  pub called : (trace : List (TraceEvent D)) (m next : MemberFacts K L D) (call : CallFacts D)
+      (replied : ReplyFacts K D)
+      → LivesAndTells term_length trace m → IsCall same elect m call replied next
+      → LivesAndTells term_length (trace ++ trace_of_call call replied) next
+  called trace m next call replied own is = record {
+    lives = call_lives_on same decides elect term_length some trace m call replied next own.lives is;
+    tells = call_tells_on same elect term_length trace m call replied next own.tells is;
   }
 
   pub restarted : (trace : List (TraceEvent D)) (m next : MemberFacts K L D) (r : RestartFacts K L D)
-      (told : ReplyFacts K D) → HasTerms term_length r.start.setup → LivesAndTells term_length trace m
-      → (result : Result (Unit {0}) RecoverError) × IsRestart same elect m r result next × (told ≡ restart_reply result)
-      → LivesAndTells term_length (trace ++ trace_at (Restarts r) told) next
-  restarted trace m next r told fresh own (result, is, tell) = rw tell (record {
+      (replied : ReplyFacts K D) → HasTerms term_length r.start.setup → LivesAndTells term_length trace m
+      → (result : Result (Unit {0}) RecoverError) × IsRestart same elect m r result next
+      × (replied ≡ restart_reply result)
+      → LivesAndTells term_length (trace ++ trace_at (Restarts r) replied) next
+  restarted trace m next r replied fresh own (result, is, tell) = rw tell (record {
     lives = restart_lives_on same decides elect term_length some trace m r result next fresh own.lives is;
     tells = restart_tells_on same elect term_length trace m r result next own.tells is;
   })
@@ -276,21 +278,21 @@ module _ {K L D : Type 0} (same : D → D → Bool) (decides : (d e : D) → sam
   run_own [] [] trace m end fresh own run =
       subst (λ all. LivesAndTells term_length all end) (sym (append-nil trace))
       (subst (λ n. LivesAndTells term_length trace n) run own)
-  run_own [] (told ∷ replies) trace m end fresh own run = absurd run
+  run_own [] (replied ∷ replies) trace m end fresh own run = absurd run
   run_own (step ∷ steps) [] trace m end fresh own run = absurd run
-  run_own (Calls call ∷ steps) (told ∷ replies) trace m end fresh own (next, is_step, rest) =
+  run_own (Calls call ∷ steps) (replied ∷ replies) trace m end fresh own (next, is_step, rest) =
       subst (λ all. LivesAndTells term_length all end)
-      (append_assoc trace (trace_at {L = L} (Calls call) told) (trace_of_steps steps replies))
-      (run_own steps replies (trace ++ trace_of_call call told) next end fresh
-      (called trace m next call told own is_step) rest)
-  run_own (Prunes ∷ steps) (told ∷ replies) trace m end fresh own (next, (tells, leaves), rest) =
+      (append_assoc trace (trace_at {L = L} (Calls call) replied) (trace_of_steps steps replies))
+      (run_own steps replies (trace ++ trace_of_call call replied) next end fresh
+      (called trace m next call replied own is_step) rest)
+  run_own (Prunes ∷ steps) (replied ∷ replies) trace m end fresh own (next, (tells, leaves), rest) =
       rw tells (subst (λ all. LivesAndTells term_length all end) (append_assoc trace [] (trace_of_steps steps replies))
       (run_own steps replies (trace ++ []) next end fresh (rw leaves (pruned trace m own)) rest))
-  run_own (Restarts r ∷ steps) (told ∷ replies) trace m end fresh own (next, is_step, rest) =
+  run_own (Restarts r ∷ steps) (replied ∷ replies) trace m end fresh own (next, is_step, rest) =
       subst (λ all. LivesAndTells term_length all end)
-      (append_assoc trace (trace_at (Restarts r) told) (trace_of_steps steps replies))
-      (run_own steps replies (trace ++ trace_at (Restarts r) told) next end fresh.1
-      (restarted trace m next r told fresh.0 own is_step) rest)
+      (append_assoc trace (trace_at (Restarts r) replied) (trace_of_steps steps replies))
+      (run_own steps replies (trace ++ trace_at (Restarts r) replied) next end fresh.1
+      (restarted trace m next r replied fresh.0 own is_step) rest)
 
   -- a copy of the record after any cut breaks no rule on the order of entries
   copy_fits : (trace : List (TraceEvent D)) (m : MemberFacts K L D) (n : ℕ) (prune : Bool)
@@ -371,17 +373,18 @@ module _ {K L D : Type 0} (same : D → D → Bool) (decides : (d e : D) → sam
       → EndsRun same elect m steps found → IsExcused found
   run_excused [] trace m found fresh own ends = absurd ends
   run_excused (Calls call ∷ steps) trace m found fresh own (inl refused) = absurd refused
-  run_excused (Calls call ∷ steps) trace m found fresh own (inr (told, next, is_step, served, later)) =
-      run_excused steps (trace ++ trace_of_call call told) next found fresh (called trace m next call told own is_step)
+  run_excused (Calls call ∷ steps) trace m found fresh own (inr (replied, next, is_step, served, later)) =
+      run_excused steps (trace ++ trace_of_call call replied) next found fresh
+      (called trace m next call replied own is_step)
       later
   run_excused (Prunes ∷ steps) trace m found fresh own (inl refused) = absurd refused
-  run_excused (Prunes ∷ steps) trace m found fresh own (inr (told, next, is_step, served, later)) =
+  run_excused (Prunes ∷ steps) trace m found fresh own (inr (replied, next, is_step, served, later)) =
       run_excused steps (trace ++ []) next found fresh (rw is_step.1 (pruned trace m own)) later
   run_excused (Restarts r ∷ steps) trace m found fresh own (inl (left, refused)) =
       restart_excused trace m left r (Err found) found refl own refused
-  run_excused (Restarts r ∷ steps) trace m found fresh own (inr (told, next, is_step, served, later)) =
-      run_excused steps (trace ++ trace_at (Restarts r) told) next found fresh.1
-      (restarted trace m next r told fresh.0 own is_step) later
+  run_excused (Restarts r ∷ steps) trace m found fresh own (inr (replied, next, is_step, served, later)) =
+      run_excused steps (trace ++ trace_at (Restarts r) replied) next found fresh.1
+      (restarted trace m next r replied fresh.0 own is_step) later
 
 module _ {K L D : Type 0} (same : D → D → Bool) (decides : (d e : D) → same d e ≡ true → d ≡ e)
     (itself : (d : D) → same d d ≡ true) (elect : Elect L) (term_length : ℕ) (start : StartFacts K L D)

@@ -84,19 +84,19 @@ module _ {K L D : Type 0} (same : D → D → Bool) (elect : Elect L) (trace : L
       (λ round success h. elim (Contains-append_cases entries new (Verdict round success) h)
       [ inl old ↦ inl old | inr late ↦ absurd (silent round success late) ]) tells.shows
 
-  pub quiet_told : (more : List (TraceEvent D)) (new : List (ArtifactFacts D)) (e : Event K D) → IsEvent x e
+  pub quiet_replied : (more : List (TraceEvent D)) (new : List (ArtifactFacts D)) (e : Event K D) → IsEvent x e
       → notarization_by e ≡ None → verdict_by e ≡ None → AreQuiet new
       → TellsVerdicts (trace ++ more) (entries ++ new) (after_event same elect x e)
-  quiet_told more new e takes no_notarization no_judgement quiet =
+  quiet_replied more new e takes no_notarization no_judgement quiet =
       record {
         own = own_quiet trace entries tells.own more new quiet;
         shows = quiet_shows new e takes no_notarization no_judgement (no_verdict new quiet);
       }
 
-  notarization_told : (more : List (TraceEvent D)) (c : ProposalFacts D) → takes_proposal_certificate x c ≡ true
+  notarization_replied : (more : List (TraceEvent D)) (c : ProposalFacts D) → takes_proposal_certificate x c ≡ true
       → TellsVerdicts (trace ++ more) (entries ++ if_new (notarization_added same elect x c).0 (Accepted (Notarized c)))
       (after_add_notarization same elect x c)
-  notarization_told more c takes =
+  notarization_replied more c takes =
       let is_new = (notarization_added same elect x c).0 in
       let entry : ArtifactFacts D = Accepted (Notarized c) in
       let e : Event K D = event.AddNotarization c in
@@ -116,10 +116,10 @@ module _ {K L D : Type 0} (same : D → D → Bool) (elect : Elect L) (trace : L
             tells.shows;
       }
 
-  verdict_told : (more : List (TraceEvent D)) (v : ℕ) (success : Bool) (now : ℕ) → takes_verdict x v success ≡ true
+  verdict_replied : (more : List (TraceEvent D)) (v : ℕ) (success : Bool) (now : ℕ) → takes_verdict x v success ≡ true
       → TellsVerdicts (trace ++ more) (entries ++ if_new (is_first_verdict x v) (Verdict (round_number x v) success))
       (after_certified elect x v success now)
-  verdict_told more v success now takes = by_tracked (is_tracked x v) refl
+  verdict_replied more v success now takes = by_tracked (is_tracked x v) refl
     where
       entry : ArtifactFacts D
       entry = Verdict (round_number x v) success
@@ -207,37 +207,38 @@ module _ {K L D : Type 0} (same : D → D → Bool) (elect : Elect L) (trace : L
       by_key (Some m) None = quiet_none
       by_key (Some m) (Some p) = quiet_newly true (FinalizeVote p m) refl
 
-  told : (more : List (TraceEvent D)) (new : List (ArtifactFacts D)) (e : Event K D) → IsEvent x e
+  replied : (more : List (TraceEvent D)) (new : List (ArtifactFacts D)) (e : Event K D) → IsEvent x e
       → notarization_by e ≡ None → verdict_by e ≡ None → AreQuiet new
       → TellsVerdicts (trace ++ more) (entries ++ new) (after_event same elect x e)
-  told = quiet_told same elect trace entries x tells
+  replied = quiet_replied same elect trace entries x tells
 
   -- each call that is allowed and not refused, and not on the work of a view
-  pub plain_told : (o : OutstandingWork K D) (call : CallFacts D) → is_work call ≡ false → is_allowed x o call ≡ true
+  pub plain_replied : (o : OutstandingWork K D) (call : CallFacts D) → is_work call ≡ false → is_allowed x o call ≡ true
       → TellsVerdicts (trace ++ trace_of_call call (answer same elect x o call))
       (entries ++ recorded_by same elect x call) (after_call same elect x o call)
-  plain_told o (AddNotarization c) plain allowed = notarization_told same elect trace entries x tells _ c allowed
-  plain_told o (AddNullification c now) plain allowed =
-      told _ _ (event.AddNullification c now) allowed refl refl
+  plain_replied o (AddNotarization c) plain allowed = notarization_replied same elect trace entries x tells _ c allowed
+  plain_replied o (AddNullification c now) plain allowed =
+      replied _ _ (event.AddNullification c now) allowed refl refl
       (quiet_newly (nullification_added x c) (Accepted (Nullified c)) refl)
-  plain_told o (AddFinalization c now) plain allowed =
-      told _ _ (event.AddFinalization c now) allowed refl refl
+  plain_replied o (AddFinalization c now) plain allowed =
+      replied _ _ (event.AddFinalization c now) allowed refl refl
       (quiet_newly (finalization_added same elect x c).0 (Accepted (Finalized c)) refl)
-  plain_told o (Certified v success now) plain allowed =
-      verdict_told same elect trace entries x tells _ v success now allowed
-  plain_told o (ConstructNullify v) plain allowed = told _ _ (event.ConstructNullify v) tt refl refl (quiet_nullify v)
-  plain_told o (ConstructFinalize v) plain allowed =
-      told _ _ (event.ConstructFinalize v) tt refl refl (quiet_finalize v)
-  plain_told o (BroadcastNotarization v) plain allowed =
-      told _ [] (event.BroadcastNotarization v) tt refl refl quiet_none
-  plain_told o (BroadcastNullification v) plain allowed =
-      told _ [] (event.BroadcastNullification v) tt refl refl quiet_none
-  plain_told o (BroadcastFinalization v) plain allowed =
-      told _ [] (event.BroadcastFinalization v) tt refl refl quiet_none
-  plain_told o GetBestCertificate plain allowed =
+  plain_replied o (Certified v success now) plain allowed =
+      verdict_replied same elect trace entries x tells _ v success now allowed
+  plain_replied o (ConstructNullify v) plain allowed = replied _ _ (event.ConstructNullify v) tt refl refl
+      (quiet_nullify v)
+  plain_replied o (ConstructFinalize v) plain allowed =
+      replied _ _ (event.ConstructFinalize v) tt refl refl (quiet_finalize v)
+  plain_replied o (BroadcastNotarization v) plain allowed =
+      replied _ [] (event.BroadcastNotarization v) tt refl refl quiet_none
+  plain_replied o (BroadcastNullification v) plain allowed =
+      replied _ [] (event.BroadcastNullification v) tt refl refl quiet_none
+  plain_replied o (BroadcastFinalization v) plain allowed =
+      replied _ [] (event.BroadcastFinalization v) tt refl refl quiet_none
+  plain_replied o GetBestCertificate plain allowed =
       record {
         own = own_quiet trace entries tells.own [] [] quiet_none;
         shows = shows_more entries [] x (no_verdict [] quiet_none) tells.shows;
       }
-  plain_told o Prune plain allowed = told _ [] event.Prune tt refl refl quiet_none
-  plain_told o _ plain allowed = absurd (true≢false plain)
+  plain_replied o Prune plain allowed = replied _ [] event.Prune tt refl refl quiet_none
+  plain_replied o _ plain allowed = absurd (true≢false plain)

@@ -101,13 +101,13 @@ module _ {K L D : Type 0} where
   handed_small x _ none = small_none
 
 module _ {K D : Type 0} where
-  accepted_small : (call : CallFacts D) (told : ReplyFacts K D) → AreSmall (passed_certificates call)
-      → AreSmall (accepted_by call told)
+  accepted_small : (call : CallFacts D) (replied : ReplyFacts K D) → AreSmall (passed_certificates call)
+      → AreSmall (accepted_by call replied)
   accepted_small call (Added newly leader) small = small
   accepted_small call (AddedNullification newly) small = small
   accepted_small call _ small = small_none
 
-  signed_small : (told : ReplyFacts K D) → AreSmall (signed_in told)
+  signed_small : (replied : ReplyFacts K D) → AreSmall (signed_in replied)
   signed_small (Nullify (Some (retry, vote))) = vote_accepts_none vote
   signed_small (Finalize (Some vote)) = vote_accepts_none vote
   signed_small (Notarize (Some vote)) = vote_accepts_none vote
@@ -124,17 +124,18 @@ module _ {K L D : Type 0} (same : D → D → Bool) (elect : Elect L) where
       by_allowed false f is = small_none
       by_allowed true (Some f) is = small_none
       by_allowed true None is =
-          let told = answer same elect x m.outstanding_work call in
-          small_both (accepted_by call told) (signed_in told) (accepted_small call told (handed_small x call is))
-          (signed_small told)
+          let replied = answer same elect x m.outstanding_work call in
+          small_both (accepted_by call replied) (signed_in replied)
+          (accepted_small call replied (handed_small x call is))
+          (signed_small replied)
 
-  call_small : (m next : MemberFacts K L D) (call : CallFacts D) (told : ReplyFacts K D)
-      → IsCall same elect m call told next → AreSmall (trace_of_call call told)
+  call_small : (m next : MemberFacts K L D) (call : CallFacts D) (replied : ReplyFacts K D)
+      → IsCall same elect m call replied next → AreSmall (trace_of_call call replied)
   unfolding IsCall
-  call_small m next call told is_call = by_life m.life is_call
+  call_small m next call replied is_call = by_life m.life is_call
     where
-      by_life : (o : Option (StateFacts K L D)) → AnswersAlive same elect o m call told next
-          → AreSmall (trace_of_call call told)
+      by_life : (o : Option (StateFacts K L D)) → AnswersAlive same elect o m call replied next
+          → AreSmall (trace_of_call call replied)
       by_life None (tells, leaves) = rw tells small_none
       by_life (Some x) (inl (tells, leaves)) = rw tells (replied_small x m call)
       by_life (Some x) (inr (wants, tells, leaves)) = rw tells small_none
@@ -172,14 +173,14 @@ module _ {K L D : Type 0} (same : D → D → Bool) (elect : Elect L) where
   pub steps_small : (steps : List (StepFacts K L D)) (replies : List (ReplyFacts K D)) (m end : MemberFacts K L D)
       → IsRun same elect m steps replies end → AreSmall (trace_of_steps steps replies)
   steps_small [] [] m end run = small_none
-  steps_small [] (told ∷ replies) m end run = absurd run
+  steps_small [] (replied ∷ replies) m end run = absurd run
   steps_small (step ∷ steps) [] m end run = absurd run
-  steps_small (Calls call ∷ steps) (told ∷ replies) m end (next, is_call, rest) =
-      small_both (trace_at {L = L} (Calls call) told) (trace_of_steps steps replies)
-      (call_small m next call told is_call) (steps_small steps replies next end rest)
-  steps_small (Prunes ∷ steps) (told ∷ replies) m end (next, (tells, leaves), rest) =
+  steps_small (Calls call ∷ steps) (replied ∷ replies) m end (next, is_call, rest) =
+      small_both (trace_at {L = L} (Calls call) replied) (trace_of_steps steps replies)
+      (call_small m next call replied is_call) (steps_small steps replies next end rest)
+  steps_small (Prunes ∷ steps) (replied ∷ replies) m end (next, (tells, leaves), rest) =
       rw tells (steps_small steps replies next end rest)
-  steps_small (Restarts r ∷ steps) (told ∷ replies) m end (next, (result, restarts, tells), rest) =
-      small_both (trace_at (Restarts r) told) (trace_of_steps steps replies)
+  steps_small (Restarts r ∷ steps) (replied ∷ replies) m end (next, (result, restarts, tells), rest) =
+      small_both (trace_at (Restarts r) replied) (trace_of_steps steps replies)
       (rw tells (restart_small m next r result restarts))
       (steps_small steps replies next end rest)

@@ -20,7 +20,7 @@ use Rattle.laws_safety.proofs.frames.CallsOnWork.{is_work, is_silent}
 use Rattle.laws_safety.proofs.records.CallsKeepRules.{silent_trace, silent_record}
 use Rattle.laws_safety.proofs.own_records.Recorded.{HasNoVerdict, quiet_none, no_verdict, own_quiet, own_silent}
 use Rattle.laws_safety.proofs.frames.CallsMake.{AreSilent, work_silent, call_by_event}
-use Rattle.laws_safety.proofs.own_records.ShownVerdicts.{TellsVerdicts, shows_more, quiet_shows, plain_told}
+use Rattle.laws_safety.proofs.own_records.ShownVerdicts.{TellsVerdicts, shows_more, quiet_shows, plain_replied}
 use Rattle.laws_safety.proofs.own_records.Verdicts.{ShowsVerdicts}
 use Rattle.laws_safety.proofs.lists.Splits.{only_one}
 
@@ -40,15 +40,15 @@ module _ {K L D : Type 0} (same : D → D → Bool) (elect : Elect L) (trace : L
       silent.0.verdict nothing) call allowed (work_silent o call work)
 
   -- a vote to notarize that is recorded is cast
-  notarize_told : (call : CallFacts D) (vote : Option (ArtifactFacts D)) → Left (after_call same elect x o call)
+  notarize_replied : (call : CallFacts D) (vote : Option (ArtifactFacts D)) → Left (after_call same elect x o call)
       → ((e : ArtifactFacts D) → vote ≡ Some e → (p : Proposal D) × (m : ℕ) × (e ≡ NotarizeVote p m))
       → TellsVerdicts (trace ++ signed_in {K = K} (Notarize vote)) (entries ++ vote_entry vote)
       (after_call same elect x o call)
-  notarize_told call None left is = record {
+  notarize_replied call None left is = record {
     own = own_quiet trace entries tells.own [] [] quiet_none;
     shows = left [] (no_verdict [] quiet_none);
   }
-  notarize_told call (Some e) left is =
+  notarize_replied call (Some e) left is =
       let one = is e refl in
       subst (λ f. TellsVerdicts (trace ++ signed_in {K = K} (Notarize (Some f))) (entries ++ f ∷ [])
       (after_call same elect x o call)) (sym one.2) (recorded one.0 one.1)
@@ -77,15 +77,15 @@ module _ {K L D : Type 0} (same : D → D → Bool) (elect : Elect L) (trace : L
           → (p : Proposal D) × (m : ℕ) × (e ≡ NotarizeVote p m)
       by_key None a none = absurd (false≢true (ap is_some none))
       by_key (Some m) None none = absurd (false≢true (ap is_some none))
-      by_key (Some m) (Some p) told = (p, m, sym (ap (λ f. unwrap_or f e) told))
+      by_key (Some m) (Some p) replied = (p, m, sym (ap (λ f. unwrap_or f e) replied))
 
   abbrev pub CallTells : CallFacts D → Type 0
   CallTells call = TellsVerdicts (trace ++ trace_of_call call (answer same elect x o call))
       (entries ++ recorded_by same elect x call) (after_call same elect x o call)
 
   -- each call that is allowed and not refused
-  pub call_told : (call : CallFacts D) → is_allowed x o call ≡ true → CallTells call
-  call_told call allowed = by_kind (is_work call) refl
+  pub call_replied : (call : CallFacts D) → is_allowed x o call ≡ true → CallTells call
+  call_replied call allowed = by_kind (is_work call) refl
     where
       by_silence : (w : CallFacts D) (b : Bool) → is_silent w ≡ b → is_work w ≡ true
           → Left (after_call same elect x o w) → CallTells w
@@ -97,9 +97,9 @@ module _ {K L D : Type 0} (same : D → D → Bool) (elect : Elect L) (trace : L
           (record
           { own = own_quiet trace entries tells.own [] [] quiet_none; shows = left [] (no_verdict [] quiet_none) }))
       by_silence (ConstructNotarize v) false loud work left =
-          notarize_told (ConstructNotarize v) (notarize_vote same elect x v) left (is_notarize v)
+          notarize_replied (ConstructNotarize v) (notarize_vote same elect x v) left (is_notarize v)
       by_silence _ false loud work left = absurd (cc)
 
       by_kind : (b : Bool) → is_work call ≡ b → CallTells call
       by_kind true work = by_silence call (is_silent call) refl work (work_left call work allowed)
-      by_kind false plain = plain_told same elect trace entries x tells o call plain allowed
+      by_kind false plain = plain_replied same elect trace entries x tells o call plain allowed

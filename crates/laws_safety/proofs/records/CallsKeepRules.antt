@@ -31,7 +31,7 @@ use Rattle.laws_safety.proofs.votes.NotarizeVotesShown.{NotesStand}
 use Rattle.laws_safety.proofs.records.NotarizeVotesRemembered.{notes_cast}
 use Rattle.laws_safety.proofs.votes.NotarizeVotesByWork.{work_notes, decided_notes}
 use Rattle.laws_safety.proofs.frames.CallsOnWork.{is_work, is_silent, silent_work}
-use Rattle.laws_safety.proofs.votes.NotarizeVotes.{notarize_silent, notarize_told, notarize_allowed, notarize_noted, voted_tracked}
+use Rattle.laws_safety.proofs.votes.NotarizeVotes.{notarize_silent, notarize_replied, notarize_allowed, notarize_noted, voted_tracked}
 use Rattle.laws_safety.proofs.records.NewLives.{Living, high_more, within_more, plain_lives}
 use Rattle.laws_safety.proofs.lists.Splits.{only_one}
 
@@ -182,43 +182,43 @@ module _ {K L D : Type 0} (same : D → D → Bool) (decides : (d e : D) → sam
         within = within_more closed entries (vote ∷ []) living.within;
       }
 
-  abbrev pub ToldLives : ℕ → Option (ArtifactFacts D) → Type 0
-  ToldLives v vote = Living term_length (trace ++ signed_in {K = K} (Notarize vote)) closed kept
+  abbrev pub RepliedLives : ℕ → Option (ArtifactFacts D) → Type 0
+  RepliedLives v vote = Living term_length (trace ++ signed_in {K = K} (Notarize vote)) closed kept
       (entries ++ vote_entry vote) o (after_construct_notarize same elect x v)
 
-  notarize_lives : (v : ℕ) → ToldLives v (notarize_vote same elect x v)
+  notarize_lives : (v : ℕ) → RepliedLives v (notarize_vote same elect x v)
   notarize_lives v = by_rule (may_notarize same elect x v) refl
     where
-      untold : (base low : ℕ) → NotesStand base low trace o (after_construct_notarize same elect x v)
-          → notarize_vote same elect x v ≡ None → ToldLives v (notarize_vote same elect x v)
-      untold base low noted silent = subst (ToldLives v) (sym silent)
+      unreplied : (base low : ℕ) → NotesStand base low trace o (after_construct_notarize same elect x v)
+          → notarize_vote same elect x v ≡ None → RepliedLives v (notarize_vote same elect x v)
+      unreplied base low noted silent = subst (RepliedLives v) (sym silent)
           (nothing_done o (after_construct_notarize same elect x v) (decided_lives v base low noted))
 
       by_held : (m : ℕ) (q : Option (Proposal D)) → (round_of x v).slot.held ≡ q → x.me ≡ Some m
-          → may_notarize same elect x v ≡ true → ToldLives v (notarize_vote same elect x v)
+          → may_notarize same elect x v ≡ true → RepliedLives v (notarize_vote same elect x v)
       by_held m None holds me may =
           let verified = (notarize_parts same elect x v may).verified in
           let slot = (and_parts (is_unequivocated (round_of x v).slot) (round_of x v).slot.verified verified).0 in
           absurd (false≢true (sym (ap is_some holds)
           ∙ (and_parts (is_some (round_of x v).slot.held) (not (round_of x v).slot.conflict) slot).0))
-      by_held m (Some h) holds me may = subst (ToldLives v) (sym (notarize_told same elect x v m h me may holds))
+      by_held m (Some h) holds me may = subst (RepliedLives v) (sym (notarize_replied same elect x v m h me may holds))
           (cast_lives v m h may holds)
 
       by_key : (k : Option ℕ) → x.me ≡ k → may_notarize same elect x v ≡ true
-          → ToldLives v (notarize_vote same elect x v)
+          → RepliedLives v (notarize_vote same elect x v)
       by_key None me may =
           let noted = living.noted in
           let positive : 0 < x.terms.term_length = omega (arith, some, living.keeps.stays.stands.terms) in
           let tracked = voted_tracked same decides elect term_length noted.0 noted.1 trace o x positive
           living.keeps.stays.stands.terms noted.2 v may in
-          untold noted.0 noted.1 (rw may (decided_notes same decides elect noted.0 noted.1 trace o x noted.2 v may
+          unreplied noted.0 noted.1 (rw may (decided_notes same decides elect noted.0 noted.1 trace o x noted.2 v may
           tracked)) (notarize_silent same elect x v (no_key (may_notarize same elect x v) x.me me))
       by_key (Some m) me may = by_held m (round_of x v).slot.held refl me may
 
-      by_rule : (b : Bool) → may_notarize same elect x v ≡ b → ToldLives v (notarize_vote same elect x v)
+      by_rule : (b : Bool) → may_notarize same elect x v ≡ b → RepliedLives v (notarize_vote same elect x v)
       by_rule true may = by_key x.me refl may
       by_rule false may = (let noted = living.noted in
-          untold noted.0 noted.1 (rw may noted.2)
+          unreplied noted.0 noted.1 (rw may noted.2)
           (notarize_silent same elect x v (no_rule (may_notarize same elect x v) x.me may)))
 
   -- a call that is allowed and not refused

@@ -27,7 +27,7 @@ use Rattle.laws_safety.specs.Traces.{TraceEvent, Accepts, Signs, trace_of_call}
 use Rattle.laws_safety.proofs.votes.ShownVotes.{ShowsVotesInLife}
 use Rattle.laws_safety.proofs.frames.CallsOnWork.{is_work}
 use Rattle.laws_safety.proofs.votes.ShownVotesByVotes.{held_notarized}
-use Rattle.laws_safety.proofs.votes.LifeCalls.{nullify_silent, nullify_told, finalize_silent, finalize_told, no_key, no_rule}
+use Rattle.laws_safety.proofs.votes.LifeCalls.{nullify_silent, nullify_replied, finalize_silent, finalize_replied, no_key, no_rule}
 use Rattle.laws_safety.proofs.records.TracesShown.{Remembers}
 use Rattle.laws_safety.proofs.records.RecordedVotes.{Marked, marked_more, event_marked, quiet_marked}
 use Rattle.simplex_record.proofs.Steps.{verdict_by, nullify_by}
@@ -175,10 +175,10 @@ module _ {K L D : Type 0} (same : D → D → Bool) (elect : Elect L) (term_leng
       round : Round
       round = round_number x v
 
-      untold : nullify_vote x v ≡ None → (may_nullify x v ≡ true → is_some x.me ≡ true → ⊥)
+      unreplied : nullify_vote x v ≡ None → (may_nullify x v ≡ true → is_some x.me ≡ true → ⊥)
           → RemembersAndShows (trace ++ trace_of_call {K = K} (ConstructNullify v) (Nullify (nullify_vote x v))) kept
           (entries ++ unrepeated_vote (nullify_vote x v)) (after_construct_nullify x v)
-      untold silent barred =
+      unreplied silent barred =
           let y = after_construct_nullify x v in
           let marked = nullify_marked v [] (λ may undecided key. absurd (barred may key)) in
           subst (λ o. RemembersAndShows (trace ++ trace_of_call {K = K} (ConstructNullify v) (Nullify o)) kept
@@ -214,17 +214,18 @@ module _ {K L D : Type 0} (same : D → D → Bool) (elect : Elect L) (term_leng
           (entries ++ unrepeated_vote (nullify_vote x v)) (after_construct_nullify x v)
       by_key None me may =
           let keyless : is_some x.me ≡ false = ap is_some me in
-          untold (nullify_silent elect x v (no_key (may_nullify x v) x.me me)) (λ _ key. false≢true (sym keyless ∙ key))
+          unreplied (nullify_silent elect x v (no_key (may_nullify x v) x.me me))
+          (λ _ key. false≢true (sym keyless ∙ key))
       by_key (Some m) me may =
           subst (λ o. RemembersAndShows (trace ++ trace_of_call {K = K} (ConstructNullify v) (Nullify o)) kept
-          (entries ++ unrepeated_vote o) (after_construct_nullify x v)) (sym (nullify_told elect x v m me may))
+          (entries ++ unrepeated_vote o) (after_construct_nullify x v)) (sym (nullify_replied elect x v m me may))
           (by_retry m (is_nullify (round_of x v).decision) refl me may)
 
       by_rule : (b : Bool) → may_nullify x v ≡ b
           → RemembersAndShows (trace ++ trace_of_call {K = K} (ConstructNullify v) (Nullify (nullify_vote x v))) kept
           (entries ++ unrepeated_vote (nullify_vote x v)) (after_construct_nullify x v)
       by_rule true may = by_key x.me refl may
-      by_rule false barred = untold (nullify_silent elect x v (no_rule (may_nullify x v) x.me barred))
+      by_rule false barred = unreplied (nullify_silent elect x v (no_rule (may_nullify x v) x.me barred))
           (λ may key. false≢true (sym barred ∙ may))
 
   -- a vote to finalize is recorded
@@ -237,11 +238,12 @@ module _ {K L D : Type 0} (same : D → D → Bool) (elect : Elect L) (term_leng
       marked : Marked entries (after_construct_finalize elect x v)
       marked = quiet_on (event.ConstructFinalize v) refl refl
 
-      untold : finalize_vote elect x v ≡ None
+      unreplied : finalize_vote elect x v ≡ None
           → RemembersAndShows (trace ++ trace_of_call {K = K} (ConstructFinalize v)
           (Finalize (finalize_vote elect x v))) kept (entries ++ vote_entry (finalize_vote elect x v))
           (after_construct_finalize elect x v)
-      untold silent = subst (λ o. RemembersAndShows (trace ++ trace_of_call {K = K} (ConstructFinalize v) (Finalize o))
+      unreplied silent = subst
+          (λ o. RemembersAndShows (trace ++ trace_of_call {K = K} (ConstructFinalize v) (Finalize o))
           kept (entries ++ vote_entry o) (after_construct_finalize elect x v)) (sym silent)
           (nothing_follows (after_construct_finalize elect x v) marked)
 
@@ -254,7 +256,7 @@ module _ {K L D : Type 0} (same : D → D → Bool) (elect : Elect L) (term_leng
           absurd (false≢true (sym (ap is_some holds) ∙ alone))
       by_held m (Some h) holds me may =
           let rule = finalize_parts elect x v may in
-          let told = finalize_told elect x v m h me may holds in
+          let replied = finalize_replied elect x v m h me may holds in
           let named = held_notarized trace x.current x.finalized v (round_of x v) (stays.stands.rounds v) h
           rule.unequivocated rule.notarized holds in
           let verdict = follows.marked.certified v rule.certified in
@@ -266,13 +268,13 @@ module _ {K L D : Type 0} (same : D → D → Bool) (elect : Elect L) (term_leng
             marked = marked_more entries new (after_construct_finalize elect x v) marked;
           } in
           subst (λ o. RemembersAndShows (trace ++ trace_of_call {K = K} (ConstructFinalize v) (Finalize o)) kept
-          (entries ++ vote_entry o) (after_construct_finalize elect x v)) (sym told) next
+          (entries ++ vote_entry o) (after_construct_finalize elect x v)) (sym replied) next
 
       by_key : (o : Option ℕ) → x.me ≡ o → may_finalize elect x v ≡ true
           → RemembersAndShows (trace ++ trace_of_call {K = K} (ConstructFinalize v)
           (Finalize (finalize_vote elect x v))) kept (entries ++ vote_entry (finalize_vote elect x v))
           (after_construct_finalize elect x v)
-      by_key None me may = untold (finalize_silent elect x v (no_key (may_finalize elect x v) x.me me))
+      by_key None me may = unreplied (finalize_silent elect x v (no_key (may_finalize elect x v) x.me me))
       by_key (Some m) me may = by_held m (round_of x v).slot.held refl me may
 
       by_rule : (b : Bool) → may_finalize elect x v ≡ b
@@ -280,7 +282,7 @@ module _ {K L D : Type 0} (same : D → D → Bool) (elect : Elect L) (term_leng
           (Finalize (finalize_vote elect x v))) kept (entries ++ vote_entry (finalize_vote elect x v))
           (after_construct_finalize elect x v)
       by_rule true may = by_key x.me refl may
-      by_rule false barred = untold (finalize_silent elect x v (no_rule (may_finalize elect x v) x.me barred))
+      by_rule false barred = unreplied (finalize_silent elect x v (no_rule (may_finalize elect x v) x.me barred))
 
   -- each call that is allowed and not refused, and not on the work of a view
   pub call_follows : (o : OutstandingWork K D) (call : CallFacts D) → is_work call ≡ false → is_allowed x o call ≡ true

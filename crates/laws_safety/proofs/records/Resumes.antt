@@ -74,10 +74,10 @@ module _ {K L D : Type 0} (same : D → D → Bool) (elect : Elect L) (m : Membe
   more_within : (more : List (ArtifactFacts D)) → m.closed ≤ length (m.entries ++ more)
   more_within more = let grows = grown m.entries more in omega (arith, grows, within)
 
-  call_within : (call : CallFacts D) (told : ReplyFacts K D) (left : MemberFacts K L D)
-      → IsCall same elect m call told left → Within left
+  call_within : (call : CallFacts D) (replied : ReplyFacts K D) (left : MemberFacts K L D)
+      → IsCall same elect m call replied left → Within left
   unfolding IsCall
-  call_within call told left is_call = by_life m.life is_call
+  call_within call replied left is_call = by_life m.life is_call
     where
       by_fault : (x : StateFacts K L D) (f : Option Fault) → fault_of x call ≡ f
           → is_allowed x m.outstanding_work call ≡ true → Within (left_of same elect x m call)
@@ -89,7 +89,7 @@ module _ {K L D : Type 0} (same : D → D → Bool) (elect : Elect L) (m : Membe
       by_allowed x true allowed = by_fault x (fault_of x call) refl allowed
       by_allowed x false not_allowed = rw not_allowed within
 
-      by_life : (o : Option (StateFacts K L D)) → AnswersAlive same elect o m call told left → Within left
+      by_life : (o : Option (StateFacts K L D)) → AnswersAlive same elect o m call replied left → Within left
       by_life None (tell, leaves) = rw leaves within
       by_life (Some x) (inl (tell, leaves)) = rw leaves (by_allowed x (is_allowed x m.outstanding_work call) refl)
       by_life (Some x) (inr (_, tell, inl (_, leaves))) = rw leaves within
@@ -123,13 +123,13 @@ module _ {K L D : Type 0} (same : D → D → Bool) (elect : Elect L) where
   run_within : (m end : MemberFacts K L D) (steps : List (StepFacts K L D)) (replies : List (ReplyFacts K D)) → Within m
       → IsRun same elect m steps replies end → Within end
   run_within m end [] [] within run = subst Within run within
-  run_within m end [] (told ∷ replies) within run = absurd run
+  run_within m end [] (replied ∷ replies) within run = absurd run
   run_within m end (step ∷ steps) [] within run = absurd run
-  run_within m end (Calls call ∷ steps) (told ∷ replies) within (next, is_step, rest) =
-      run_within next end steps replies (call_within same elect m within call told next is_step) rest
-  run_within m end (Prunes ∷ steps) (told ∷ replies) within (next, (tells, leaves), rest) =
+  run_within m end (Calls call ∷ steps) (replied ∷ replies) within (next, is_step, rest) =
+      run_within next end steps replies (call_within same elect m within call replied next is_step) rest
+  run_within m end (Prunes ∷ steps) (replied ∷ replies) within (next, (tells, leaves), rest) =
       run_within next end steps replies (rw leaves (omega arith)) rest
-  run_within m end (Restarts r ∷ steps) (told ∷ replies) within (next, (result, restarts, tell), rest) =
+  run_within m end (Restarts r ∷ steps) (replied ∷ replies) within (next, (result, restarts, tell), rest) =
       run_within next end steps replies (restart_within m r result next within restarts) rest
 
   pub run_loses_nothing : (start : StartFacts K L D) (steps : List (StepFacts K L D)) (replies : List (ReplyFacts K D))

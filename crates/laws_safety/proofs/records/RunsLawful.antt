@@ -112,14 +112,14 @@ module _ {K L D : Type 0} (same : D → D → Bool) (decides : (d e : D) → sam
       by_allowed true allowed = by_fault (fault_of x call) refl allowed
       by_allowed false not_allowed = rw not_allowed (quiet term_length trace m lives)
 
-  pub call_lives_on : (call : CallFacts D) (told : ReplyFacts K D) (left : MemberFacts K L D)
-      → MemberLives term_length trace m → IsCall same elect m call told left
-      → MemberLives term_length (trace ++ trace_of_call call told) left
+  pub call_lives_on : (call : CallFacts D) (replied : ReplyFacts K D) (left : MemberFacts K L D)
+      → MemberLives term_length trace m → IsCall same elect m call replied left
+      → MemberLives term_length (trace ++ trace_of_call call replied) left
   unfolding IsCall
-  call_lives_on call told left lives is_call = by_life m.life refl is_call
+  call_lives_on call replied left lives is_call = by_life m.life refl is_call
     where
-      by_life : (o : Option (StateFacts K L D)) → m.life ≡ o → AnswersAlive same elect o m call told left
-          → MemberLives term_length (trace ++ trace_of_call call told) left
+      by_life : (o : Option (StateFacts K L D)) → m.life ≡ o → AnswersAlive same elect o m call replied left
+          → MemberLives term_length (trace ++ trace_of_call call replied) left
       by_life None dead (tells, leaves) = rw (tells, leaves) (quiet term_length trace m lives)
       by_life (Some x) alive (inl (tells, leaves)) = rw (tells, leaves) (answered call x alive lives)
       by_life (Some x) alive (inr (_, tells, inl (_, leaves))) = rw (tells, leaves) (quiet term_length trace m lives)
@@ -197,16 +197,17 @@ module _ {K L D : Type 0} (same : D → D → Bool) (decides : (d e : D) → sam
   keep_parts (Restarts r) steps keep = ((keep.0, tt), keep.1)
 
   -- a step, and the terms that later steps keep
-  pub step_lives : (step : StepFacts K L D) (steps : List (StepFacts K L D)) (told : ReplyFacts K D)
+  pub step_lives : (step : StepFacts K L D) (steps : List (StepFacts K L D)) (replied : ReplyFacts K D)
       (trace : List (TraceEvent D)) (m next : MemberFacts K L D) → KeepTerms term_length (step ∷ steps)
-      → MemberLives term_length trace m → IsStep same elect m step told next
-      → KeepTerms term_length steps × MemberLives term_length (trace ++ trace_at step told) next
-  step_lives step steps told trace m next keep lives is_step = let parts = keep_parts step steps keep in
+      → MemberLives term_length trace m → IsStep same elect m step replied next
+      → KeepTerms term_length steps × MemberLives term_length (trace ++ trace_at step replied) next
+  step_lives step steps replied trace m next keep lives is_step = let parts = keep_parts step steps keep in
       (parts.1, by_kind step parts.0 is_step)
     where
-      by_kind : (s : StepFacts K L D) → KeepTerms term_length (s ∷ []) → IsStep same elect m s told next
-          → MemberLives term_length (trace ++ trace_at s told) next
-      by_kind (Calls call) fresh is = call_lives_on same decides elect term_length some trace m call told next lives is
+      by_kind : (s : StepFacts K L D) → KeepTerms term_length (s ∷ []) → IsStep same elect m s replied next
+          → MemberLives term_length (trace ++ trace_at s replied) next
+      by_kind (Calls call) fresh is = call_lives_on same decides elect term_length some trace m call replied next lives
+          is
       by_kind Prunes fresh is = rw (is.0, is.1) (prune_lives_on term_length trace m lives)
       by_kind (Restarts r) fresh is = rw is.2
           (restart_lives_on same decides elect term_length some trace m r is.0 next fresh.0 lives is.1)
@@ -216,13 +217,13 @@ module _ {K L D : Type 0} (same : D → D → Bool) (decides : (d e : D) → sam
       → IsRun same elect m steps replies end → MemberLives term_length (trace ++ trace_of_steps steps replies) end
   run_lives [] [] trace m end keep lives run =
       subst (MemberLives term_length (trace ++ [])) run (quiet term_length trace m lives)
-  run_lives [] (told ∷ replies) trace m end keep lives run = absurd run
+  run_lives [] (replied ∷ replies) trace m end keep lives run = absurd run
   run_lives (step ∷ steps) [] trace m end keep lives run = absurd run
-  run_lives (step ∷ steps) (told ∷ replies) trace m end keep lives (next, is_step, rest) =
-      let kept = step_lives step steps told trace m next keep lives is_step in
+  run_lives (step ∷ steps) (replied ∷ replies) trace m end keep lives (next, is_step, rest) =
+      let kept = step_lives step steps replied trace m next keep lives is_step in
       subst (λ a. MemberLives term_length a end)
-      (append_assoc trace (trace_at step told) (trace_of_steps steps replies))
-      (run_lives steps replies (trace ++ trace_at step told) next end kept.0 kept.1 rest)
+      (append_assoc trace (trace_at step replied) (trace_of_steps steps replies))
+      (run_lives steps replies (trace ++ trace_at step replied) next end kept.0 kept.1 rest)
 
   pub run_lawful : (steps : List (StepFacts K L D)) (replies : List (ReplyFacts K D)) (trace : List (TraceEvent D))
       (m end : MemberFacts K L D) → KeepTerms term_length steps → MemberLives term_length trace m

@@ -63,8 +63,8 @@ module _ {D : Type 0} (same : D → D → Bool) (s : SlotFacts D) (p : Proposal 
           ∙ by_same h (same_proposal same h p) refl is ∙ sym (ap (λ q. option_or q (Some p)) is)
 
   -- and so is one that is received
-  pub heard_held : (after_vote (same_proposal same) s p).held ≡ option_or s.held (Some p)
-  heard_held = by_held s.held refl
+  pub received_held : (after_vote (same_proposal same) s p).held ≡ option_or s.held (Some p)
+  received_held = by_held s.held refl
     where
       by_held : (o : Option (Proposal D)) → s.held ≡ o
           → (option_map_or (λ h. record s {

@@ -45,9 +45,9 @@ module _ {K L D : Type 0} (elect : Elect L) (x : StateFacts K L D) (v : ℕ) whe
   pub nullify_silent : (is_some x.me && may_nullify x v) ≡ false → nullify_vote x v ≡ None
   nullify_silent no_vote = none_follows _ x.me (λ m. rw no_vote refl)
 
-  pub nullify_told : (m : ℕ) → x.me ≡ Some m → may_nullify x v ≡ true
+  pub nullify_replied : (m : ℕ) → x.me ≡ Some m → may_nullify x v ≡ true
       → nullify_vote x v ≡ Some (is_nullify (round_of x v).decision, NullifyVote (round_number x v) m)
-  nullify_told m me may =
+  nullify_replied m me may =
       let votes : (is_some x.me && may_nullify x v) ≡ true = ap (λ b. b && may_nullify x v) (ap is_some me) ∙ may in
       ap (option_and_then (λ n. option_map (λ retry. (retry, NullifyVote (round_number x v) n)) (nullify_answer x v)))
       me
@@ -56,9 +56,9 @@ module _ {K L D : Type 0} (elect : Elect L) (x : StateFacts K L D) (v : ℕ) whe
   pub finalize_silent : (is_some x.me && may_finalize elect x v) ≡ false → finalize_vote elect x v ≡ None
   finalize_silent no_vote = none_follows _ x.me (λ m. rw no_vote refl)
 
-  pub finalize_told : (m : ℕ) (h : Proposal D) → x.me ≡ Some m → may_finalize elect x v ≡ true
+  pub finalize_replied : (m : ℕ) (h : Proposal D) → x.me ≡ Some m → may_finalize elect x v ≡ true
       → (round_of x v).slot.held ≡ Some h → finalize_vote elect x v ≡ Some (FinalizeVote h m)
-  finalize_told m h me may holds =
+  finalize_replied m h me may holds =
       let votes : (is_some x.me && may_finalize elect x v) ≡ true =
       ap (λ b. b && may_finalize elect x v) (ap is_some me) ∙ may in
       let answered : finalize_answer elect x v ≡ Some h = rw votes holds in
@@ -95,10 +95,10 @@ module _ {K L D : Type 0} (elect : Elect L) (term_length : ℕ) (trace : List (T
           (rw (may, keyless) (nothing_shown _ keeps.lawful
           (nullify_decided term_length trace x v keeps.stays (nullify_parts x v may))))
       by_key (Some m) me may =
-          let told = nullify_told elect x v m me may in
+          let replied = nullify_replied elect x v m me may in
           let keyed : is_some x.me ≡ true = ap is_some me in
           subst (λ o. IsLawfulAndShown term_length (trace ++ trace_of_call {K = K} (ConstructNullify v) (Nullify o))
-          (after_construct_nullify x v)) (sym told)
+          (after_construct_nullify x v)) (sym replied)
           (rw (may, keyed) (record {
             lawful = lawful_push term_length trace (Signs m (subject.Nullify (round_number x v))) keeps.lawful
                 (nullify_allowed term_length trace x v keeps.stays (nullify_parts x v may));
@@ -128,9 +128,9 @@ module _ {K L D : Type 0} (elect : Elect L) (term_length : ℕ) (trace : List (T
           let alone = (and_parts (is_some (round_of x v).slot.held) _ (finalize_parts elect x v may).unequivocated).0 in
           absurd (false≢true (sym (ap is_some holds) ∙ alone))
       by_held m (Some h) holds me may =
-          let told = finalize_told elect x v m h me may holds in
+          let replied = finalize_replied elect x v m h me may holds in
           subst (λ o. IsLawfulAndShown term_length (trace ++ trace_of_call {K = K} (ConstructFinalize v) (Finalize o))
-          (after_construct_finalize elect x v)) (sym told)
+          (after_construct_finalize elect x v)) (sym replied)
           (rw may (record {
             lawful = lawful_push term_length trace (Signs m (subject.Finalize h)) keeps.lawful
                 (finalize_allowed term_length trace x v keeps.stays elect h (finalize_parts elect x v may) holds);

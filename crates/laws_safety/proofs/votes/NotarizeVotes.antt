@@ -39,9 +39,9 @@ module _ {K L D : Type 0} (same : D → D → Bool) (elect : Elect L) (x : State
   pub notarize_silent : (is_some x.me && may_notarize same elect x v) ≡ false → notarize_vote same elect x v ≡ None
   notarize_silent no_vote = none_follows _ x.me (λ m. rw no_vote refl)
 
-  pub notarize_told : (m : ℕ) (h : Proposal D) → x.me ≡ Some m → may_notarize same elect x v ≡ true
+  pub notarize_replied : (m : ℕ) (h : Proposal D) → x.me ≡ Some m → may_notarize same elect x v ≡ true
       → (round_of x v).slot.held ≡ Some h → notarize_vote same elect x v ≡ Some (NotarizeVote h m)
-  notarize_told m h me may holds =
+  notarize_replied m h me may holds =
       let votes : (is_some x.me && may_notarize same elect x v) ≡ true =
       ap (λ b. b && may_notarize same elect x v) (ap is_some me) ∙ may in
       let answered : notarize_answer same elect x v ≡ Some h = rw votes holds in

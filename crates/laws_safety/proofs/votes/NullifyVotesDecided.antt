@@ -48,9 +48,9 @@ and_false true = refl
 and_false false = refl
 
 -- each vote is reported if it is decided
-pub record IsTold {K L D : Type 0} (x : StateFacts K L D) : Type 0 where
+pub record IsReplied {K L D : Type 0} (x : StateFacts K L D) : Type 0 where
   pub me : (v : ℕ) → (round_of x v).me ≡ x.me
-  pub told : (v : ℕ) → is_among v x.nullify_votes ≡ (is_some x.me && is_nullify (round_of x v).decision)
+  pub replied : (v : ℕ) → is_among v x.nullify_votes ≡ (is_some x.me && is_nullify (round_of x v).decision)
 
 -- a round after an event: its member stays, and its vote to nullify unless the event decides it
 record LeavesVote {K D : Type 0} (e : Event K D) (v : ℕ) (r s : RoundFacts K D) : Type 0 where
@@ -100,22 +100,23 @@ module _ {K L D : Type 0} (same : D → D → Bool) (elect : Elect L) (x : State
       keeps y z _ p = p
 
   -- an event that decides no vote to nullify
-  silent_told : is_prune e ≡ false → is_some (nullify_by e) ≡ false → IsTold x → IsTold after
-  silent_told no_prune silent is_told = record {
-    me = λ v. (rounds_leave no_prune v).me ∙ is_told.me v ∙ sym (event_goes same elect x e).me;
-    told = λ v. among v (votes_stay no_prune) (rounds_leave no_prune v).decided;
+  silent_replied : is_prune e ≡ false → is_some (nullify_by e) ≡ false → IsReplied x → IsReplied after
+  silent_replied no_prune silent is_replied = record {
+    me = λ v. (rounds_leave no_prune v).me ∙ is_replied.me v ∙ sym (event_goes same elect x e).me;
+    replied = λ v. among v (votes_stay no_prune) (rounds_leave no_prune v).decided;
   }
     where
       among : (v : ℕ) → NotesOnly after → (is_nullify (round_of after v).decision ≡ is_nullify (round_of x v).decision)
           ⊎ (is_some (nullify_by e) ≡ true) → is_among v
           after.nullify_votes ≡ (is_some after.me && is_nullify (round_of after v).decision)
       among v (inl votes) (inl decision) =
-          ap (is_among v) votes ∙ is_told.told v ∙ sym (λ k. is_some ((event_goes same elect x e).me k) && decision k)
+          ap (is_among v) votes ∙ is_replied.replied v
+          ∙ sym (λ k. is_some ((event_goes same elect x e).me k) && decision k)
       among v (inr says) _ = absurd (false≢true (sym silent ∙ says))
       among v _ (inr says) = absurd (false≢true (sym silent ∙ says))
 
 module _ {K L D : Type 0} (x : StateFacts K L D) (u : ℕ) (r : RoundFacts K D) (mine : r.me ≡ x.me)
-    (decided : is_nullify r.decision ≡ true) (is_told : IsTold x) where
+    (decided : is_nullify r.decision ≡ true) (is_replied : IsReplied x) where
   abbrev noted : StateFacts K L D
   noted = record (with_round x u r) { nullify_votes = insert_key nat_cmp x.nullify_votes u }
 
@@ -123,12 +124,13 @@ module _ {K L D : Type 0} (x : StateFacts K L D) (u : ℕ) (r : RoundFacts K D) 
   put_me v = elim (cases_eq v u) [
     | inl at ↦ subst (λ w. (round_of (with_round x u r) w).me ≡ x.me) (sym at)
         (ap (λ (s : RoundFacts K D). s.me) (round_put x u r) ∙ mine)
-    | inr apart ↦ ap (λ (s : RoundFacts K D). s.me) (round_of-with_round x v u apart r) ∙ is_told.me v
+    | inr apart ↦ ap (λ (s : RoundFacts K D). s.me) (round_of-with_round x v u apart r) ∙ is_replied.me v
   ]
 
   -- a vote that is decided and noted, by a member with a key
-  noted_told : is_some x.me ≡ true → IsTold noted
-  noted_told keyed = record { me = put_me; told = λ v. among_noted u v x.nullify_votes ∙ at_view v (cases_eq v u) }
+  noted_replied : is_some x.me ≡ true → IsReplied noted
+  noted_replied keyed = record
+      { me = put_me; replied = λ v. among_noted u v x.nullify_votes ∙ at_view v (cases_eq v u) }
     where
       at_view : (v : ℕ) → (v ≡ u) ⊎ ((v ≡ u) → ⊥)
           → (eqb v u || is_among v x.nullify_votes)
@@ -136,39 +138,39 @@ module _ {K L D : Type 0} (x : StateFacts K L D) (u : ℕ) (r : RoundFacts K D) 
       at_view v (inl at) = rw (eq-eqb v u at, keyed)
           (sym (subst (λ w. is_nullify (round_of (with_round x u r) w).decision ≡ true) (sym at)
           (ap (λ (s : RoundFacts K D). is_nullify s.decision) (round_put x u r) ∙ decided)))
-      at_view v (inr apart) = rw (ne_eqb v u apart, round_of-with_round x v u apart r) (is_told.told v)
+      at_view v (inr apart) = rw (ne_eqb v u apart, round_of-with_round x v u apart r) (is_replied.replied v)
 
   -- without a key the vote is decided and not cast
-  unnoted_told : is_some x.me ≡ false → IsTold (with_round x u r)
-  unnoted_told keyless = record { me = put_me; told = λ v. is_told.told v ∙ rw keyless refl }
+  unnoted_replied : is_some x.me ≡ false → IsReplied (with_round x u r)
+  unnoted_replied keyless = record { me = put_me; replied = λ v. is_replied.replied v ∙ rw keyless refl }
 
 module _ {K L D : Type 0} (same : D → D → Bool) (elect : Elect L) (x : StateFacts K L D) where
-  constructed_told : (v : ℕ) → IsTold x → IsTold (after_construct_nullify x v)
-  constructed_told v is_told = by_rule (may_nullify x v) refl
+  constructed_replied : (v : ℕ) → IsReplied x → IsReplied (after_construct_nullify x v)
+  constructed_replied v is_replied = by_rule (may_nullify x v) refl
     where
       decided : may_nullify x v ≡ true → is_nullify (after_nullify (round_of x v)).decision ≡ true
       decided may = rw (nullify_parts x v may).no_finalize refl
 
       mine : may_nullify x v ≡ true → (after_nullify (round_of x v)).me ≡ x.me
-      mine may = rw (nullify_parts x v may).no_finalize (is_told.me v)
+      mine may = rw (nullify_parts x v may).no_finalize (is_replied.me v)
 
       by_key : may_nullify x v ≡ true → (b : Bool) → is_some x.me ≡ b
-          → IsTold (if b then record (with_round x v (after_nullify (round_of x v)))
+          → IsReplied (if b then record (with_round x v (after_nullify (round_of x v)))
           { nullify_votes = insert_key nat_cmp x.nullify_votes v } else with_round x v (after_nullify (round_of x v)))
-      by_key may true keyed = noted_told x v (after_nullify (round_of x v)) (mine may) (decided may) is_told keyed
-      by_key may false keyless = unnoted_told x v (after_nullify (round_of x v)) (mine may) (decided may) is_told
+      by_key may true keyed = noted_replied x v (after_nullify (round_of x v)) (mine may) (decided may) is_replied keyed
+      by_key may false keyless = unnoted_replied x v (after_nullify (round_of x v)) (mine may) (decided may) is_replied
           keyless
 
-      by_rule : (b : Bool) → may_nullify x v ≡ b → IsTold (after_construct_nullify x v)
+      by_rule : (b : Bool) → may_nullify x v ≡ b → IsReplied (after_construct_nullify x v)
       by_rule true may = rw may (by_key may (is_some x.me) refl)
-      by_rule false may = rw may is_told
+      by_rule false may = rw may is_replied
 
-  pruned_told : IsTold x → IsTold (after_prune x)
-  pruned_told is_told = record { me = mine; told = λ v. kept v (nat_le (min_active x) v) refl }
+  pruned_replied : IsReplied x → IsReplied (after_prune x)
+  pruned_replied is_replied = record { me = mine; replied = λ v. kept v (nat_le (min_active x) v) refl }
     where
       mine : (v : ℕ) → (round_of (after_prune x) v).me ≡ x.me
       mine v = elim (pruned_round x v) [
-        | inl stays ↦ ap (λ (r : RoundFacts K D). r.me) stays ∙ is_told.me v
+        | inl stays ↦ ap (λ (r : RoundFacts K D). r.me) stays ∙ is_replied.me v
         | inr gone ↦ ap (λ o. (unwrap_or o (new_round x.me x.members (round_number x v))).me) gone.untracked
       ]
 
@@ -182,7 +184,7 @@ module _ {K L D : Type 0} (same : D → D → Bool) (elect : Elect L) (x : State
         where
           by_view : (b : Bool) → round_at (after_prune x) v ≡ cond b (round_at x v) None
               → (b && is_among v x.nullify_votes) ≡ (is_some x.me && is_nullify (round_of (after_prune x) v).decision)
-          by_view true stays = is_told.told v ∙ sym
+          by_view true stays = is_replied.replied v ∙ sym
               (ap (λ o. is_some x.me && is_nullify (unwrap_or o (new_round x.me x.members (round_number x v))).decision)
               stays)
           by_view false gone = and_false (is_some x.me)
@@ -192,11 +194,11 @@ module _ {K L D : Type 0} (same : D → D → Bool) (elect : Elect L) (x : State
   abbrev replay_of : ArtifactFacts D → Event K D
   replay_of a = event.Replay a
 
-  replayed_told : (round : Round) (m : ℕ) → IsEvent x (replay_of (NullifyVote round m)) → IsTold x
-      → IsTold (after_event same elect x (event.Replay (NullifyVote round m)))
-  replayed_told round m allowed is_told =
-      let mine = is_told.me round.view in
-      noted_told x round.view (record (round_of x round.view) { decision = Nullify None }) mine refl is_told
+  replayed_replied : (round : Round) (m : ℕ) → IsEvent x (replay_of (NullifyVote round m)) → IsReplied x
+      → IsReplied (after_event same elect x (event.Replay (NullifyVote round m)))
+  replayed_replied round m allowed is_replied =
+      let mine = is_replied.me round.view in
+      noted_replied x round.view (record (round_of x round.view) { decision = Nullify None }) mine refl is_replied
       (ap is_some (sym mine ∙ allowed.taken.0))
 
 -- which events decide a vote to nullify
@@ -208,36 +210,39 @@ nullify_kind (event.Replay (NullifyVote round m)) is = inr (round, m, refl)
 nullify_kind _ is = absurd (false≢true is)
 
 module _ {K L D : Type 0} (same : D → D → Bool) (elect : Elect L) where
-  event_told : (x : StateFacts K L D) (e : Event K D) → IsEvent x e → IsTold x → IsTold (after_event same elect x e)
-  event_told x e allowed is_told = by_prune (is_prune e) refl
+  event_replied : (x : StateFacts K L D) (e : Event K D) → IsEvent x e → IsReplied x
+      → IsReplied (after_event same elect x e)
+  event_replied x e allowed is_replied = by_prune (is_prune e) refl
     where
       by_kind : ((v : ℕ) × (e ≡ event.ConstructNullify v))
-          ⊎ ((round : Round) × (m : ℕ) × (e ≡ event.Replay (NullifyVote round m))) → IsTold (after_event same elect x e)
-      by_kind (inl (v, at)) = subst (λ (f : Event K D). IsTold (after_event same elect x f)) (sym at)
-          (constructed_told same elect x v is_told)
-      by_kind (inr (round, m, at)) = subst (λ (f : Event K D). IsTold (after_event same elect x f)) (sym at)
-          (replayed_told same elect x round m (subst (IsEvent x) at allowed) is_told)
+          ⊎ ((round : Round) × (m : ℕ) × (e ≡ event.Replay (NullifyVote round m)))
+          → IsReplied (after_event same elect x e)
+      by_kind (inl (v, at)) = subst (λ (f : Event K D). IsReplied (after_event same elect x f)) (sym at)
+          (constructed_replied same elect x v is_replied)
+      by_kind (inr (round, m, at)) = subst (λ (f : Event K D). IsReplied (after_event same elect x f)) (sym at)
+          (replayed_replied same elect x round m (subst (IsEvent x) at allowed) is_replied)
 
-      by_vote : is_prune e ≡ false → (b : Bool) → is_some (nullify_by e) ≡ b → IsTold (after_event same elect x e)
+      by_vote : is_prune e ≡ false → (b : Bool) → is_some (nullify_by e) ≡ b → IsReplied (after_event same elect x e)
       by_vote no_prune true says = by_kind (nullify_kind e says)
-      by_vote no_prune false silent = silent_told same elect x e allowed no_prune silent is_told
+      by_vote no_prune false silent = silent_replied same elect x e allowed no_prune silent is_replied
 
-      by_prune : (b : Bool) → is_prune e ≡ b → IsTold (after_event same elect x e)
-      by_prune true prunes = subst IsTold (sym (prune_alone same elect x e prunes)) (pruned_told same elect x is_told)
+      by_prune : (b : Bool) → is_prune e ≡ b → IsReplied (after_event same elect x e)
+      by_prune true prunes = subst IsReplied (sym (prune_alone same elect x e prunes))
+          (pruned_replied same elect x is_replied)
       by_prune false no_prune = by_vote no_prune (is_some (nullify_by e)) refl
 
-  all_told : (x : StateFacts K L D) (events : List (Event K D)) → AllowsEach same elect x events → IsTold x
-      → IsTold (after_events same elect x events)
-  all_told x [] allowed is_told = is_told
-  all_told x (e ∷ rest) allowed is_told = all_told (after_event same elect x e) rest allowed.1
-      (event_told x e allowed.0 is_told)
+  all_replied : (x : StateFacts K L D) (events : List (Event K D)) → AllowsEach same elect x events → IsReplied x
+      → IsReplied (after_events same elect x events)
+  all_replied x [] allowed is_replied = is_replied
+  all_replied x (e ∷ rest) allowed is_replied = all_replied (after_event same elect x e) rest allowed.1
+      (event_replied x e allowed.0 is_replied)
 
   same_member : (x : StateFacts K L D) (events : List (Event K D)) → (after_events same elect x events).me ≡ x.me
   same_member x [] = refl
   same_member x (e ∷ rest) = same_member (after_event same elect x e) rest ∙ (event_goes same elect x e).me
 
-  new_told : (setup : Setup K L) → IsTold {D = D} (new_state setup)
-  new_told setup = record { me = λ v. refl; told = λ v. and_false (is_some setup.me) }
+  new_replied : (setup : Setup K L) → IsReplied {D = D} (new_state setup)
+  new_replied setup = record { me = λ v. refl; replied = λ v. and_false (is_some setup.me) }
 
   pub votes_are_decided : (setup : Setup K L) (floor : FloorFacts D) (now : ℕ) (events : List (Event K D)) (v : ℕ)
       → AllowsEach same elect (new_state setup) (event.SetFloor floor now ∷ events)
@@ -247,5 +252,5 @@ module _ {K L D : Type 0} (same : D → D → Bool) (elect : Elect L) where
   votes_are_decided setup floor now events v allowed =
       let all : List (Event K D) = event.SetFloor floor now ∷ events in
       let y = after_events same elect (new_state setup) all in
-      turned v y.nullify_votes ∙ (all_told (new_state setup) all allowed (new_told setup)).told v
+      turned v y.nullify_votes ∙ (all_replied (new_state setup) all allowed (new_replied setup)).replied v
       ∙ ap (λ o. is_some o && is_nullify (round_of y v).decision) (same_member (new_state setup) all)

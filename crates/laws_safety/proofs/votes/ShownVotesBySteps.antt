@@ -191,7 +191,7 @@ module _ {K L D : Type 0} (same : D → D → Bool) (decides : (d e : D) → sam
         finalize_decided = λ q h at. passed_by (is_finalize r.decision) (v ≤ finalized) (awaited_nullify r awaits).1
             (p.finalize_decided q h at) false;
       }
-  change_stands finalized y v r s (step.Heard q says free) p =
+  change_stands finalized y v r s (step.Received q says free) p =
       record {
         notarized = p.notarized;
         held = λ d is. holds_voted same r.slot q d.proposal (p.held d is);

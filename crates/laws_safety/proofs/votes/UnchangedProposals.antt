@@ -109,7 +109,7 @@ module _ {K L D : Type 0} (same : D → D → Bool) (elect : Elect L) (begun : S
       (certificate_calm v same r.slot c.proposal at)) (calm_alike v _ s refl refl refl refl refl)
   change_calm y v r s (step.NotarizeDecided is may) = calm_decided v r
   change_calm y v r s (step.VotedAgain p binding says at which) = absurd (let none = left.note in cc)
-  change_calm y v r s (step.Heard p says free) =
+  change_calm y v r s (step.Received p says free) =
       slot_in_round v r (after_vote (same_proposal same) r.slot p) (voted_calm v same r.slot p (left.placed v p says))
   change_calm y v r s (step.Marked is bound free) = absurd (false≢true (sym left.answer ∙ ap is_answer is))
   change_calm y v r s (step.Asked requested) =

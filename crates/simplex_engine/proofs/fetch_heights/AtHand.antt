@@ -13,7 +13,7 @@ use Rattle.engine_fetches.specs.OutstandingFetches.{wants}
 use Rattle.engine_outbox.specs.Outputs.{work_in}
 use Rattle.engine_outbox.specs.declared.output.Work.{Work}
 use Rattle.engine_outbox.specs.declared.output.Work.TheVariants as work
-use Rattle.engine_planner.specs.declared.plan.builds.Building.{Building}
+use Rattle.engine_planner.specs.declared.plan.builds.PendingBuild.{PendingBuild}
 use Rattle.engine_planner.specs.declared.plan.early.Early.{Early}
 use Rattle.engine_planner.specs.declared.plan.Plan.{Plan}
 use Rattle.engine_planner.specs.declared.plan.Step.{Step}
@@ -126,7 +126,7 @@ module _ (S D K G C : Type 0) (top : ℕ) where
       ∙ ap (λ t. t || list_any above (of_steps rest)) (step_height it)
       ∙ ap (λ t. resolves_above top it || t) (steps_height rest)
 
-  blocks_low : (builds : List (Building D K)) → list_any above (of_blocks builds) ≡ false
+  blocks_low : (builds : List (PendingBuild D K)) → list_any above (of_blocks builds) ≡ false
   blocks_low [] = refl
   blocks_low (b ∷ builds) = blocks_low builds
 
@@ -229,5 +229,5 @@ none_lacks top (MissingCertificate kind view ∷ rest) none =
     (ap (λ t. t && view == view) (kind_itself kind) ∙ eq-eqb view view refl)))
 none_lacks top (Arrival from proposal ∷ rest) none = none_lacks top rest none
 none_lacks top (Quorum on ∷ rest) none = none_lacks top rest none
-none_lacks top (Message told ∷ rest) none = none_lacks top rest none
+none_lacks top (Message replied ∷ rest) none = none_lacks top rest none
 none_lacks top (Expiry ∷ rest) none = none_lacks top rest none

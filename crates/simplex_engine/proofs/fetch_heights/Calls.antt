@@ -19,7 +19,7 @@ use Rattle.simplex_resolver.specs.ReceivedFacts.{greatest}
 use Rattle.simplex_record.specs.Cuts.{finalized_in}
 use Rattle.simplex_record.specs.Entries.{entry_view}
 use Rattle.simplex_member.specs.CallConditions.{is_allowed, fault_of}
-use Rattle.simplex_member.specs.Calls.{CallFacts, AddNotarization, AddNullification, AddFinalization, Certified, TryVerify, CertifyCandidates, ReplyFacts, Judged, Standing as ToldStanding, Refused, NotAllowed, told}
+use Rattle.simplex_member.specs.Calls.{CallFacts, AddNotarization, AddNullification, AddFinalization, Certified, TryVerify, CertifyCandidates, ReplyFacts, Judged, Standing as RepliedStanding, Refused, NotAllowed, reply_facts}
 use Rattle.simplex_member.specs.CallSemantics.{answer, after_call, recorded_by, if_new}
 use Rattle.simplex_member.specs.MemberFacts.{MemberFacts, IsCall, AnswersAlive, with_call, unless_refused, unless_retained}
 use Rattle.simplex_member.specs.PrunedRecord.{stays_within, pruned_member, tracks}
@@ -96,27 +96,28 @@ module _ {K L D : Type 0} (same : D → D → Bool) (elect : Elect L) (m : Membe
         let grows = greatest_grows m.entries (recorded_by same elect x call) in
         omega (arith, up, grows)
 
-  told_below : (call : CallFacts D) → highest_passed (answer same elect x m.outstanding_work call)
+  replied_below : (call : CallFacts D) → highest_passed (answer same elect x m.outstanding_work call)
       call ≤ highest_received (next_member call) (next_state call)
-  told_below (AddNotarization c) =
+  replied_below (AddNotarization c) =
       (let new = newly_recorded (notarization_added same elect x c).0 (Accepted (Notarized c)) in omega (arith, new))
-  told_below (AddNullification c now) =
+  replied_below (AddNullification c now) =
       (let new = newly_recorded (nullification_added x c) (Accepted (Nullified c)) in omega (arith, new))
-  told_below (AddFinalization c now) =
+  replied_below (AddFinalization c now) =
       (let new = newly_recorded (finalization_added same elect x c).0 (Accepted (Finalized c)) in omega (arith, new))
-  told_below TryVerify = by_answer (verify_answer same elect x) refl
+  replied_below TryVerify = by_answer (verify_answer same elect x) refl
     where
       by_answer : (a : Verify D K) → verify_answer same elect x ≡ a
-          → highest_passed (ToldStanding a) TryVerify ≤ highest_received (next_member TryVerify) (next_state TryVerify)
+          → highest_passed (RepliedStanding a) TryVerify ≤ highest_received (next_member TryVerify)
+          (next_state TryVerify)
       by_answer (verify.Ready context proposal) is = omega arith
       by_answer (verify.Resolve proposal view kind leader) is =
           let ahead = lacks_ahead same elect x known.some proposal view kind leader is in
           let up = next_up TryVerify in
           omega (arith, ahead, up)
       by_answer verify.Wait is = omega arith
-  told_below CertifyCandidates =
+  replied_below CertifyCandidates =
       (let below = candidates_below in let grows = greatest_grows m.entries [] in omega (arith, below, grows))
-  told_below (Certified v success now) = by_answer (certified_answer x v) refl
+  replied_below (Certified v success now) = by_answer (certified_answer x v) refl
     where
       judged : Bool → Option (ProposalFacts D) → ReplyFacts K D
       judged = Judged
@@ -129,22 +130,22 @@ module _ {K L D : Type 0} (same : D → D → Bool) (elect : Elect L) (m : Membe
           let below = judged_below v n is in
           let grows = greatest_grows m.entries (recorded_by same elect x (Certified v success now)) in
           omega (arith, below, grows)
-  told_below call = omega arith
+  replied_below call = omega arith
 
   -- the member has failed, or it has not, and what it received is of no view above those that it has heard of
-  pub record HasHeard (call : CallFacts D) (told : ReplyFacts K D) (left : MemberFacts K L D) : Type 0 where
+  pub record HasReceived (call : CallFacts D) (replied : ReplyFacts K D) (left : MemberFacts K L D) : Type 0 where
     pub state : StateFacts K L D
     pub alive : left.life ≡ Some state
     pub up : highest_received m x ≤ highest_received left state
-    pub low : highest_passed told call ≤ highest_received left state
+    pub low : highest_passed replied call ≤ highest_received left state
 
-  pub call_heard : (call : CallFacts D) (told : ReplyFacts K D) (left : MemberFacts K L D) → m.life ≡ Some x
-      → IsCall same elect m call told left → (left.life ≡ None) ⊎ HasHeard call told left
+  pub call_received : (call : CallFacts D) (replied : ReplyFacts K D) (left : MemberFacts K L D) → m.life ≡ Some x
+      → IsCall same elect m call replied left → (left.life ≡ None) ⊎ HasReceived call replied left
   unfolding IsCall
-  call_heard call told left alive is_call =
-      by_answer (subst (λ life. AnswersAlive same elect life m call told left) alive is_call)
+  call_received call replied left alive is_call =
+      by_answer (subst (λ life. AnswersAlive same elect life m call replied left) alive is_call)
     where
-      still : told ≡ NotAllowed → left ≡ m → HasHeard call told left
+      still : replied ≡ NotAllowed → left ≡ m → HasReceived call replied left
       still tells leaves = record {
         state = x;
         alive = ap (λ (n : MemberFacts K L D). n.life) leaves ∙ alive;
@@ -152,7 +153,7 @@ module _ {K L D : Type 0} (same : D → D → Bool) (elect : Elect L) (m : Membe
         low = rw tells (omega arith);
       }
 
-      faulty : (fault : Fault) → told ≡ Refused fault → left ≡ m → HasHeard call told left
+      faulty : (fault : Fault) → replied ≡ Refused fault → left ≡ m → HasReceived call replied left
       faulty fault tells leaves = record {
         state = x;
         alive = ap (λ (n : MemberFacts K L D). n.life) leaves ∙ alive;
@@ -161,24 +162,25 @@ module _ {K L D : Type 0} (same : D → D → Bool) (elect : Elect L) (m : Membe
       }
 
       by_fault : (o : Option Fault) → fault_of x call ≡ o
-          → told ≡ unless_refused o (answer same elect x m.outstanding_work call)
-          → left ≡ unless_retained o m (next_member call) → HasHeard call told left
+          → replied ≡ unless_refused o (answer same elect x m.outstanding_work call)
+          → left ≡ unless_retained o m (next_member call) → HasReceived call replied left
       by_fault None none tells leaves = record {
         state = next_state call;
         alive = ap (λ (n : MemberFacts K L D). n.life) leaves;
         up = rw leaves (called_up call);
-        low = rw (tells, leaves) (told_below call);
+        low = rw (tells, leaves) (replied_below call);
       }
       by_fault (Some fault) due tells leaves = faulty fault tells leaves
 
       by_allowed : (b : Bool) → is_allowed x m.outstanding_work call ≡ b
-          → told ≡ (if b then unless_refused (fault_of x call) (answer same elect x m.outstanding_work call)
+          → replied ≡ (if b then unless_refused (fault_of x call) (answer same elect x m.outstanding_work call)
           else NotAllowed) → left ≡ (if b then unless_retained (fault_of x call) m (next_member call) else m)
-          → HasHeard call told left
+          → HasReceived call replied left
       by_allowed true allowed tells leaves = by_fault (fault_of x call) refl tells leaves
       by_allowed false other tells leaves = still tells leaves
 
-      by_answer : AnswersAlive same elect (Some x) m call told left → (left.life ≡ None) ⊎ HasHeard call told left
+      by_answer : AnswersAlive same elect (Some x) m call replied left → (left.life ≡ None)
+          ⊎ HasReceived call replied left
       by_answer (inl (tells, leaves)) = inr (by_allowed (is_allowed x m.outstanding_work call) refl tells leaves)
       by_answer (inr (_, tells, inl (_, leaves))) = inr (faulty _ tells leaves)
       by_answer (inr (_, tells, inr (_, _, leaves))) = inl (ap (λ (n : MemberFacts K L D). n.life) leaves)
@@ -186,8 +188,8 @@ module _ {K L D : Type 0} (same : D → D → Bool) (elect : Elect L) (m : Membe
 -- the record is pruned
 
 module _ {K L D : Type 0} (m : MemberFacts K L D) (x : StateFacts K L D) where
-  pub pruned_heard : m.life ≡ Some x → highest_received m x ≤ highest_received (pruned_member m) x
-  pruned_heard alive =
+  pub pruned_received : m.life ≡ Some x → highest_received m x ≤ highest_received (pruned_member m) x
+  pruned_received alive =
       let reaches = greatest_stays m.entries (stays_within m) (finalized_in m.entries - m.retention) (omega arith)
       (λ v gone. (let parts = not_or (tracks m.life v) (nat_le (finalized_in m.entries - m.retention) v) gone in
       leb-false (finalized_in m.entries - m.retention) v parts.1)) in

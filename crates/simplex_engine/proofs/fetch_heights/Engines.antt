@@ -115,22 +115,22 @@ module _ {S L D K G C : Type 0} (same : D → D → Bool) (decides : (d e : D) �
           let top : ℕ = highest_received b.core.member.facts y in
           let low : ℕ = highest_received a.core.member.facts x in
           let up = goes.up in
-          let heard = asks.heard in
+          let received = asks.received in
           let resolver = made_all top (received_in bytes bytes_of provenance.steps) a.plan.repair.resolver
-          b.plan.repair.resolver goes.heard
+          b.plan.repair.resolver goes.received
           (record {
-            heard = omega (arith, up, heard);
+            received = omega (arith, up, received);
             wanted = low_wanted top a.plan.repair.resolver.open_fetches
                 (any_higher (λ v. v) low top up a.plan.repair.resolver.open_fetches asks.wanted);
           })
-          provenance.heard in
+          provenance.received in
           let wanted = wanted_low top b.plan.repair.resolver.open_fetches resolver.wanted in
           let before = hand_low top a (any_higher (λ (fetch : Fetch). fetch.view) low top up
           a.plan.repair.fetches.wanted.items asks.asked) (steps_higher low top up a.plan.steps.items asks.planned)
           in
           let behind = hand_asks top out b wanted
           (goes.low (none_both (lacks_above top) came (pending_causes a) (none_lacks top came no_lack) before)) in
-          record { asked = behind.0; planned = behind.1; wanted = wanted; heard = resolver.heard }
+          record { asked = behind.0; planned = behind.1; wanted = wanted; received = resolver.received }
 
 -- where it begins
 
@@ -166,13 +166,13 @@ module _ {S L D K G C : Type 0} (bytes : D → List ℕ) (keys_of : S → List K
           let top : ℕ = highest_received engine.core.member.facts x in
           let repair = begun.plan.repair in
           let is = begun_up_to bytes top term_length engine.core.member.facts.entries engine.plan.repair.resolver
-          repair.told accepted_low in
+          repair.received accepted_low in
           record {
             asked = subst (λ fetches. list_any (λ (fetch : Fetch). nat_lt top fetch.view) fetches ≡ false)
                 (sym repair.fetched) (wanting_low top engine.plan.repair.resolver.open_fetches [] is.wanted refl);
             planned = rw begun.plan.nothing.0 refl;
             wanted = wanted_low top engine.plan.repair.resolver.open_fetches is.wanted;
-            heard = is.heard;
+            received = is.received;
           }
         where
           accepted_low : (c : CertificateFacts D) → Contains engine.core.member.facts.entries (Accepted c)

@@ -9,7 +9,7 @@ use Rattle.simplex_voter.specs.declared.voter.candidates.CertificateFetch.{Certi
 use Rattle.simplex_voter.specs.declared.voter.verify.Verify.TheVariants as verify
 use Rattle.simplex_resolver.specs.ReceivedFacts.{greatest, is_replayed}
 use Rattle.simplex_resolver.specs.Steps.{Call, update, verdict}
-use Rattle.simplex_member.specs.Calls.{CallFacts, AddNotarization, AddNullification, AddFinalization, ReplyFacts, Added, AddedNullification, Judged, Standing as ToldStanding, Candidates, told}
+use Rattle.simplex_member.specs.Calls.{CallFacts, AddNotarization, AddNullification, AddFinalization, ReplyFacts, Added, AddedNullification, Judged, Standing as RepliedStanding, Candidates, reply_facts}
 use Rattle.simplex_member.specs.declared.member.calls.Reply.{Reply}
 use Rattle.simplex_member.specs.declared.member.calls.Reply.TheVariants as reply
 use Rattle.engine_fetches.specs.declared.fetches.FetchKind.TheVariants.{Notarization as FetchOfNotarization}
@@ -18,12 +18,12 @@ use Rattle.engine_outbox.specs.declared.output.Work.TheVariants as work
 use Rattle.engine_planner.specs.FetchRequests.{above_genesis, views_received, received_by}
 use Rattle.engine_planner.specs.Causes.{WorkItem, MissingCertificate, reply_causes, shown_by, Expiry}
 use Rattle.simplex_engine.proofs.fetch_heights.AtHand.{lacks_above}
-use Rattle.simplex_engine.proofs.fetch_heights.Resolvers.{view_told}
+use Rattle.simplex_engine.proofs.fetch_heights.Resolvers.{view_replied}
 
 -- it receives no view above this one, and no replay ends
 pub record IsLow (top : ℕ) (call : Call) : Type 0 where
   pub lives : is_replayed call ≡ false
-  pub view : view_told call ≤ top
+  pub view : view_replied call ≤ top
 
 -- the view of the certificate that a call passes
 abbrev pub handed_view : {D : Type 0} → CallFacts D → ℕ
@@ -37,7 +37,7 @@ abbrev pub highest_passed : {K D : Type 0} → ReplyFacts K D → CallFacts D �
 highest_passed (Added is_new _) call = if is_new then handed_view call else 0
 highest_passed (AddedNullification is_new) call = if is_new then handed_view call else 0
 highest_passed (Judged _ (Some n)) call = n.proposal.round.view
-highest_passed (ToldStanding (verify.Resolve _ view _ _)) call = view
+highest_passed (RepliedStanding (verify.Resolve _ view _ _)) call = view
 highest_passed (Candidates _ fetches) call = greatest (map (λ (it : CertificateFetch). it.view) fetches)
 highest_passed _ call = 0
 
@@ -45,39 +45,41 @@ not_above : (top view : ℕ) → view ≤ top → nat_lt top view ≡ false
 not_above top view low = grind (arith, nat_tests, low)
 
 module _ (top : ℕ) where
-  told_of : (v : ℕ) (call : Call) → is_replayed call ≡ false → view_told call ≡ v → v ≤ top
+  replied_of : (v : ℕ) (call : Call) → is_replayed call ≡ false → view_replied call ≡ v → v ≤ top
       → AllByRecursion (IsLow top) (above_genesis v call)
-  told_of v call lives is low = by_genesis (v == 0)
+  replied_of v call lives is low = by_genesis (v == 0)
     where
       by_genesis : (b : Bool) → AllByRecursion (IsLow top) (if b then [] else call ∷ [])
       by_genesis true = tt
       by_genesis false = (record { lives = lives; view = omega (arith, is, low) }, tt)
 
-  heard_of_low : {D : Type 0} (bytes : D → List ℕ) (call : CallFacts D) → handed_view call ≤ top
+  received_of_low : {D : Type 0} (bytes : D → List ℕ) (call : CallFacts D) → handed_view call ≤ top
       → AllByRecursion (IsLow top) (views_received bytes call)
-  heard_of_low bytes (AddNotarization c) low = told_of c.proposal.round.view (update bytes (Notarized c)) refl refl low
-  heard_of_low bytes (AddNullification c now) low = told_of c.round.view (update bytes (Nullified c)) refl refl low
-  heard_of_low bytes (AddFinalization c now) low =
-      told_of c.proposal.round.view (update bytes (Finalized c)) refl refl low
-  heard_of_low bytes _ low = tt
+  received_of_low bytes (AddNotarization c) low = replied_of c.proposal.round.view
+      (update bytes (Notarized c)) refl refl low
+  received_of_low bytes (AddNullification c now) low = replied_of c.round.view
+      (update bytes (Nullified c)) refl refl low
+  received_of_low bytes (AddFinalization c now) low =
+      replied_of c.proposal.round.view (update bytes (Finalized c)) refl refl low
+  received_of_low bytes _ low = tt
 
-  heard_where : {D : Type 0} (bytes : D → List ℕ) (call : CallFacts D) (is_new : Bool)
+  received_where : {D : Type 0} (bytes : D → List ℕ) (call : CallFacts D) (is_new : Bool)
       → (if is_new then handed_view call else 0) ≤ top
       → AllByRecursion (IsLow top) (if is_new then views_received bytes call else [])
-  heard_where bytes call true low = heard_of_low bytes call low
-  heard_where bytes call false low = tt
+  received_where bytes call true low = received_of_low bytes call low
+  received_where bytes call false low = tt
 
   -- by the reply
-  pub heard_low : {S D K G C : Type 0} (bytes : D → List ℕ) (bytes_of : C → List ℕ) (answer : Reply S D K G C)
+  pub received_low : {S D K G C : Type 0} (bytes : D → List ℕ) (bytes_of : C → List ℕ) (answer : Reply S D K G C)
       (call : CallFacts D)
-      → highest_passed (told bytes_of answer) call ≤ top
+      → highest_passed (reply_facts bytes_of answer) call ≤ top
       → AllByRecursion (IsLow top) (received_by bytes bytes_of answer call)
-  heard_low bytes bytes_of (reply.Added is_new equivocator) call low = heard_where bytes call is_new low
-  heard_low bytes bytes_of (reply.AddedNullification is_new) call low = heard_where bytes call is_new low
-  heard_low bytes bytes_of (reply.Certified success (Some n)) call low =
-      told_of n.proposal.round.view (verdict bytes (notarization_facts bytes_of n) success) refl refl low
-  heard_low bytes bytes_of (reply.Certified success None) call low = tt
-  heard_low bytes bytes_of _ call low = tt
+  received_low bytes bytes_of (reply.Added is_new equivocator) call low = received_where bytes call is_new low
+  received_low bytes bytes_of (reply.AddedNullification is_new) call low = received_where bytes call is_new low
+  received_low bytes bytes_of (reply.Certified success (Some n)) call low =
+      replied_of n.proposal.round.view (verdict bytes (notarization_facts bytes_of n) success) refl refl low
+  received_low bytes bytes_of (reply.Certified success None) call low = tt
+  received_low bytes bytes_of _ call low = tt
 
   module _ (S D K G C : Type 0) where
     fetches_low : (fetches : List CertificateFetch) → greatest (map (λ (it : CertificateFetch). it.view) fetches) ≤ top
@@ -106,7 +108,7 @@ module _ (top : ℕ) where
     expiry_low false = refl
 
     pub given_low : (bytes_of : C → List ℕ) (now : ℕ) (answer : Reply S D K G C) (call : CallFacts D)
-        → highest_passed (told bytes_of answer) call ≤ top
+        → highest_passed (reply_facts bytes_of answer) call ≤ top
         → list_any (lacks_above top) (reply_causes now answer call) ≡ false
     given_low bytes_of now (reply.Work (verify.Ready context proposal)) call low = refl
     given_low bytes_of now (reply.Work (verify.Resolve proposal view kind leader)) call low =

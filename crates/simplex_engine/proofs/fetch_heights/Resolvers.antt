@@ -24,12 +24,12 @@ use Rattle.simplex_resolver.proofs.CallHistory.{opens_the_wanted}
 use Rattle.simplex_resolver.proofs.Views.{has-filter, has-range, fetches-map, is_outstanding-append}
 
 -- the view that a resolver receives; 0 where the replay ends
-abbrev pub view_told : Call → ℕ
-view_told (Nullification v encoding) = v
-view_told (Notarization v) = v
-view_told (Finalization v encoding) = v
-view_told (Verdict v encoding success) = v
-view_told Replayed = 0
+abbrev pub view_replied : Call → ℕ
+view_replied (Nullification v encoding) = v
+view_replied (Notarization v) = v
+view_replied (Finalization v encoding) = v
+view_replied (Verdict v encoding success) = v
+view_replied Replayed = 0
 
 -- the view of a certificate's own round
 abbrev pub view_of_certificate : {D : Type 0} → CertificateFacts D → ℕ
@@ -39,12 +39,12 @@ view_of_certificate (Finalized c) = c.proposal.round.view
 
 -- a resolver knows of no certificate of a view above this one, and has none open
 pub record IsUpTo (top : ℕ) (r : LawfulResolverFacts) : Type 0 where
-  pub heard : r.state.current ≤ top
+  pub received : r.state.current ≤ top
   pub wanted : (v : ℕ) → has r.open_fetches v ≡ true → v ≤ top
 
 pub up_to_higher : (top next : ℕ) (r : LawfulResolverFacts) → top ≤ next → IsUpTo top r → IsUpTo next r
 up_to_higher top next r higher is = record {
-  heard = omega (arith, is.heard, higher);
+  received = omega (arith, is.received, higher);
   wanted = λ v asked. omega (arith, is.wanted v asked, higher);
 }
 
@@ -81,17 +81,17 @@ current_before_scan x (Verdict v encoding true) =
 current_before_scan x (Verdict v encoding false) = let f = fails x v encoding in omega (arith, f.current)
 current_before_scan x Replayed = omega arith
 
-view_current : (call : Call) → current_view call ≤ view_told call
+view_current : (call : Call) → current_view call ≤ view_replied call
 view_current (Nullification v encoding) = omega arith
 view_current (Notarization v) = omega arith
 view_current (Finalization v encoding) = omega arith
 view_current (Verdict v encoding success) = omega arith
 view_current Replayed = omega arith
 
-current_before : (x : ResolverFacts) (call : Call) → (before_scan x call).current ≤ max x.current (view_told call)
+current_before : (x : ResolverFacts) (call : Call) → (before_scan x call).current ≤ max x.current (view_replied call)
 current_before x call = omega (arith, current_before_scan x call, view_current call)
 
-current_after : (x : ResolverFacts) (call : Call) → (after x call).current ≤ max x.current (view_told call)
+current_after : (x : ResolverFacts) (call : Call) → (after x call).current ≤ max x.current (view_replied call)
 current_after x call = let same = (held x call).current in omega (arith, same, current_before x call)
 
 -- ---- the fetches that a call opens
@@ -144,7 +144,7 @@ opened_behind es fs v none is = let parts = is_outstanding-append es fs v in gri
 -- a call that scans
 scanning_opens : (x : ResolverFacts) (call : Call) (cause v : ℕ)
     → is_outstanding (settle_effects x call ++ scan_fetches (before_scan x call) cause) v ≡ true
-    → v ≤ max x.current (view_told call)
+    → v ≤ max x.current (view_replied call)
 scanning_opens x call cause v is =
     let y = before_scan x call in
     let below = scan_opens y.replaying y cause v
@@ -156,7 +156,7 @@ failing_is true u v is = grind (arith, nat_tests, is)
 failing_is false u v is = absurd (cc)
 
 opened_up_to : (x : ResolverFacts) (call : Call) (v : ℕ) → is_replayed call ≡ false
-    → is_outstanding (effects x call) v ≡ true → v ≤ max x.current (view_told call)
+    → is_outstanding (effects x call) v ≡ true → v ≤ max x.current (view_replied call)
 opened_up_to x (Nullification u encoding) v lasts is = scanning_opens x (Nullification u encoding) u v is
 opened_up_to x (Notarization u) v lasts is = scanning_opens x (Notarization u) u v is
 opened_up_to x (Finalization u encoding) v lasts is = scanning_opens x (Finalization u encoding) u v is
@@ -170,13 +170,15 @@ opened_up_to x Replayed v lasts is = absurd (cc)
 
 -- a call of a view up to this one
 pub made_up_to : (top : ℕ) (call : Call) (r left : LawfulResolverFacts) → is_replayed call ≡ false
-    → view_told call ≤ top → IsUpTo top r → IsMade call r (effects r.state call) left → IsUpTo top left
+    → view_replied call ≤ top → IsUpTo top r → IsMade call r (effects r.state call) left → IsUpTo top left
 made_up_to top call r left lasts low is made = record {
-  heard = let same = ap (λ x. x.current) made.state in omega (arith, same, current_after r.state call, is.heard, low);
+  received = let same = ap (λ x. x.current) made.state in omega
+      (arith, same, current_after r.state call, is.received, low);
   wanted = λ v asked.
       by_either v (has r.open_fetches v) (not (list_any (settles v) (effects r.state call)))
       (is_outstanding (effects r.state call) v) (is.wanted v)
-      (λ opened. omega (arith, opened_up_to r.state call v lasts opened, is.heard, low)) (sym (made.applied v) ∙ asked);
+      (λ opened. omega (arith, opened_up_to r.state call v lasts opened, is.received, low))
+      (sym (made.applied v) ∙ asked);
 }
   where
     by_either : (v : ℕ) (was stays opened : Bool) → (was ≡ true → v ≤ top) → (opened ≡ true → v ≤ top)
@@ -187,12 +189,12 @@ made_up_to top call r left lasts low is made = record {
 
 -- ---- all that a resolver received
 
-current_of_told : (top : ℕ) (calls : List Call) → AllByRecursion (λ call. view_told call ≤ top) calls
+current_of_replied : (top : ℕ) (calls : List Call) → AllByRecursion (λ call. view_replied call ≤ top) calls
     → current_of calls ≤ top
-current_of_told top [] all = omega arith
-current_of_told top (call ∷ calls) all = omega (arith, view_current call, all.0, current_of_told top calls all.1)
+current_of_replied top [] all = omega arith
+current_of_replied top (call ∷ calls) all = omega (arith, view_current call, all.0, current_of_replied top calls all.1)
 
-false_verdict_is : (call : Call) (v : ℕ) → is_false_verdict v call ≡ true → v ≡ view_told call
+false_verdict_is : (call : Call) (v : ℕ) → is_false_verdict v call ≡ true → v ≡ view_replied call
 false_verdict_is (Nullification u encoding) v is = absurd (cc)
 false_verdict_is (Notarization u) v is = absurd (cc)
 false_verdict_is (Finalization u encoding) v is = absurd (cc)
@@ -200,13 +202,13 @@ false_verdict_is (Verdict u encoding true) v is = absurd (cc)
 false_verdict_is (Verdict u encoding false) v is = grind (arith, nat_tests, is)
 false_verdict_is Replayed v is = absurd (cc)
 
-false_verdict_told : (top : ℕ) (calls : List Call) (v : ℕ) → AllByRecursion (λ call. view_told call ≤ top) calls
+false_verdict_replied : (top : ℕ) (calls : List Call) (v : ℕ) → AllByRecursion (λ call. view_replied call ≤ top) calls
     → list_any (is_false_verdict v) calls ≡ true → v ≤ top
-false_verdict_told top [] v all is = absurd (cc)
-false_verdict_told top (call ∷ calls) v all is =
+false_verdict_replied top [] v all is = absurd (cc)
+false_verdict_replied top (call ∷ calls) v all is =
     elim (or_cases (is_false_verdict v call) (list_any (is_false_verdict v) calls) is) [
       | inl here ↦ let at = false_verdict_is call v here in omega (arith, at, all.0)
-      | inr there ↦ false_verdict_told top calls v all.1 there
+      | inr there ↦ false_verdict_replied top calls v all.1 there
     ]
 
 -- a view is wanted below the current one, or after a false verdict
@@ -214,33 +216,33 @@ wanted_is : (bare anchor low failed above wanted : Bool) → wanted ≡ (bare &&
     → wanted ≡ true → (low || failed) ≡ true
 wanted_is bare anchor low failed above wanted is there = grind (arith, is, there)
 
-wanted_told : (top t : ℕ) (calls : List Call) (v : ℕ) → AllByRecursion (λ call. view_told call ≤ top) calls
+wanted_replied : (top t : ℕ) (calls : List Call) (v : ℕ) → AllByRecursion (λ call. view_replied call ≤ top) calls
     → is_needed t calls v ≡ true → v ≤ top
-wanted_told top t calls v all is =
+wanted_replied top t calls v all is =
     elim (or_cases (nat_lt v (current_of calls)) (list_any (is_false_verdict v) calls)
     (wanted_is (not (list_any (is_covering t v) calls)) (is_anchor t (floor_of calls) v) (nat_lt v (current_of calls))
     (list_any (is_false_verdict v) calls) (nat_lt (floor_of calls) v) (is_needed t calls v) refl is)) [
-      | inl below ↦ lower v (current_of calls) below (current_of_told top calls all)
-      | inr failed ↦ false_verdict_told top calls v all failed
+      | inl below ↦ lower v (current_of calls) below (current_of_replied top calls all)
+      | inr failed ↦ false_verdict_replied top calls v all failed
     ]
   where
     lower : (v current : ℕ) → nat_lt v current ≡ true → current ≤ top → v ≤ top
     lower v current below low = grind (arith, nat_tests, below, low)
 
 -- whatever it received about views up to this one, once its replay has ended
-pub told_up_to : (top : ℕ) (t : ℕ) (calls : List Call) (r : LawfulResolverFacts) → HasReceivedCalls t calls r
-    → list_any is_replayed calls ≡ true → AllByRecursion (λ call. view_told call ≤ top) calls → IsUpTo top r
-told_up_to top t calls r told replayed all = record {
-  heard = let same = ap (λ x. x.current) told.state ∙ (stands t calls told.long told.named).current in
-      omega (arith, same, current_of_told top calls all);
-  wanted = λ v asked. wanted_told top t calls v all (sym (opens_the_wanted r t calls told replayed v) ∙ asked);
+pub received_up_to : (top : ℕ) (t : ℕ) (calls : List Call) (r : LawfulResolverFacts) → HasReceivedCalls t calls r
+    → list_any is_replayed calls ≡ true → AllByRecursion (λ call. view_replied call ≤ top) calls → IsUpTo top r
+received_up_to top t calls r received replayed all = record {
+  received = let same = ap (λ x. x.current) received.state ∙ (stands t calls received.long received.named).current in
+      omega (arith, same, current_of_replied top calls all);
+  wanted = λ v asked. wanted_replied top t calls v all (sym (opens_the_wanted r t calls received replayed v) ∙ asked);
 }
 
 -- ---- a record
 
-all_of_both : (top : ℕ) (later earlier : List Call) → AllByRecursion (λ call. view_told call ≤ top) later
-    → AllByRecursion (λ call. view_told call ≤ top) earlier
-    → AllByRecursion (λ call. view_told call ≤ top) (later ++ earlier)
+all_of_both : (top : ℕ) (later earlier : List Call) → AllByRecursion (λ call. view_replied call ≤ top) later
+    → AllByRecursion (λ call. view_replied call ≤ top) earlier
+    → AllByRecursion (λ call. view_replied call ≤ top) (later ++ earlier)
 all_of_both top [] earlier all rest = rest
 all_of_both top (call ∷ later) earlier all rest = (all.0, all_of_both top later earlier all.1 rest)
 
@@ -251,10 +253,10 @@ reversed_contains xs x (k, within, is) =
     (length xs - 1 - k, omega (arith, inside), sym (get_or-reverse xs k x inside) ∙ is)
 
 module _ {D : Type 0} (bytes : D → List ℕ) (top : ℕ) where
-  update_told : (c : CertificateFacts D) → view_of_certificate c ≤ top → view_told (update bytes c) ≤ top
-  update_told (Notarized n) low = low
-  update_told (Nullified n) low = low
-  update_told (Finalized f) low = low
+  update_replied : (c : CertificateFacts D) → view_of_certificate c ≤ top → view_replied (update bytes c) ≤ top
+  update_replied (Notarized n) low = low
+  update_replied (Nullified n) low = low
+  update_replied (Finalized f) low = low
 
   -- the accepted certificates of a record are of views up to this one
   abbrev AreLow : List (ArtifactFacts D) → Type 0
@@ -264,56 +266,56 @@ module _ {D : Type 0} (bytes : D → List ℕ) (top : ℕ) where
   rest_low e before low c among = low c (Contains-append_right (e ∷ []) before (Accepted c) among)
 
   -- a verdict is of the view of an accepted notarization
-  verdict_told : (v : ℕ) (success : Bool) (before : List (ArtifactFacts D)) → AreLow before
-      → AllByRecursion (λ call. view_told call ≤ top) (verdict_on bytes (newest_notarization v before) success)
-  verdict_told v success [] low = tt
-  verdict_told v success (Accepted (Notarized n) ∷ before) low =
+  verdict_replied : (v : ℕ) (success : Bool) (before : List (ArtifactFacts D)) → AreLow before
+      → AllByRecursion (λ call. view_replied call ≤ top) (verdict_on bytes (newest_notarization v before) success)
+  verdict_replied v success [] low = tt
+  verdict_replied v success (Accepted (Notarized n) ∷ before) low =
       by_test (n.proposal.round.view == v) (low (Notarized n) (0, omega arith, refl))
-      (verdict_told v success before (rest_low (Accepted (Notarized n)) before low))
+      (verdict_replied v success before (rest_low (Accepted (Notarized n)) before low))
     where
       by_test : (b : Bool) → n.proposal.round.view ≤ top
-          → AllByRecursion (λ call. view_told call ≤ top) (verdict_on bytes (newest_notarization v before) success)
-          → AllByRecursion (λ call. view_told call ≤ top)
+          → AllByRecursion (λ call. view_replied call ≤ top) (verdict_on bytes (newest_notarization v before) success)
+          → AllByRecursion (λ call. view_replied call ≤ top)
           (verdict_on bytes (option_or (cond b (Some n) None) (newest_notarization v before)) success)
       by_test true here there = (here, tt)
       by_test false here there = there
-  verdict_told v success (Accepted (Nullified n) ∷ before) low =
-      verdict_told v success before (rest_low (Accepted (Nullified n)) before low)
-  verdict_told v success (Accepted (Finalized f) ∷ before) low =
-      verdict_told v success before (rest_low (Accepted (Finalized f)) before low)
-  verdict_told v success (NotarizeVote p i ∷ before) low =
-      verdict_told v success before (rest_low (NotarizeVote p i) before low)
-  verdict_told v success (NullifyVote round i ∷ before) low =
-      verdict_told v success before (rest_low (NullifyVote round i) before low)
-  verdict_told v success (FinalizeVote p i ∷ before) low =
-      verdict_told v success before (rest_low (FinalizeVote p i) before low)
-  verdict_told v success (VerdictOf round b ∷ before) low =
-      verdict_told v success before (rest_low (VerdictOf round b) before low)
+  verdict_replied v success (Accepted (Nullified n) ∷ before) low =
+      verdict_replied v success before (rest_low (Accepted (Nullified n)) before low)
+  verdict_replied v success (Accepted (Finalized f) ∷ before) low =
+      verdict_replied v success before (rest_low (Accepted (Finalized f)) before low)
+  verdict_replied v success (NotarizeVote p i ∷ before) low =
+      verdict_replied v success before (rest_low (NotarizeVote p i) before low)
+  verdict_replied v success (NullifyVote round i ∷ before) low =
+      verdict_replied v success before (rest_low (NullifyVote round i) before low)
+  verdict_replied v success (FinalizeVote p i ∷ before) low =
+      verdict_replied v success before (rest_low (FinalizeVote p i) before low)
+  verdict_replied v success (VerdictOf round b ∷ before) low =
+      verdict_replied v success before (rest_low (VerdictOf round b) before low)
 
-  entry_told : (e : ArtifactFacts D) (before : List (ArtifactFacts D)) → AreLow (e ∷ before)
-      → AllByRecursion (λ call. view_told call ≤ top) (entry_calls bytes before e)
-  entry_told (Accepted c) before low = (update_told c (low c (0, omega arith, refl)), tt)
-  entry_told (VerdictOf round success) before low =
-      verdict_told round.view success before (rest_low (VerdictOf round success) before low)
-  entry_told (NotarizeVote p i) before low = tt
-  entry_told (NullifyVote round i) before low = tt
-  entry_told (FinalizeVote p i) before low = tt
+  entry_replied : (e : ArtifactFacts D) (before : List (ArtifactFacts D)) → AreLow (e ∷ before)
+      → AllByRecursion (λ call. view_replied call ≤ top) (entry_calls bytes before e)
+  entry_replied (Accepted c) before low = (update_replied c (low c (0, omega arith, refl)), tt)
+  entry_replied (VerdictOf round success) before low =
+      verdict_replied round.view success before (rest_low (VerdictOf round success) before low)
+  entry_replied (NotarizeVote p i) before low = tt
+  entry_replied (NullifyVote round i) before low = tt
+  entry_replied (FinalizeVote p i) before low = tt
 
-  pub record_told : (entries : List (ArtifactFacts D))
+  pub record_replied : (entries : List (ArtifactFacts D))
       → ((c : CertificateFacts D) → Contains entries (Accepted c) → view_of_certificate c ≤ top)
-      → AllByRecursion (λ call. view_told call ≤ top) (calls_of bytes entries)
-  record_told [] low = tt
-  record_told (e ∷ before) low = all_of_both top (entry_calls bytes before e) (calls_of bytes before)
-      (entry_told e before low) (record_told before (rest_low e before low))
+      → AllByRecursion (λ call. view_replied call ≤ top) (calls_of bytes entries)
+  record_replied [] low = tt
+  record_replied (e ∷ before) low = all_of_both top (entry_calls bytes before e) (calls_of bytes before)
+      (entry_replied e before low) (record_replied before (rest_low e before low))
 
 -- a resolver that has replayed a record
 pub begun_up_to : {D : Type 0} (bytes : D → List ℕ) (top t : ℕ) (entries : List (ArtifactFacts D))
     (r : LawfulResolverFacts)
     → HasReceivedCalls t (Replayed ∷ calls_of bytes (reverse entries)) r
     → ((c : CertificateFacts D) → Contains entries (Accepted c) → view_of_certificate c ≤ top) → IsUpTo top r
-begun_up_to bytes top t entries r told low =
-    told_up_to top t (Replayed ∷ calls_of bytes (reverse entries)) r told refl (
+begun_up_to bytes top t entries r received low =
+    received_up_to top t (Replayed ∷ calls_of bytes (reverse entries)) r received refl (
       omega arith,
-      record_told bytes top (reverse entries)
+      record_replied bytes top (reverse entries)
           (λ c among. low c (reversed_contains entries (Accepted c) among)),
     )

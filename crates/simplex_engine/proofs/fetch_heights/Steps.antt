@@ -6,7 +6,7 @@ use Rattle.std.specs.List.{list_any, AllByRecursion}
 use Rattle.std.proofs.lemmas.Bool.{cases_Bool, false≢true}
 use Rattle.simplex_types.specs.Certificates.{ProposalFacts}
 use Rattle.simplex_voter.specs.Facts.{StateFacts, Elect}
-use Rattle.simplex_member.specs.Calls.{CallFacts, told}
+use Rattle.simplex_member.specs.Calls.{CallFacts, reply_facts}
 use Rattle.simplex_member.specs.MemberFacts.{MemberFacts, IsCall, AnswersAlive}
 use Rattle.simplex_member.specs.PrunedRecord.{pruned_member}
 use Rattle.simplex_member.specs.Runs.{StepFacts, Calls, Prunes, Restarts}
@@ -30,8 +30,8 @@ use Rattle.engine_planner.specs.PlannedWork.{AreAmong}
 use Rattle.simplex_engine.specs.Provenance.{step_causes, received_in, IsCausedBy}
 use Rattle.simplex_engine.specs.FetchHeights.{highest_received}
 use Rattle.simplex_engine.proofs.fetch_heights.AtHand.{lacks_above, none_both}
-use Rattle.simplex_engine.proofs.fetch_heights.Calls.{IsKnown, call_heard, pruned_heard}
-use Rattle.simplex_engine.proofs.fetch_heights.Replies.{IsLow, given_low, heard_low}
+use Rattle.simplex_engine.proofs.fetch_heights.Calls.{IsKnown, call_received, pruned_received}
+use Rattle.simplex_engine.proofs.fetch_heights.Replies.{IsLow, given_low, received_low}
 
 -- what a run leads to is known of a living member
 
@@ -51,10 +51,10 @@ module _ {K L D : Type 0} (same : D → D → Bool) (decides : (d e : D) → sam
       ran = done.execution
 
       begins : HasTerms term_length ran.start.setup
-      begins = done.told.lives.first.terms
+      begins = done.executed.lives.first.terms
 
       keep : KeepTerms term_length ran.steps
-      keep = keep_terms term_length i ran.steps done.told.lives.later
+      keep = keep_terms term_length i ran.steps done.executed.lives.later
 
       sound : IsSound term_length x
       sound =
@@ -62,13 +62,13 @@ module _ {K L D : Type 0} (same : D → D → Bool) (decides : (d e : D) → sam
           (run_induction same elect term_length (IsSound term_length)
           (λ y floor now new. floor_sound same elect term_length y floor now new)
           (λ y e s. event_sound same elect term_length y e s)
-          ran.start ran.steps ran.replies m begins keep done.told.run)
+          ran.start ran.steps ran.replies m begins keep done.executed.run)
 
       waits : IsWaiting x
       waits =
           subst (HoldsIn IsWaiting) alive
           (run_induction same elect term_length IsWaiting (floor_waits same elect term_length) (event_waits same elect)
-          ran.start ran.steps ran.replies m begins keep done.told.run)
+          ran.start ran.steps ran.replies m begins keep done.executed.run)
 
       trace : List (TraceEvent D)
       trace = of_floor ran.start.floor ++ trace_of_steps ran.steps ran.replies
@@ -78,7 +78,7 @@ module _ {K L D : Type 0} (same : D → D → Bool) (decides : (d e : D) → sam
           (subst (TellsOn trace m.entries) alive
           (run_own same decides itself elect term_length begins.some ran.steps ran.replies (of_floor ran.start.floor)
           (new_member same elect ran.start) m keep
-          (start_own same decides itself elect term_length ran.start begins) done.told.run).tells).shows
+          (start_own same decides itself elect term_length ran.start begins) done.executed.run).tells).shows
 
 none_among : {A : Type 0} (test : A → Bool) (these those : List A) → AreAmong these those → list_any test those ≡ false
     → list_any test these ≡ false
@@ -100,12 +100,12 @@ module _ {S L D K G C : Type 0} (same : D → D → Bool) (elect : Elect L) (byt
     (now : ℕ) (asks_now over : FetchKind → ℕ → Bool) where
   -- a member that has failed stays so
   dead_call : (m : MemberFacts K L D) (call : CallFacts D) (answer : Reply S D K G C) (next : MemberFacts K L D)
-      → m.life ≡ None → IsCall same elect m call (told bytes_of answer) next → next.life ≡ None
+      → m.life ≡ None → IsCall same elect m call (reply_facts bytes_of answer) next → next.life ≡ None
   unfolding IsCall
   dead_call m call answer next dead is_call =
-      by_answer (subst (λ life. AnswersAlive same elect life m call (told bytes_of answer) next) dead is_call)
+      by_answer (subst (λ life. AnswersAlive same elect life m call (reply_facts bytes_of answer) next) dead is_call)
     where
-      by_answer : AnswersAlive same elect None m call (told bytes_of answer) next → next.life ≡ None
+      by_answer : AnswersAlive same elect None m call (reply_facts bytes_of answer) next → next.life ≡ None
       by_answer (tells, leaves) = ap (λ (n : MemberFacts K L D). n.life) leaves ∙ dead
 
   abbrev nothing : List (Cause S D K G C)
@@ -130,7 +130,7 @@ module _ {S L D K G C : Type 0} (same : D → D → Bool) (elect : Elect L) (byt
       (steps : List (StepFacts K L D × Reply S D K G C))
       (causes left : List (Cause S D K G C)) : Type 0 where
     pub up : highest_received m x ≤ highest_received end y
-    pub heard : AllByRecursion (IsLow (highest_received end y)) (received_in bytes bytes_of steps)
+    pub received : AllByRecursion (IsLow (highest_received end y)) (received_in bytes bytes_of steps)
     pub low : list_any (lacks_above (highest_received end y)) causes ≡ false
         → list_any (lacks_above (highest_received end y)) left ≡ false
 
@@ -146,30 +146,31 @@ module _ {S L D K G C : Type 0} (same : D → D → Bool) (elect : Elect L) (byt
         record {
           up = subst (λ (n : MemberFacts K L D). highest_received m x ≤ highest_received n y) (sym is)
               (subst (λ z. highest_received m x ≤ highest_received m z) one (omega arith));
-          heard = tt;
+          received = tt;
           low = λ none. none_among (lacks_above (highest_received end y)) left causes among none;
         }
     climbs ((Calls call, answer) ∷ rest) causes left asked m end all done x y alive lives
         (meant, next, is_step, provenance) =
-        elim (call_heard same elect m x (done_known same decides itself elect term_length i all m done x alive) call
-        (told bytes_of answer) next alive is_step) [
+        elim (call_received same elect m x (done_known same decides itself elect term_length i all m done x alive) call
+        (reply_facts bytes_of answer) next alive is_step) [
           | inl dead ↦ absurd (some_none y (sym (dead_stays rest (causes ++ given) left
               (with_missing_certificate asked given) next end dead provenance) ∙ lives))
-          | inr heard ↦
+          | inr received ↦
               (let later = climbs rest (causes ++ given) left (with_missing_certificate asked given) next end
-              (all ++ trace_at {L = L} (Calls call) (told bytes_of answer))
-              (call_done same elect term_length i m next call (told bytes_of answer) all
-              (trace_at {L = L} (Calls call) (told bytes_of answer)) is_step refl done) heard.state y heard.alive
+              (all ++ trace_at {L = L} (Calls call) (reply_facts bytes_of answer))
+              (call_done same elect term_length i m next call (reply_facts bytes_of answer) all
+              (trace_at {L = L} (Calls call) (reply_facts bytes_of answer)) is_step refl done) received.state y
+              received.alive
               lives provenance in
               let up = later.up in
-              let low = heard.low in
-              let first = heard.up in
+              let low = received.low in
+              let first = received.up in
               record {
                 up = omega (arith, first, up);
-                heard = all_both (IsLow (highest_received end y)) (received_by bytes bytes_of answer call)
+                received = all_both (IsLow (highest_received end y)) (received_by bytes bytes_of answer call)
                     (received_in bytes bytes_of rest)
-                    (heard_low (highest_received end y) bytes bytes_of answer call (omega (arith, low, up)))
-                    later.heard;
+                    (received_low (highest_received end y) bytes bytes_of answer call (omega (arith, low, up)))
+                    later.received;
                 low = λ none. later.low (none_both (lacks_above (highest_received end y)) causes given none
                     (given_low (highest_received end y) S D K G C bytes_of now answer call (omega (arith, low, up))));
               })
@@ -183,11 +184,11 @@ module _ {S L D K G C : Type 0} (same : D → D → Bool) (elect : Elect L) (byt
         (all ++ []) (prune_done same elect term_length i m all done) x y alive lives
         (subst (λ (n : MemberFacts K L D). IsCausedBy same elect bytes_of now asks_now over rest (causes ++ nothing)
         (with_missing_certificate asked nothing) n left end) is_step.1 provenance) in
-        let first = pruned_heard m x alive in
+        let first = pruned_received m x alive in
         let up = later.up in
         record {
           up = omega (arith, first, up);
-          heard = later.heard;
+          received = later.received;
           low = λ none. later.low (none_both (lacks_above (highest_received end y)) causes nothing none refl);
         }
     climbs ((Restarts restart, answer) ∷ rest) causes left asked m end all done x y alive lives

@@ -97,7 +97,7 @@ impl<S: Assembly<D>, L: Elector<S>, D: Digest> Engine<S, L, D> {
     /// - `begins`: the member has accepted the floor's finalization, if there is one, and done nothing else.
     /// - `traced`: the empty list of outputs is traced by what the member did before (`IsTraced`).
     /// - `signed`: the stored votes are signed under the member's key, if those of its record are (`IsSignedBy`).
-    /// - `kept`, `whole`, `queued`, `told`, `bounded`, `due_work`: no output was returned. Only the whole record is
+    /// - `kept`, `whole`, `queued`, `reported`, `bounded`, `due_work`: no output was returned. Only the whole record is
     ///   queued, in place of all that is stored. Nothing is to be reported as final, and the member waits for nothing.
     /// - `begun`: no vote is stored; certificates are made by the number of the scheme's participants. The resolver has
     ///   received the record, and its outstanding fetches are due at once, from all participants but this member. No
@@ -125,7 +125,7 @@ impl<S: Assembly<D>, L: Elector<S>, D: Digest> Engine<S, L, D> {
         ensures whole { IfOk result (λ engine. IsWhole S.certificate_bytes engine.core) }
         ensures queued { IfOk result
             (λ engine. BeginsWith S.certificate_bytes engine.core.member engine.core.outbox.queue.items) }
-        ensures told { IfOk result (λ engine. ReportsNothing engine.core) }
+        ensures reported { IfOk result (λ engine. ReportsNothing engine.core) }
         ensures due_work { IfOk result (HasReportedAll []) }
         ensures bounded { IfOk result (λ engine. HoldsNoneAhead S.participants engine.core engine.batcher) }
         ensures begun { IfOk result
@@ -162,7 +162,7 @@ impl<S: Assembly<D>, L: Elector<S>, D: Digest> Engine<S, L, D> {
     /// - `resumed`, `votes`: its member is the one that `LawfulMember::resume` makes, with the votes of the entries.
     /// - `continues`: with terms of the same length, and with the key of the same member or none, the member has done
     ///   what it had done before, and has accepted the floor's finalization.
-    /// - `kept`, `traced`, `signed`, `whole`, `queued`, `told`, `bounded`, `due_work`, `begun`, `nothing`,
+    /// - `kept`, `traced`, `signed`, `whole`, `queued`, `reported`, `bounded`, `due_work`, `begun`, `nothing`,
     ///   `fetch_heights`, `no_retry`, `refused`: as of `start`.
     ///
     /// # Errors
@@ -184,7 +184,7 @@ impl<S: Assembly<D>, L: Elector<S>, D: Digest> Engine<S, L, D> {
         ensures whole { IfOk result (λ engine. IsWhole S.certificate_bytes engine.core) }
         ensures queued { IfOk result
             (λ engine. BeginsWith S.certificate_bytes engine.core.member engine.core.outbox.queue.items) }
-        ensures told { IfOk result (λ engine. ReportsNothing engine.core) }
+        ensures reported { IfOk result (λ engine. ReportsNothing engine.core) }
         ensures due_work { IfOk result (HasReportedAll []) }
         ensures bounded { IfOk result (λ engine. HoldsNoneAhead S.participants engine.core engine.batcher) }
         ensures begun { IfOk result
@@ -258,7 +258,7 @@ fn begin<S: Assembly<D>, L: Elector<S>, D: Digest>(
         (λ engine. BeginsTraced D.eq L.elect S.certificate_bytes engine.core.member engine.core) }
     ensures signed { IfOk result (λ engine. BeginsSigned S.IsSignature engine.core.member engine.core) }
     ensures whole { IfOk result (λ engine. IsWhole S.certificate_bytes engine.core) }
-    ensures told { IfOk result (λ engine. ReportsNothing engine.core) }
+    ensures reported { IfOk result (λ engine. ReportsNothing engine.core) }
     ensures member { IfOk result (λ engine. engine.core.member ≡ member) }
     ensures queued { IfOk result
         (λ engine. BeginsWith S.certificate_bytes engine.core.member engine.core.outbox.queue.items) }
@@ -302,7 +302,7 @@ fn resolver_of<S: CertificateScheme, D: Digest>(
     term_length: TermLength,
     entries: &[Artifact<S, D>],
 ) -> Result<LawfulResolver, StartError>
-    ensures told { IfOk result
+    ensures received { IfOk result
         (HasReceivedCalls term_length
         (Replayed ∷ calls_of D.bytes (reverse (entries_of S.certificate_bytes entries.now)))) }
     ensures refused { IfErr result (IsNotReplayed (entries_of S.certificate_bytes entries.now)) }

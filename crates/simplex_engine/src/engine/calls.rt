@@ -2,7 +2,7 @@
 #![tactic(auto)]
 
 ghost use Rattle.std.specs.Prelude.{◌≡◌, ℕ, [], ◌∷◌, ◌++◌, None, IfOk, OnOk, IsNone, IsTrue, not};
-ghost use Rattle.simplex_member.specs.Calls.{told};
+ghost use Rattle.simplex_member.specs.Calls.{reply_facts};
 ghost use Rattle.engine_planner.specs.Tasks.{call_of};
 ghost use Rattle.simplex_engine.specs.NothingDue.{is_nothing};
 ghost use Rattle.simplex_engine.specs.Timeouts.{is_later};
@@ -134,11 +134,12 @@ impl<S: Assembly<D>, L: Elector<S>, D: Digest> Engine<S, L, D> {
     fn follow(&mut self, task: Task<D>, reply: Reply<S, D>, now: u64) -> Result<bool, Fault>
         ensures core { self.new.core ≡ self.old.core }
         ensures batcher { self.new.batcher ≡ self.old.batcher }
-        ensures of_use { IfOk result (λ is_of_use. is_of_use ≡ not (says_nothing (told S.certificate_bytes reply))) }
+        ensures of_use { IfOk result
+            (λ is_of_use. is_of_use ≡ not (says_nothing (reply_facts S.certificate_bytes reply))) }
         ensures followed { OnOk result
             (IsReplyFollowed D.bytes S.certificate_bytes now task reply self.old.plan self.new.plan) }
         ensures planned { OnOk result
-            (PlansAnswerThen task (told S.certificate_bytes reply) self.old.plan self.new.plan) }
+            (PlansAnswerThen task (reply_facts S.certificate_bytes reply) self.old.plan self.new.plan) }
         ensures seen { OnOk result (TracksViews self.new.core.member.facts self.new.plan) }
         ensures causes { OnOk result (AreAmong (planned_causes self.new.plan)
             (planned_causes self.old.plan ++ reply_causes now reply (call_of task now))) }
@@ -209,7 +210,7 @@ impl<S: Assembly<D>, L: Elector<S>, D: Digest> Engine<S, L, D> {
 /// Returns whether a reply has no work. One that names a missing certificate has some, even if that is fetched already:
 /// the member names it once, and then continues with the next view.
 fn is_nothing<S: CertificateScheme, D: Digest>(reply: &Reply<S, D>) -> bool
-    ensures { result ≡ is_nothing (told S.certificate_bytes reply.now) }
+    ensures { result ≡ is_nothing (reply_facts S.certificate_bytes reply.now) }
 {
     match reply {
         Reply::Work(verify) => match verify {
@@ -224,7 +225,7 @@ fn is_nothing<S: CertificateScheme, D: Digest>(reply: &Reply<S, D>) -> bool
 
 /// Returns whether a reply names no timeout up to a moment.
 fn is_later<S: CertificateScheme, D: Digest>(reply: &Reply<S, D>, now: u64) -> bool
-    ensures { result ≡ is_later now (told S.certificate_bytes reply.now) }
+    ensures { result ≡ is_later now (reply_facts S.certificate_bytes reply.now) }
 {
     match reply {
         Reply::Timeout(moment, _) => now < *moment,
@@ -234,7 +235,7 @@ fn is_later<S: CertificateScheme, D: Digest>(reply: &Reply<S, D>, now: u64) -> b
 
 /// Returns whether a reply says that nothing was done.
 fn says_nothing<S: CertificateScheme, D: Digest>(reply: &Reply<S, D>) -> bool
-    ensures { result ≡ says_nothing (told S.certificate_bytes reply.now) }
+    ensures { result ≡ says_nothing (reply_facts S.certificate_bytes reply.now) }
 {
     match reply {
         Reply::Triggered(is_latched) => !*is_latched,

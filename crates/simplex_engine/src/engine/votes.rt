@@ -4,7 +4,7 @@
 ghost use Rattle.std.specs.Prelude.{◌≡◌, [], ◌∷◌, ◌++◌, None, Some, IfOk, OnOk, IsTrue, not, false, ◌==◌, Ok, IsFalse};
 ghost use Rattle.simplex_types.specs.Certificates.{certificate_facts};
 ghost use Rattle.simplex_types.specs.Encoding.{certificate_subject};
-ghost use Rattle.simplex_member.specs.Calls.{told};
+ghost use Rattle.simplex_member.specs.Calls.{reply_facts};
 ghost use Rattle.engine_outbox.specs.Refusals.{is_refused};
 ghost use Rattle.simplex_engine.specs.Admission.{admits, admits_votes};
 
@@ -153,7 +153,8 @@ impl<S: Assembly<D>, L: Elector<S>, D: Digest> Engine<S, L, D> {
         ensures core { self.new.core ≡ self.old.core }
         ensures votes { TakesNone self.old.batcher self.new.batcher }
         ensures batcher { self.new.batcher ≡ self.old.batcher }
-        ensures of_use { IfOk result (λ is_of_use. is_of_use ≡ not (is_refused (told S.certificate_bytes reply.now))) }
+        ensures of_use { IfOk result
+            (λ is_of_use. is_of_use ≡ not (is_refused (reply_facts S.certificate_bytes reply.now))) }
         ensures planned { OnOk result (KeepsPlannedThen self.old.plan self.new.plan) }
         ensures seen { OnOk result (TracksViews self.new.core.member.facts self.new.plan) }
         ensures causes { OnOk result (AreAmong (planned_causes self.new.plan)
@@ -188,7 +189,7 @@ pub(super) fn takes_votes<S: Scheme<D>, L: Elector<S>, D: Digest>(
 
 /// Returns whether a call is refused, and not because of memory.
 fn is_refused<S: CertificateScheme, D: Digest>(reply: &Reply<S, D>) -> bool
-    ensures { result ≡ is_refused (told S.certificate_bytes reply.now) }
+    ensures { result ≡ is_refused (reply_facts S.certificate_bytes reply.now) }
 {
     match reply {
         Reply::Fault(fault) => is_lasting(fault),

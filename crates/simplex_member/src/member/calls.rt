@@ -1,8 +1,8 @@
 //! The calls of a member, and their replies.
 
 ghost use Rattle.std.specs.Prelude.{◌≡◌};
-ghost use Rattle.simplex_member.specs.Calls.{told};
-ghost use Rattle.simplex_member.specs.MethodContracts.{told_refused};
+ghost use Rattle.simplex_member.specs.Calls.{reply_facts};
+ghost use Rattle.simplex_member.specs.MethodContracts.{refusal_facts};
 
 mod certificates;
 mod certifications;
@@ -111,7 +111,7 @@ pub enum Reply<S: CertificateScheme, D> {
 impl<S: CertificateScheme, D: Digest> Reply<S, D> {
     /// The reply to a refused call.
     pub(super) fn refused(refusal: Refusal) -> Self
-        ensures { told S.certificate_bytes result ≡ told_refused refusal }
+        ensures { reply_facts S.certificate_bytes result ≡ refusal_facts refusal }
     {
         match refusal {
             Refusal::Fault(fault) => Reply::Fault(fault),

@@ -13,7 +13,7 @@ use std::alloc::Global;
 use std::marker::Model;
 
 /// The reply to a call, from the result of its method.
-macro_rules! told {
+macro_rules! replied {
     ($result:expr, $answer:pat => $reply:expr) => {
         match $result {
             Ok($answer) => $reply,
@@ -74,7 +74,7 @@ impl<S: CertificateScheme, L: Elector<S>, D: Digest> Member<S, L, D> {
     ghost use Rattle.simplex_voter.specs.Refusals.{is_started};
     ghost use Rattle.simplex_record.specs.Entries.{entries_of};
     ghost use Rattle.simplex_record.specs.Votes.{votes_of};
-    ghost use Rattle.simplex_member.specs.Calls.{told, asked};
+    ghost use Rattle.simplex_member.specs.Calls.{reply_facts, asked};
     ghost use Rattle.simplex_member.specs.MemberFacts.{IsCall, HasGrown};
     ghost use Rattle.simplex_member.specs.OutstandingWork.{is_offered};
     ghost use Rattle.simplex_member.specs.ReplySignatures.{IsSignedReply, signed_reply};
@@ -170,12 +170,14 @@ impl<S: CertificateScheme, L: Elector<S>, D: Digest> Member<S, L, D> {
     where
         S: Scheme<D>,
         ensures made { IsCall D.eq L.elect self.old.facts (asked S.certificate_bytes call)
-            (told S.certificate_bytes result) self.new.facts }
-        ensures of_its_kind { is_reply_to (told S.certificate_bytes result) (asked S.certificate_bytes call) ≡ true }
-        ensures answered { IfAnswered (told S.certificate_bytes result)
-            (IsAnswered D.eq L.elect self.old.facts (asked S.certificate_bytes call) (told S.certificate_bytes result)
+            (reply_facts S.certificate_bytes result) self.new.facts }
+        ensures of_its_kind { is_reply_to (reply_facts S.certificate_bytes result)
+            (asked S.certificate_bytes call) ≡ true }
+        ensures answered { IfAnswered (reply_facts S.certificate_bytes result)
+            (IsAnswered D.eq L.elect self.old.facts (asked S.certificate_bytes call)
+            (reply_facts S.certificate_bytes result)
             self.new.facts) }
-        ensures kept { IfRefused (told S.certificate_bytes result)
+        ensures kept { IfRefused (reply_facts S.certificate_bytes result)
             (λ refusal. UnchangedButLifetime self.old.facts refusal self.new.facts) }
         ensures grown { HasGrown self.old.facts self.new.facts }
         ensures signed { IfSome self.old.facts.life (IsSignedReply S.IsSignature result) }
@@ -189,57 +191,58 @@ impl<S: CertificateScheme, L: Elector<S>, D: Digest> Member<S, L, D> {
     where
         S: Scheme<D>,
         ensures made { IsCall D.eq L.elect self.old.facts (asked S.certificate_bytes call)
-            (told S.certificate_bytes result) self.new.facts }
+            (reply_facts S.certificate_bytes result) self.new.facts }
         ensures signed { IfSome self.old.facts.life (IsSignedReply S.IsSignature result) }
         ensures votes { self.new.votes ≡ self.old.votes ++ signed_reply result }
     {
         match call {
             Call::AddNotarization(notarization) =>
-                told!(self.add_notarization(notarization), added => Reply::Added(added.0, added.1)),
+                replied!(self.add_notarization(notarization), added => Reply::Added(added.0, added.1)),
             Call::AddNullification(nullification, now) =>
-                told!(self.add_nullification(nullification, now), is_new => Reply::AddedNullification(is_new)),
+                replied!(self.add_nullification(nullification, now), is_new => Reply::AddedNullification(is_new)),
             Call::AddFinalization(finalization, now) =>
-                told!(self.add_finalization(finalization, now), added => Reply::Added(added.0, added.1)),
+                replied!(self.add_finalization(finalization, now), added => Reply::Added(added.0, added.1)),
             Call::SetProposal(view, proposal) =>
-                told!(self.set_proposal(view, proposal), is_new => Reply::Flag(is_new)),
-            Call::TryPropose => told!(self.try_propose(), request => Reply::Request(request)),
+                replied!(self.set_proposal(view, proposal), is_new => Reply::Flag(is_new)),
+            Call::TryPropose => replied!(self.try_propose(), request => Reply::Request(request)),
             Call::Proposed(view, payload, now) =>
-                told!(self.proposed(view, payload, now), is_held => Reply::Flag(is_held)),
+                replied!(self.proposed(view, payload, now), is_held => Reply::Flag(is_held)),
             Call::SupersedeProposalRequest(view) =>
-                told!(self.supersede_proposal_request(view), is_superseded => Reply::Flag(is_superseded)),
+                replied!(self.supersede_proposal_request(view), is_superseded => Reply::Flag(is_superseded)),
             Call::PendingHandoffAbandonment(view) =>
-                told!(self.pending_handoff_abandonment(view), reason => Reply::Abandoned(reason)),
+                replied!(self.pending_handoff_abandonment(view), reason => Reply::Abandoned(reason)),
             Call::ReleaseProposalRequest(view) =>
-                told!(self.release_proposal_request(view), was_open => Reply::Released(was_open)),
-            Call::TryVerify => told!(self.try_verify(), verify => Reply::Work(verify)),
-            Call::Verified(view) => told!(self.verified(view), is_marked => Reply::Flag(is_marked)),
+                replied!(self.release_proposal_request(view), was_open => Reply::Released(was_open)),
+            Call::TryVerify => replied!(self.try_verify(), verify => Reply::Work(verify)),
+            Call::Verified(view) =>
+                replied!(self.verified(view), is_marked => Reply::Flag(is_marked)),
             Call::VerificationFailed(view, reason, now) =>
-                told!(self.verification_failed(view, reason, now), () => Reply::Unit),
+                replied!(self.verification_failed(view, reason, now), () => Reply::Unit),
             Call::ConstructNotarize(view) =>
-                told!(self.construct_notarize(view), vote => Reply::Notarize(vote)),
+                replied!(self.construct_notarize(view), vote => Reply::Notarize(vote)),
             Call::CertifyCandidates =>
-                told!(self.certify_candidates(), candidates => Reply::Candidates(candidates.0, candidates.1)),
+                replied!(self.certify_candidates(), candidates => Reply::Candidates(candidates.0, candidates.1)),
             Call::SetCertifyHandle(view, token) =>
-                told!(self.set_certify_handle(view, token), () => Reply::Unit),
+                replied!(self.set_certify_handle(view, token), () => Reply::Unit),
             Call::Certified(view, success, now) =>
-                told!(self.certified(view, success, now), notarization => Reply::Certified(success, notarization)),
+                replied!(self.certified(view, success, now), notarization => Reply::Certified(success, notarization)),
             Call::ConstructNullify(view, reason) =>
-                told!(self.construct_nullify(view, reason), vote => Reply::Nullify(vote)),
+                replied!(self.construct_nullify(view, reason), vote => Reply::Nullify(vote)),
             Call::ConstructFinalize(view) =>
-                told!(self.construct_finalize(view), vote => Reply::Finalize(vote)),
+                replied!(self.construct_finalize(view), vote => Reply::Finalize(vote)),
             Call::BroadcastNotarization(view) =>
-                told!(self.broadcast_notarization(view), certificate => Reply::Certificate(certificate)),
+                replied!(self.broadcast_notarization(view), certificate => Reply::Certificate(certificate)),
             Call::BroadcastNullification(view) =>
-                told!(self.broadcast_nullification(view), certificate => Reply::Certificate(certificate)),
+                replied!(self.broadcast_nullification(view), certificate => Reply::Certificate(certificate)),
             Call::BroadcastFinalization(view) =>
-                told!(self.broadcast_finalization(view), certificate => Reply::Certificate(certificate)),
+                replied!(self.broadcast_finalization(view), certificate => Reply::Certificate(certificate)),
             Call::GetBestCertificate =>
-                told!(self.get_best_certificate(), certificate => Reply::Certificate(certificate)),
+                replied!(self.get_best_certificate(), certificate => Reply::Certificate(certificate)),
             Call::TriggerTimeout(view, reason, now) =>
-                told!(self.trigger_timeout(view, reason, now), latched => Reply::Triggered(latched)),
+                replied!(self.trigger_timeout(view, reason, now), latched => Reply::Triggered(latched)),
             Call::NextTimeout(now) =>
-                told!(self.next_timeout(now), timeout => Reply::Timeout(timeout.0, timeout.1)),
-            Call::Prune => told!(self.prune(), views => Reply::Views(views)),
+                replied!(self.next_timeout(now), timeout => Reply::Timeout(timeout.0, timeout.1)),
+            Call::Prune => replied!(self.prune(), views => Reply::Views(views)),
         }
     }
 }

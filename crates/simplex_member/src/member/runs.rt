@@ -1,7 +1,7 @@
 //! Runs of a member: calls, prunings of its record and restarts, one after another.
 
 ghost use Rattle.std.specs.Prelude.{◌≡◌, ◌⊎◌, ◌<◌, ◌++◌, ◌∷◌, [], IfOk, IfErr, length, map, vec_len, vec_capacity};
-ghost use Rattle.simplex_member.specs.Calls.{told};
+ghost use Rattle.simplex_member.specs.Calls.{reply_facts};
 ghost use Rattle.simplex_member.specs.Runs.{IsSetUp, AreSetUp, step_facts, steps_of, IsStep, IsRefused, IsRun, EndsRun, IsRunFrom, EndsRunFrom};
 ghost use Rattle.simplex_record.specs.Start.{start_facts};
 ghost use Rattle.simplex_record.specs.declared.record.error.RecoverError.TheVariants.{OutOfMemory};
@@ -38,7 +38,7 @@ pub fn run<S: Scheme<D>, L: Elector<S>, D: Digest>(
         (λ replies. IsRunFrom D.eq L.elect
         (start_facts S.me S.participants L.terms L.elects_early S.certificate_bytes start)
         (steps_of S.me S.participants L.terms L.elects_early S.certificate_bytes steps.items)
-        (map (told S.certificate_bytes) replies.items)) }
+        (map (reply_facts S.certificate_bytes) replies.items)) }
     ensures ended { IfErr result
         (EndsRunFrom D.eq L.elect (start_facts S.me S.participants L.terms L.elects_early S.certificate_bytes start)
         (steps_of S.me S.participants L.terms L.elects_early S.certificate_bytes steps.items)) }
@@ -56,7 +56,7 @@ fn take_steps<S: Scheme<D>, L: Elector<S>, D: Digest>(
     requires { AreSetUp S.participants L.members steps.items }
     ensures whole { IfOk result (λ replies. IsRun D.eq L.elect member.old.facts
         (steps_of S.me S.participants L.terms L.elects_early S.certificate_bytes steps.items)
-        (map (told S.certificate_bytes) replies.items) member.new.facts) }
+        (map (reply_facts S.certificate_bytes) replies.items) member.new.facts) }
     ensures ended { IfErr result (λ error. (error ≡ OutOfMemory)
         ⊎ EndsRun D.eq L.elect member.old.facts
         (steps_of S.me S.participants L.terms L.elects_early S.certificate_bytes steps.items) error) }
@@ -89,7 +89,7 @@ fn take_step<S: Scheme<D>, L: Elector<S>, D: Digest>(
     requires { IsSetUp S.participants L.members step }
     ensures taken { IfOk result (λ reply. IsStep D.eq L.elect member.old.facts
         (step_facts S.me S.participants L.terms L.elects_early S.certificate_bytes step)
-        (told S.certificate_bytes reply) member.new.facts) }
+        (reply_facts S.certificate_bytes reply) member.new.facts) }
     ensures refused { IfErr result (λ error. IsRefused D.eq L.elect member.old.facts
         (step_facts S.me S.participants L.terms L.elects_early S.certificate_bytes step) error) }
 {

@@ -100,7 +100,7 @@ impl LawfulResolver {
         ensures made { IfOk result
             (λ es. IsMade (update D.bytes (certificate_facts S.certificate_bytes certificate.now)) self.old
             es.items self.new) }
-        ensures told { OnOk result
+        ensures received { OnOk result
             (ReceivesMore self.old (update D.bytes (certificate_facts S.certificate_bytes certificate.now)) self.new) }
         ensures accepted { OnOk result ((self.old.state.is_failed ≡ false) × (highest_view certificate.now < 2 ^ 63)) }
         ensures refused { IfErr result (λ fault. IsLeftBy self.old (highest_view certificate.now)
@@ -127,7 +127,7 @@ impl LawfulResolver {
         ensures made { IfOk result
             (λ es. IsMade (verdict D.bytes (notarization_facts S.certificate_bytes notarization) success) self.old
             es.items self.new) }
-        ensures told { OnOk result
+        ensures received { OnOk result
             (ReceivesMore self.old (verdict D.bytes (notarization_facts S.certificate_bytes notarization) success)
             self.new) }
         ensures accepted { OnOk result
@@ -148,7 +148,7 @@ impl LawfulResolver {
     /// As `updated`, but no view is too large.
     pub fn replayed(&mut self) -> Result<Vec<Effect>, Fault>
         ensures made { IfOk result (λ es. IsMade Replayed self.old es.items self.new) }
-        ensures told { OnOk result (ReceivesMore self.old Replayed self.new) }
+        ensures received { OnOk result (ReceivesMore self.old Replayed self.new) }
         ensures accepted { OnOk result (self.old.state.is_failed ≡ false) }
         ensures refused { IfErr result (λ fault. IsLeftBy self.old 0 Replayed fault self.new) }
     {

@@ -70,7 +70,11 @@ fn keeps(member: &PlainMember, entries: usize, lowest: u64) -> bool {
 }
 
 /// Returns how many of the lifetimes came as expected, up to the first that did not.
-fn lives_as_told(alloc: Global, member: &mut PlainMember, lives: &[Life]) -> Result<usize, Fail> {
+fn lives_as_expected(
+    alloc: Global,
+    member: &mut PlainMember,
+    lives: &[Life],
+) -> Result<usize, Fail> {
     let mut count: usize = 0;
     for (prune, retention, wanted, entries, lowest) in lives {
         let begins = restart(alloc, member, *prune, *retention)?;
@@ -88,7 +92,10 @@ fn a_record_is_pruned_by_the_last_life_and_a_retention_grows_only_before(
 ) -> Result<(), Fail> {
     for lives in &LIVES {
         let mut member = finalized_at_20(rt.alloc())?;
-        assert_eq!(rt; lives_as_told(rt.alloc(), &mut member, lives)?, lives.len());
+        assert_eq!(rt;
+            lives_as_expected(rt.alloc(), &mut member, lives)?,
+            lives.len()
+        );
     }
     Ok(())
 }

@@ -8,7 +8,7 @@ use simplex_types::types::plain::{PlainDigest, PlainScheme};
 use std::test::Fail;
 
 /// Returns the text for a reply of the run.
-fn told(reply: &Reply<PlainScheme, PlainDigest>) -> &'static str {
+fn reply_text(reply: &Reply<PlainScheme, PlainDigest>) -> &'static str {
     match reply {
         Reply::Nullify(Some((false, _))) => "a vote to nullify",
         Reply::Nullify(Some((true, _))) => "the vote to nullify again",
@@ -26,8 +26,8 @@ fn first_other(
     wanted: &[&str],
 ) -> Option<&'static str> {
     for (reply, text) in replies.iter().zip(wanted) {
-        if told(reply) != *text {
-            return Some(told(reply));
+        if reply_text(reply) != *text {
+            return Some(reply_text(reply));
         }
     }
     None

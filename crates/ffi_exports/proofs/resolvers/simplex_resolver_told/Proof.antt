@@ -16,7 +16,7 @@ use Rattle.ffi_member.specs.contracts.resolver_types.FlatEffects.{the_row as A}
 use Rattle.ffi_member.specs.declared.resolver_types.FlatEffects.{FlatEffects}
 use Rattle.ffi_member.proofs.resolver_types.FlatEffects.TheLaws as answer
 use Rattle.ffi_exports.specs.HandleContents.{fact_formula, resolver_at}
-use Rattle.ffi_member.specs.ResolverHandles.{IsHeard}
+use Rattle.ffi_member.specs.ResolverHandles.{IsReceived}
 
 abbrev stayed : Stays f.ended.signature.params f.ended.kept
 stayed = (stay_dropped _ yes, (stay_dropped _ yes, (stay_dropped _ yes, tt)))
@@ -125,7 +125,7 @@ simplex_resolver_told_spec 𝓤 𝓛 𝓜 𝓡 wired =
           ((‵ (flft κ full_share) ⊛ (‵ (flft κs.0 qs.0) ⊛ ‵ (flft κs.1.0 qs.1.0) ⊛ ‵ ftrue))
           ⊛ ‵ (A.own_val u (v ∷ []))) ⊛
           some (λ (ws : Lasts g.ended z.0.0 z.0.3). ‵ (lasts g.ended z.0.0 z.0.3 ws)
-          ⊛ raw (fact 𝓤 (IsHeard held asked.now bytes.now u ws.0)))))) (id⊢ 𝓤 _) $
+          ⊛ raw (fact 𝓤 (IsReceived held asked.now bytes.now u ws.0)))))) (id⊢ 𝓤 _) $
           await ! tt $ pick ! (λ u. split ! $ split ! $ split ! $ lft_end ! tt $
           -- [α is over; the tokens; the answer; the rest; what the lender keeps]
           move ! (2 ∷ []) $ peeks ! A (Is A) (shows 𝓛 A) u (v ∷ [])
@@ -135,8 +135,8 @@ simplex_resolver_told_spec 𝓤 𝓛 𝓜 𝓡 wired =
           move ! (4 ∷ 6 ∷ 0 ∷ []) $ use3 𝓛 (later (‵ (lies_at R full_share (block_ptr b o) ws.0)))
           (ref_back 𝓛 R κ γ ws.0 b o) $ await ! tt $
           nothing ! $ fpack ! (Testable (block_ptr b o)) (λ _. ftrue) may $ fjoin ! $
-          nothing ! $ fpack ! (IsHeard held asked.now bytes.now u ws.0) (λ _. ftrue) added $ fjoin ! $
-          fpack ! HeldResolver (λ now. fsep (fact_formula (IsHeard held asked.now bytes.now u now))
+          nothing ! $ fpack ! (IsReceived held asked.now bytes.now u ws.0) (λ _. ftrue) added $ fjoin ! $
+          fpack ! HeldResolver (λ now. fsep (fact_formula (IsReceived held asked.now bytes.now u now))
           (resolver_at (block_ptr b o) now)) ws.0 $
           returns ! (look_at ! 0 refl) $ free_all ! refl $ keep ! (3 ∷ 0 ∷ 4 ∷ []) $
           suffices ! _ (ends_at 𝓛 f.ended stayed c (y (block_ptr b o)) v u (tt, (tt, (tt, tt))) (tt, (tt, (tt, tt)))) $

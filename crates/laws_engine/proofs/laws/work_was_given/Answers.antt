@@ -1,5 +1,5 @@
 -- step by step
-use Rattle.laws_engine.proofs.Told.{left_given}
+use Rattle.laws_engine.proofs.ReceivedCalls.{left_given}
 use Rattle.laws_engine.proofs.laws.work_was_given.Goals as goal
 
 pub returns : goal.returns

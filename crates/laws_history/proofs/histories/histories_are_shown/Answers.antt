@@ -12,8 +12,9 @@ returns-clause-kept g c history x e shows allowed =
     event_shown g.D.PartialEq.eq g.L.Elector.elect history x shows g.met.D.Digest.equal_is_same e allowed
 
 pub returns-clause-called : goal.returns-clause-called
-returns-clause-called g c history m left call told shown is_call =
-    called_shown g.D.PartialEq.eq g.met.D.Digest.equal_is_same g.L.Elector.elect m history left call told shown is_call
+returns-clause-called g c history m left call replied shown is_call =
+    called_shown g.D.PartialEq.eq g.met.D.Digest.equal_is_same g.L.Elector.elect m history left call replied shown
+    is_call
 
 pub returns-clause-recovered : goal.returns-clause-recovered
 returns-clause-recovered g c start entries none =

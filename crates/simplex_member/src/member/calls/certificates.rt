@@ -5,7 +5,7 @@ ghost use Rattle.simplex_types.specs.Certificates.{notarization_facts, nullifica
 ghost use Rattle.simplex_member.specs.Calls.{AddNotarization, AddNullification, AddFinalization, Added, AddedNullification};
 ghost use Rattle.simplex_member.specs.MemberFacts.{IsCall};
 ghost use Rattle.simplex_member.specs.CallSemantics.{if_new};
-ghost use Rattle.simplex_member.specs.MethodContracts.{told_of, UnchangedButLifetime, IsAnswered};
+ghost use Rattle.simplex_member.specs.MethodContracts.{result_facts, UnchangedButLifetime, IsAnswered};
 
 use crate::member::life::Member;
 use crate::member::recorded_calls::{is_added, is_nullification_added, store_new, with_room};
@@ -28,7 +28,7 @@ impl<S: Scheme<D>, L: Elector<S>, D: Digest> Member<S, L, D> {
     ) -> Result<(bool, Option<S::PublicKey>), Refusal>
         ensures made { IsCall D.eq L.elect self.old.facts
             (AddNotarization (notarization_facts S.certificate_bytes notarization))
-            (told_of (λ added. Added added.0 added.1) result) self.new.facts }
+            (result_facts (λ added. Added added.0 added.1) result) self.new.facts }
         ensures answered { IfOk result (λ added. IsAnswered D.eq L.elect self.old.facts
             (AddNotarization (notarization_facts S.certificate_bytes notarization)) (Added added.0 added.1)
             self.new.facts) }
@@ -70,7 +70,7 @@ impl<S: Scheme<D>, L: Elector<S>, D: Digest> Member<S, L, D> {
     ) -> Result<bool, Refusal>
         ensures made { IsCall D.eq L.elect self.old.facts
             (AddNullification (nullification_facts S.certificate_bytes nullification) now)
-            (told_of (λ is_new. AddedNullification is_new) result) self.new.facts }
+            (result_facts (λ is_new. AddedNullification is_new) result) self.new.facts }
         ensures answered { IfOk result (λ is_new. IsAnswered D.eq L.elect self.old.facts
             (AddNullification (nullification_facts S.certificate_bytes nullification) now) (AddedNullification is_new)
             self.new.facts) }
@@ -112,7 +112,7 @@ impl<S: Scheme<D>, L: Elector<S>, D: Digest> Member<S, L, D> {
     ) -> Result<(bool, Option<S::PublicKey>), Refusal>
         ensures made { IsCall D.eq L.elect self.old.facts
             (AddFinalization (finalization_facts S.certificate_bytes finalization) now)
-            (told_of (λ added. Added added.0 added.1) result) self.new.facts }
+            (result_facts (λ added. Added added.0 added.1) result) self.new.facts }
         ensures answered { IfOk result (λ added. IsAnswered D.eq L.elect self.old.facts
             (AddFinalization (finalization_facts S.certificate_bytes finalization) now) (Added added.0 added.1)
             self.new.facts) }

@@ -4,7 +4,7 @@ ghost use Rattle.std.specs.Prelude.{◌≡◌, option_map, IfOk, IfErr};
 ghost use Rattle.simplex_types.specs.Certificates.{notarization_facts};
 ghost use Rattle.simplex_member.specs.Calls.{CertifyCandidates, SetCertifyHandle, Certified, Judged, Candidates, Done};
 ghost use Rattle.simplex_member.specs.MemberFacts.{IsCall};
-ghost use Rattle.simplex_member.specs.MethodContracts.{told_of, UnchangedButLifetime, IsAnswered};
+ghost use Rattle.simplex_member.specs.MethodContracts.{result_facts, UnchangedButLifetime, IsAnswered};
 
 use crate::member::life::Member;
 use crate::member::recorded_calls;
@@ -22,7 +22,7 @@ impl<S: Scheme<D>, L: Elector<S>, D: Digest> Member<S, L, D> {
         &mut self,
     ) -> Result<(Vec<Proposal<D>>, Vec<CertificateFetch>), Refusal>
         ensures made { IsCall D.eq L.elect self.old.facts CertifyCandidates
-            (told_of (λ candidates. Candidates candidates.0.items candidates.1.items) result) self.new.facts }
+            (result_facts (λ candidates. Candidates candidates.0.items candidates.1.items) result) self.new.facts }
         ensures answered { IfOk result (λ candidates. IsAnswered D.eq L.elect self.old.facts CertifyCandidates
             (Candidates candidates.0.items candidates.1.items) self.new.facts) }
         ensures kept { IfErr result (λ refusal. UnchangedButLifetime self.old.facts refusal self.new.facts) }
@@ -42,7 +42,7 @@ impl<S: Scheme<D>, L: Elector<S>, D: Digest> Member<S, L, D> {
     #[tactic(auto, unfolding(crate::specs::MemberFacts::IsCall))]
     pub fn set_certify_handle(&mut self, view: View, token: u64) -> Result<(), Refusal>
         ensures made { IsCall D.eq L.elect self.old.facts (SetCertifyHandle view token)
-            (told_of (λ _. Done) result) self.new.facts }
+            (result_facts (λ _. Done) result) self.new.facts }
         ensures answered { IfOk result
             (λ _. IsAnswered D.eq L.elect self.old.facts (SetCertifyHandle view token) Done self.new.facts) }
         ensures kept { IfErr result (λ refusal. UnchangedButLifetime self.old.facts refusal self.new.facts) }
@@ -74,7 +74,8 @@ impl<S: Scheme<D>, L: Elector<S>, D: Digest> Member<S, L, D> {
         now: u64,
     ) -> Result<Option<Notarization<S, D>>, Refusal>
         ensures made { IsCall D.eq L.elect self.old.facts (Certified view success now)
-            (told_of (λ notarization. Judged success (option_map (notarization_facts S.certificate_bytes) notarization))
+            (result_facts (λ notarization. Judged success
+            (option_map (notarization_facts S.certificate_bytes) notarization))
             result) self.new.facts }
         ensures answered { IfOk result
             (λ notarization. IsAnswered D.eq L.elect self.old.facts (Certified view success now)

@@ -3,7 +3,7 @@
 ghost use Rattle.std.specs.Prelude.{◌≡◌, IfOk, IfErr};
 ghost use Rattle.simplex_member.specs.Calls.{TryPropose, Proposed, SupersedeProposalRequest, PendingHandoffAbandonment, ReleaseProposalRequest, Requested, Answered, Abandoned, Released};
 ghost use Rattle.simplex_member.specs.MemberFacts.{IsCall};
-ghost use Rattle.simplex_member.specs.MethodContracts.{told_of, UnchangedButLifetime, IsAnswered};
+ghost use Rattle.simplex_member.specs.MethodContracts.{result_facts, UnchangedButLifetime, IsAnswered};
 
 use crate::member::life::Member;
 use crate::member::refusal::Refusal;
@@ -19,7 +19,7 @@ impl<S: Scheme<D>, L: Elector<S>, D: Digest> Member<S, L, D> {
     #[tactic(auto, unfolding(crate::specs::MemberFacts::IsCall))]
     pub fn try_propose(&mut self) -> Result<Option<ProposalRequest<D, S::PublicKey>>, Refusal>
         ensures made { IsCall D.eq L.elect self.old.facts TryPropose
-            (told_of (λ request. Requested request) result) self.new.facts }
+            (result_facts (λ request. Requested request) result) self.new.facts }
         ensures answered { IfOk result
             (λ request. IsAnswered D.eq L.elect self.old.facts TryPropose (Requested request) self.new.facts) }
         ensures kept { IfErr result (λ refusal. UnchangedButLifetime self.old.facts refusal self.new.facts) }
@@ -43,7 +43,7 @@ impl<S: Scheme<D>, L: Elector<S>, D: Digest> Member<S, L, D> {
     #[tactic(auto, unfolding(crate::specs::MemberFacts::IsCall))]
     pub fn proposed(&mut self, view: View, payload: D, now: u64) -> Result<bool, Refusal>
         ensures made { IsCall D.eq L.elect self.old.facts (Proposed view payload now)
-            (told_of (λ is_held. Answered is_held) result) self.new.facts }
+            (result_facts (λ is_held. Answered is_held) result) self.new.facts }
         ensures answered { IfOk result
             (λ is_held. IsAnswered D.eq L.elect self.old.facts (Proposed view payload now) (Answered is_held)
             self.new.facts) }
@@ -68,7 +68,7 @@ impl<S: Scheme<D>, L: Elector<S>, D: Digest> Member<S, L, D> {
     #[tactic(auto, unfolding(crate::specs::MemberFacts::IsCall))]
     pub fn supersede_proposal_request(&mut self, view: View) -> Result<bool, Refusal>
         ensures made { IsCall D.eq L.elect self.old.facts (SupersedeProposalRequest view)
-            (told_of (λ is_superseded. Answered is_superseded) result) self.new.facts }
+            (result_facts (λ is_superseded. Answered is_superseded) result) self.new.facts }
         ensures answered { IfOk result (λ is_superseded. IsAnswered D.eq L.elect self.old.facts
             (SupersedeProposalRequest view) (Answered is_superseded) self.new.facts) }
         ensures kept { IfErr result (λ refusal. UnchangedButLifetime self.old.facts refusal self.new.facts) }
@@ -96,7 +96,7 @@ impl<S: Scheme<D>, L: Elector<S>, D: Digest> Member<S, L, D> {
         view: View,
     ) -> Result<Option<HandoffAbandonedReason>, Refusal>
         ensures made { IsCall D.eq L.elect self.old.facts (PendingHandoffAbandonment view)
-            (told_of (λ reason. Abandoned reason) result) self.new.facts }
+            (result_facts (λ reason. Abandoned reason) result) self.new.facts }
         ensures answered { IfOk result
             (λ reason. IsAnswered D.eq L.elect self.old.facts (PendingHandoffAbandonment view) (Abandoned reason)
             self.new.facts) }
@@ -117,7 +117,7 @@ impl<S: Scheme<D>, L: Elector<S>, D: Digest> Member<S, L, D> {
     #[tactic(auto, unfolding(crate::specs::MemberFacts::IsCall))]
     pub fn release_proposal_request(&mut self, view: View) -> Result<bool, Refusal>
         ensures made { IsCall D.eq L.elect self.old.facts (ReleaseProposalRequest view)
-            (told_of (λ was_open. Released was_open) result) self.new.facts }
+            (result_facts (λ was_open. Released was_open) result) self.new.facts }
         ensures answered { IfOk result
             (λ was_open. IsAnswered D.eq L.elect self.old.facts (ReleaseProposalRequest view) (Released was_open)
             self.new.facts) }

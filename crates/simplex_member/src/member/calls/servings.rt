@@ -5,7 +5,7 @@ ghost use Rattle.simplex_types.specs.Certificates.{certificate_facts};
 ghost use Rattle.simplex_member.specs.Calls.{BroadcastNotarization, BroadcastNullification, BroadcastFinalization, GetBestCertificate, Prune, Returned, Dropped};
 ghost use Rattle.simplex_voter.specs.StateAnswers.{broadcast_notarization_answer, broadcast_nullification_answer, broadcast_finalization_answer};
 ghost use Rattle.simplex_member.specs.MemberFacts.{IsCall};
-ghost use Rattle.simplex_member.specs.MethodContracts.{told_of, UnchangedButLifetime, IsAnswered, HasNoneLeft};
+ghost use Rattle.simplex_member.specs.MethodContracts.{result_facts, UnchangedButLifetime, IsAnswered, HasNoneLeft};
 
 use crate::member::broadcasts::{
     broadcast_finalization, broadcast_notarization, broadcast_nullification,
@@ -24,7 +24,8 @@ impl<S: Scheme<D>, L: Elector<S>, D: Digest> Member<S, L, D> {
         view: View,
     ) -> Result<Option<Certificate<S, D>>, Refusal>
         ensures made { IsCall D.eq L.elect self.old.facts (BroadcastNotarization view)
-            (told_of (λ certificate. Returned (option_map (certificate_facts S.certificate_bytes) certificate)) result)
+            (result_facts (λ certificate. Returned
+            (option_map (certificate_facts S.certificate_bytes) certificate)) result)
             self.new.facts }
         ensures answered { IfOk result
             (λ certificate. IsAnswered D.eq L.elect self.old.facts (BroadcastNotarization view)
@@ -52,7 +53,8 @@ impl<S: Scheme<D>, L: Elector<S>, D: Digest> Member<S, L, D> {
         view: View,
     ) -> Result<Option<Certificate<S, D>>, Refusal>
         ensures made { IsCall D.eq L.elect self.old.facts (BroadcastNullification view)
-            (told_of (λ certificate. Returned (option_map (certificate_facts S.certificate_bytes) certificate)) result)
+            (result_facts (λ certificate. Returned
+            (option_map (certificate_facts S.certificate_bytes) certificate)) result)
             self.new.facts }
         ensures answered { IfOk result
             (λ certificate. IsAnswered D.eq L.elect self.old.facts (BroadcastNullification view)
@@ -80,7 +82,8 @@ impl<S: Scheme<D>, L: Elector<S>, D: Digest> Member<S, L, D> {
         view: View,
     ) -> Result<Option<Certificate<S, D>>, Refusal>
         ensures made { IsCall D.eq L.elect self.old.facts (BroadcastFinalization view)
-            (told_of (λ certificate. Returned (option_map (certificate_facts S.certificate_bytes) certificate)) result)
+            (result_facts (λ certificate. Returned
+            (option_map (certificate_facts S.certificate_bytes) certificate)) result)
             self.new.facts }
         ensures answered { IfOk result
             (λ certificate. IsAnswered D.eq L.elect self.old.facts (BroadcastFinalization view)
@@ -105,7 +108,8 @@ impl<S: Scheme<D>, L: Elector<S>, D: Digest> Member<S, L, D> {
     #[tactic(auto, unfolding(crate::specs::MemberFacts::IsCall))]
     pub fn get_best_certificate(&mut self) -> Result<Option<Certificate<S, D>>, Refusal>
         ensures made { IsCall D.eq L.elect self.old.facts GetBestCertificate
-            (told_of (λ certificate. Returned (option_map (certificate_facts S.certificate_bytes) certificate)) result)
+            (result_facts (λ certificate. Returned
+            (option_map (certificate_facts S.certificate_bytes) certificate)) result)
             self.new.facts }
         ensures answered { IfOk result (λ certificate. IsAnswered D.eq L.elect self.old.facts GetBestCertificate
             (Returned (option_map (certificate_facts S.certificate_bytes) certificate)) self.new.facts) }
@@ -124,7 +128,7 @@ impl<S: Scheme<D>, L: Elector<S>, D: Digest> Member<S, L, D> {
     #[tactic(auto, unfolding(crate::specs::MemberFacts::IsCall))]
     pub fn prune(&mut self) -> Result<Vec<View>, Refusal>
         ensures made { IsCall D.eq L.elect self.old.facts Prune
-            (told_of (λ views. Dropped views.items) result) self.new.facts }
+            (result_facts (λ views. Dropped views.items) result) self.new.facts }
         ensures answered { IfOk result
             (λ views. IsAnswered D.eq L.elect self.old.facts Prune (Dropped views.items) self.new.facts) }
         ensures kept { IfErr result (λ refusal. UnchangedButLifetime self.old.facts refusal self.new.facts) }

@@ -3,7 +3,7 @@
 ghost use Rattle.std.specs.Prelude.{◌≡◌, Some, IfOk, IfErr};
 ghost use Rattle.simplex_member.specs.Calls.{TriggerTimeout, NextTimeout, TimesOut, Triggered};
 ghost use Rattle.simplex_member.specs.MemberFacts.{IsCall};
-ghost use Rattle.simplex_member.specs.MethodContracts.{told_of, UnchangedButLifetime, IsAnswered};
+ghost use Rattle.simplex_member.specs.MethodContracts.{result_facts, UnchangedButLifetime, IsAnswered};
 
 use crate::member::life::Member;
 use crate::member::refusal::Refusal;
@@ -23,7 +23,7 @@ impl<S: Scheme<D>, L: Elector<S>, D: Digest> Member<S, L, D> {
         now: u64,
     ) -> Result<bool, Refusal>
         ensures made { IsCall D.eq L.elect self.old.facts (TriggerTimeout view reason now)
-            (told_of (λ latched. Triggered latched) result) self.new.facts }
+            (result_facts (λ latched. Triggered latched) result) self.new.facts }
         ensures answered { IfOk result
             (λ latched. IsAnswered D.eq L.elect self.old.facts (TriggerTimeout view reason now) (Triggered latched)
             self.new.facts) }
@@ -43,7 +43,7 @@ impl<S: Scheme<D>, L: Elector<S>, D: Digest> Member<S, L, D> {
     #[tactic(auto, unfolding(crate::specs::MemberFacts::IsCall))]
     pub fn next_timeout(&mut self, now: u64) -> Result<(u64, TimeoutReason), Refusal>
         ensures made { IsCall D.eq L.elect self.old.facts (NextTimeout now)
-            (told_of (λ timeout. TimesOut (Some timeout)) result) self.new.facts }
+            (result_facts (λ timeout. TimesOut (Some timeout)) result) self.new.facts }
         ensures answered { IfOk result
             (λ timeout. IsAnswered D.eq L.elect self.old.facts (NextTimeout now) (TimesOut (Some timeout))
             self.new.facts) }

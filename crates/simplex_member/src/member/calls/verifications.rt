@@ -3,7 +3,7 @@
 ghost use Rattle.std.specs.Prelude.{◌≡◌, IfOk, IfErr};
 ghost use Rattle.simplex_member.specs.Calls.{SetProposal, TryVerify, Verified, VerificationFailed, Standing, Answered, Done};
 ghost use Rattle.simplex_member.specs.MemberFacts.{IsCall};
-ghost use Rattle.simplex_member.specs.MethodContracts.{told_of, UnchangedButLifetime, IsAnswered};
+ghost use Rattle.simplex_member.specs.MethodContracts.{result_facts, UnchangedButLifetime, IsAnswered};
 
 use crate::member::life::Member;
 use crate::member::refusal::{Refusal, is_lost};
@@ -21,7 +21,7 @@ impl<S: Scheme<D>, L: Elector<S>, D: Digest> Member<S, L, D> {
     #[tactic(auto, unfolding(crate::specs::MemberFacts::IsCall))]
     pub fn set_proposal(&mut self, view: View, proposal: Proposal<D>) -> Result<bool, Refusal>
         ensures made { IsCall D.eq L.elect self.old.facts (SetProposal view proposal)
-            (told_of (λ is_new. Answered is_new) result) self.new.facts }
+            (result_facts (λ is_new. Answered is_new) result) self.new.facts }
         ensures answered { IfOk result
             (λ is_new. IsAnswered D.eq L.elect self.old.facts (SetProposal view proposal) (Answered is_new)
             self.new.facts) }
@@ -46,7 +46,7 @@ impl<S: Scheme<D>, L: Elector<S>, D: Digest> Member<S, L, D> {
     #[tactic(auto, unfolding(crate::specs::MemberFacts::IsCall))]
     pub fn try_verify(&mut self) -> Result<Verify<D, S::PublicKey>, Refusal>
         ensures made { IsCall D.eq L.elect self.old.facts TryVerify
-            (told_of (λ verify. Standing verify) result) self.new.facts }
+            (result_facts (λ verify. Standing verify) result) self.new.facts }
         ensures answered { IfOk result
             (λ verify. IsAnswered D.eq L.elect self.old.facts TryVerify (Standing verify) self.new.facts) }
         ensures kept { IfErr result (λ refusal. UnchangedButLifetime self.old.facts refusal self.new.facts) }
@@ -68,7 +68,7 @@ impl<S: Scheme<D>, L: Elector<S>, D: Digest> Member<S, L, D> {
     #[tactic(auto, unfolding(crate::specs::MemberFacts::IsCall))]
     pub fn verified(&mut self, view: View) -> Result<bool, Refusal>
         ensures made { IsCall D.eq L.elect self.old.facts (Verified view)
-            (told_of (λ is_marked. Answered is_marked) result) self.new.facts }
+            (result_facts (λ is_marked. Answered is_marked) result) self.new.facts }
         ensures answered { IfOk result
             (λ is_marked. IsAnswered D.eq L.elect self.old.facts (Verified view) (Answered is_marked) self.new.facts) }
         ensures kept { IfErr result (λ refusal. UnchangedButLifetime self.old.facts refusal self.new.facts) }
@@ -97,7 +97,7 @@ impl<S: Scheme<D>, L: Elector<S>, D: Digest> Member<S, L, D> {
         now: u64,
     ) -> Result<(), Refusal>
         ensures made { IsCall D.eq L.elect self.old.facts (VerificationFailed view reason now)
-            (told_of (λ _. Done) result) self.new.facts }
+            (result_facts (λ _. Done) result) self.new.facts }
         ensures answered { IfOk result
             (λ _. IsAnswered D.eq L.elect self.old.facts (VerificationFailed view reason now) Done self.new.facts) }
         ensures kept { IfErr result (λ refusal. UnchangedButLifetime self.old.facts refusal self.new.facts) }

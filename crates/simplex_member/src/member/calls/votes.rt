@@ -2,11 +2,11 @@
 
 ghost use Rattle.std.specs.Prelude.{◌++◌, ◌≡◌, IsNone, IfOk, IfErr, IfSome, OnErr};
 ghost use Rattle.simplex_member.specs.Calls.{ConstructNotarize, ConstructNullify, ConstructFinalize, reply_notarize, reply_nullify, reply_finalize};
-ghost use Rattle.simplex_member.specs.Calls as told;
+ghost use Rattle.simplex_member.specs.Calls as calls;
 ghost use Rattle.simplex_member.specs.MemberFacts.{IsCall};
 ghost use Rattle.simplex_member.specs.CallSemantics.{unrepeated_vote, vote_entry};
 ghost use Rattle.simplex_member.specs.ReplySignatures.{IsSignedReply, signed_notarize, signed_nullify, signed_finalize};
-ghost use Rattle.simplex_member.specs.MethodContracts.{told_of, UnchangedButLifetime, IsAnswered, HasNotarizeVote, HasNullifyVote, HasFinalizeVote};
+ghost use Rattle.simplex_member.specs.MethodContracts.{result_facts, UnchangedButLifetime, IsAnswered, HasNotarizeVote, HasNullifyVote, HasFinalizeVote};
 ghost use Rattle.simplex_member.specs.declared.member.calls.Reply.TheVariants as reply;
 
 use crate::member::life::Member;
@@ -23,9 +23,9 @@ impl<S: Scheme<D>, L: Elector<S>, D: Digest> Member<S, L, D> {
     #[tactic(auto, unfolding(crate::specs::MemberFacts::IsCall))]
     pub fn construct_notarize(&mut self, view: View) -> Result<Option<Notarize<S, D>>, Refusal>
         ensures made { IsCall D.eq L.elect self.old.facts (ConstructNotarize view)
-            (told_of (λ vote. told.Notarize (reply_notarize vote)) result) self.new.facts }
+            (result_facts (λ vote. calls.Notarize (reply_notarize vote)) result) self.new.facts }
         ensures answered { IfOk result (λ vote. IsAnswered D.eq L.elect self.old.facts (ConstructNotarize view)
-            (told.Notarize (reply_notarize vote)) self.new.facts) }
+            (calls.Notarize (reply_notarize vote)) self.new.facts) }
         ensures kept { IfErr result (λ refusal. UnchangedButLifetime self.old.facts refusal self.new.facts) }
         ensures signed { IfOk result
             (λ vote. IfSome self.old.facts.life (IsSignedReply S.IsSignature (reply.Notarize vote))) }
@@ -57,9 +57,9 @@ impl<S: Scheme<D>, L: Elector<S>, D: Digest> Member<S, L, D> {
         reason: TimeoutReason,
     ) -> Result<Option<(bool, Nullify<S>)>, Refusal>
         ensures made { IsCall D.eq L.elect self.old.facts (ConstructNullify view)
-            (told_of (λ vote. told.Nullify (reply_nullify vote)) result) self.new.facts }
+            (result_facts (λ vote. calls.Nullify (reply_nullify vote)) result) self.new.facts }
         ensures answered { IfOk result (λ vote. IsAnswered D.eq L.elect self.old.facts (ConstructNullify view)
-            (told.Nullify (reply_nullify vote)) self.new.facts) }
+            (calls.Nullify (reply_nullify vote)) self.new.facts) }
         ensures kept { IfErr result (λ refusal. UnchangedButLifetime self.old.facts refusal self.new.facts) }
         ensures signed { IfOk result
             (λ vote. IfSome self.old.facts.life (IsSignedReply S.IsSignature (reply.Nullify vote))) }
@@ -87,9 +87,9 @@ impl<S: Scheme<D>, L: Elector<S>, D: Digest> Member<S, L, D> {
     #[tactic(auto, unfolding(crate::specs::MemberFacts::IsCall))]
     pub fn construct_finalize(&mut self, view: View) -> Result<Option<Finalize<S, D>>, Refusal>
         ensures made { IsCall D.eq L.elect self.old.facts (ConstructFinalize view)
-            (told_of (λ vote. told.Finalize (reply_finalize vote)) result) self.new.facts }
+            (result_facts (λ vote. calls.Finalize (reply_finalize vote)) result) self.new.facts }
         ensures answered { IfOk result (λ vote. IsAnswered D.eq L.elect self.old.facts (ConstructFinalize view)
-            (told.Finalize (reply_finalize vote)) self.new.facts) }
+            (calls.Finalize (reply_finalize vote)) self.new.facts) }
         ensures kept { IfErr result (λ refusal. UnchangedButLifetime self.old.facts refusal self.new.facts) }
         ensures signed { IfOk result
             (λ vote. IfSome self.old.facts.life (IsSignedReply S.IsSignature (reply.Finalize vote))) }

@@ -31,7 +31,7 @@ returns-clause-kept g c =
     ∙ counted bytes_of all.result.now entries all.ensures.entries in
     begun bytes_of member c.new-outbox.result c.replace.new.self (length c.record-stored.result.now)
     c.lowest_of-reach.result c.new-outbox.ensures.begins c.new-outbox.ensures.empty.0
-    c.in_ok-replace.ensures.queued.2.told_is
+    c.in_ok-replace.ensures.queued.2.reported_is
     (subst (λ t. IfSome member.facts.life (λ x. t ≡ x.finalized)) (sym c.new-outbox.ensures.empty.2)
     c.last_finalized.ensures) c.replace.ensures.continues all.result.now same_length all.ensures.entries
     all.ensures.votes
@@ -48,8 +48,8 @@ returns-clause-whole g c =
     c.args.member.facts.entries c.record-stored.ensures.entries in
     omega (arith, same_length)
 
-pub returns-clause-told : goal.returns-clause-told
-returns-clause-told g c =
+pub returns-clause-reported : goal.returns-clause-reported
+returns-clause-reported g c =
     ap finals_in (c.in_ok-replace.ensures.queued.2.queue
     ∙ ap (λ q. q ++ output.Replace c.in_ok-replace.ensures.queued.0 c.stored.result ∷ [])
     c.new-outbox.ensures.empty.0)
@@ -79,7 +79,7 @@ returns-clause-traced g c = λ term_length i all done signed.
       kept = returns-clause-kept g c;
       done = done;
       signed = signed;
-      finals = λ p has. absurd (omega (arith, (subst (λ ps. Contains ps p) (returns-clause-told g c) has).1));
+      finals = λ p has. absurd (omega (arith, (subst (λ ps. Contains ps p) (returns-clause-reported g c) has).1));
       stops = λ lives. stops;
       amid = λ lives. amid_none g.D.PartialEq.eq g.L.Elector.elect bytes_of term_length i all all
           c.replace.new.self.queue.items c.args.member (length c.record-stored.result.now)

@@ -1,14 +1,14 @@
 use Rattle.std.proofs.Common.{◌++◌, None, refl, ap, sym, subst}
 use Rattle.std.specs.Prelude.{All}
 use Rattle.std.proofs.lemmas.List.Elements.{All-nil}
-use Rattle.simplex_member.specs.Calls.{asked, told}
+use Rattle.simplex_member.specs.Calls.{asked, reply_facts}
 use Rattle.simplex_member.specs.ReplySignatures.{signed_reply}
 use Rattle.laws_safety.specs.ObservedTraces.{votes_in, taken_by}
 use Rattle.engine_outbox.specs.SubjectActions.{IsActionOn}
 use Rattle.engine_outbox.specs.Finalizations.{finals_by, raised_to, ReportsRising}
 use Rattle.engine_outbox.proofs.SubjectActions.{call_on}
 use Rattle.engine_outbox.proofs.IgnoredCalls.{refused_left, dropped_left}
-use Rattle.engine_outbox.proofs.FinalOutputs.{told_by_call, final_none}
+use Rattle.engine_outbox.proofs.FinalOutputs.{replied_by_call, final_none}
 use Rattle.engine_outbox.proofs.Finalizations.{tells_none}
 use Rattle.engine_outbox.proofs.Torn.{call_grows}
 use Rattle.engine_outbox.proofs.TracedOutputs.{traced_call, reply_signed}
@@ -44,9 +44,10 @@ returns-clause-continues g c taken may no_final =
     let keeps = called bytes_of old new refl refl refl c.call.ensures.grown (signed_reply c.call.result)
     c.call.ensures.votes c.call.ensures.stored
     (λ given lawful. lawful) None (refl, refl, refl)
-    (λ last. told_by_call g.D.PartialEq.eq g.L.Elector.elect bytes_of old.member.facts c.call.new.self.facts c.args.call
+    (λ last. replied_by_call g.D.PartialEq.eq g.L.Elector.elect bytes_of old.member.facts c.call.new.self.facts
+    c.args.call
     c.call.result c.call.ensures.answered
-    old.outbox.told old.outbox.told last (sym (ap (raised_to old.outbox.told) none))) in
+    old.outbox.reported old.outbox.reported last (sym (ap (raised_to old.outbox.reported) none))) in
     record {
       kept = keeps;
       more = taken_by c.args.call c.call.result ++ votes_in c.call.result;
@@ -60,7 +61,7 @@ returns-clause-continues g c taken may no_final =
           (signed_reply c.call.result) c.call.ensures.votes (reply_signed c.args.call c.call.result) None
           (refl, refl, refl) rising;
       signed = returns-clause-signed g c;
-      told = rising;
+      reported = rising;
       queued = queues_none old.outbox;
       risen = call_risen g.D.PartialEq.eq g.L.Elector.elect old.member.facts _ _ c.call.new.self.facts
           c.call.ensures.answered;
@@ -74,10 +75,10 @@ pub returns-clause-refused : goal.returns-clause-refused
 returns-clause-refused g c refused =
     let bytes_of = g.S.CertificateScheme.certificate_bytes in
     refused_left g.D.PartialEq.eq g.L.Elector.elect c.args.self.now.member.facts c.call.new.self.facts
-    (asked bytes_of c.args.call) (told bytes_of c.call.result) c.call.ensures.answered refused
+    (asked bytes_of c.args.call) (reply_facts bytes_of c.call.result) c.call.ensures.answered refused
 
 pub returns-clause-dropped : goal.returns-clause-dropped
 returns-clause-dropped g c says =
     let bytes_of = g.S.CertificateScheme.certificate_bytes in
     dropped_left g.D.PartialEq.eq g.L.Elector.elect c.args.self.now.member.facts c.call.new.self.facts
-    (asked bytes_of c.args.call) (told bytes_of c.call.result) c.call.ensures.answered says
+    (asked bytes_of c.args.call) (reply_facts bytes_of c.call.result) c.call.ensures.answered says

@@ -14,11 +14,11 @@ use Rattle.engine_outbox.proofs.HostStops.{lawful_stops, left_stored}
 use Rattle.engine_outbox.proofs.journaled.Journaled.keeps_the_laws.Goals as goal
 
 -- the last one that was reported is of the last finalized view
-ends_last : {K L D : Type 0} (finals : List (Proposal D)) (life : Option (StateFacts K L D)) (told : ℕ)
-    → IfSome life (λ x. told ≡ x.finalized) → EndsAt told finals
+ends_last : {K L D : Type 0} (finals : List (Proposal D)) (life : Option (StateFacts K L D)) (reported : ℕ)
+    → IfSome life (λ x. reported ≡ x.finalized) → EndsAt reported finals
     → IfSome life (λ x. EndsAt x.finalized finals)
-ends_last finals None told last ends = tt
-ends_last finals (Some x) told last ends = subst (λ v. EndsAt v finals) last ends
+ends_last finals None reported last ends = tt
+ends_last finals (Some x) reported last ends = subst (λ v. EndsAt v finals) last ends
 
 pub returns-clause-stored : goal.returns-clause-stored
 returns-clause-stored g c given kept lives whole =
@@ -30,8 +30,8 @@ returns-clause-stored g c given kept lives whole =
 pub returns-clause-last : goal.returns-clause-last
 returns-clause-last g c given kept =
     let it = c.args.self.now in
-    ends_last (finals_in (given ++ it.outbox.queue.items)) it.member.facts.life it.outbox.told kept.told
-    kept.lawful.told
+    ends_last (finals_in (given ++ it.outbox.queue.items)) it.member.facts.life it.outbox.reported kept.reported
+    kept.lawful.reported
 
 pub returns-clause-emitted : goal.returns-clause-emitted
 returns-clause-emitted g c given kept lives = kept.emitted lives

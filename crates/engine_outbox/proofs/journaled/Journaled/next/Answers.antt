@@ -24,12 +24,13 @@ returns-clause-kept g c = λ given kept.
       emitted = λ lives. subst AllAreReturned
           (ap (λ queued. given ++ queued) c.next.ensures.front
           ∙ sym (append_assoc given out c.next.new.self.queue.items)) (kept.emitted lives);
-      told = subst (λ t. IfSome old.member.facts.life (λ x. t ≡ x.finalized)) (sym c.next.ensures.told) kept.told;
+      reported = subst (λ t. IfSome old.member.facts.life (λ x. t ≡ x.finalized))
+          (sym c.next.ensures.reported) kept.reported;
       reaching = kept.reaching;
     }
 
-pub returns-clause-told : goal.returns-clause-told
-returns-clause-told g c = record { queued = ap finals_in c.next.ensures.front; told = c.next.ensures.told }
+pub returns-clause-reported : goal.returns-clause-reported
+returns-clause-reported g c = record { queued = ap finals_in c.next.ensures.front; reported = c.next.ensures.reported }
 
 pub returns-clause-traced : goal.returns-clause-traced
 returns-clause-traced g c = λ term_length i earlier given all is.

@@ -23,10 +23,10 @@ use Rattle.engine_outbox.specs.Signatures.{SignsBy}
 use Rattle.engine_outbox.proofs.journaled.Journaled.replace.Goals as goal
 
 -- a record that is pruned is of the same lifetime
-still_told : {K L D : Type 0} (old new : MemberFacts K L D) → new ≡ pruned_member old → (before after : ℕ)
+still_replied : {K L D : Type 0} (old new : MemberFacts K L D) → new ≡ pruned_member old → (before after : ℕ)
     → after ≡ before
     → IfSome old.life (λ x. before ≡ x.finalized) → IfSome new.life (λ x. after ≡ x.finalized)
-still_told old new is before after same last =
+still_replied old new is before after same last =
     subst (λ t. IfSome new.life (λ x. t ≡ x.finalized)) (sym same)
     (subst (λ m. IfSome m.life (λ x. before ≡ x.finalized)) (sym is) last)
 
@@ -86,8 +86,8 @@ returns-in-Ok-clause-continues g c =
     (λ lives. still_leaving bytes_of old new given (stays_within old.member.facts) (kept.emitted lives)
     (c.requires given kept lives)
     all.result.now (all.ensures.votes ∙ c.prune_record.ensures.votes) c.stored.result c.in-Ok.ensures.queued)
-    (still_told old.member.facts c.prune_record.new.self.facts c.prune_record.ensures.pruned old.outbox.told
-    c.replace.new.self.told c.in-Ok.ensures.queued.2.told_is)
+    (still_replied old.member.facts c.prune_record.new.self.facts c.prune_record.ensures.pruned old.outbox.reported
+    c.replace.new.self.reported c.in-Ok.ensures.queued.2.reported_is)
     (reaches_whole c.lowest_of-self.result (length c.record.result.now) entries
     (counted bytes_of c.record.result.now entries c.record.ensures.entries)
     (c.lowest_of-self.ensures ∙ ap (λ v. lowest_of v (entries_of bytes_of c.record-2.result.now)) c.new.ensures
@@ -103,7 +103,7 @@ returns-in-Ok-clause-continues g c =
       on_this = All-nil (IsActionOn None);
       done = c.prune_record.ensures.continues;
       signed = returns-in-Ok-clause-signed g c;
-      told = replaced_tells bytes_of old new all.result.now c.stored.result c.in-Ok.ensures.queued;
+      reported = replaced_tells bytes_of old new all.result.now c.stored.result c.in-Ok.ensures.queued;
       queued = c.replace.ensures.grown;
       risen = subst (λ m. WhileAlive HasRisen old.member.facts.life m.life) (sym c.prune_record.ensures.pruned)
           (risen_not old.member.facts);
@@ -126,8 +126,8 @@ returns-in-Err-clause-continues g c =
     (counted bytes_of c.record.result.now entries c.record.ensures.entries)
     (c.lowest_of-self.ensures ∙ ap (λ v. lowest_of v (entries_of bytes_of c.record-2.result.now)) c.new.ensures
     ∙ ap (lowest_of (2 ^ 64 - 1)) c.record-2.ensures.entries)) c.replace.ensures.continues
-    (still_told old.member.facts c.prune_record.new.self.facts c.prune_record.ensures.pruned old.outbox.told
-    c.replace.new.self.told c.in-Err.ensures.kept.2) in
+    (still_replied old.member.facts c.prune_record.new.self.facts c.prune_record.ensures.pruned old.outbox.reported
+    c.replace.new.self.reported c.in-Err.ensures.kept.2) in
     record {
       kept = keeps;
       traced = traced_end g.D.PartialEq.eq g.L.Elector.elect bytes_of old new refl keeps
@@ -139,7 +139,7 @@ returns-in-Err-clause-continues g c =
       on_this = All-nil (IsActionOn None);
       done = c.prune_record.ensures.continues;
       signed = returns-in-Err-clause-signed g c;
-      told = stayed_tells old.outbox c.replace.new.self c.in-Err.ensures.kept;
+      reported = stayed_tells old.outbox c.replace.new.self c.in-Err.ensures.kept;
       queued = c.replace.ensures.grown;
       risen = subst (λ m. WhileAlive HasRisen old.member.facts.life m.life) (sym c.prune_record.ensures.pruned)
           (risen_not old.member.facts);

@@ -15,6 +15,6 @@ returns-in-Ok-clause-queued g c = (
         ∙ ap (λ newest. option_map_or Some newest c.args.self.now.repeat)
         (c.in_ok-newest.ensures ∙ ap (newest_from None) c.deref.ensures.value)
         ∙ sym (newest_or c.args.self.now.repeat c.in_ok-entries.entries.items);
-    told_is = c.in-Ok.ensures.queued.told_is;
+    reported_is = c.in-Ok.ensures.queued.reported_is;
   },
 )

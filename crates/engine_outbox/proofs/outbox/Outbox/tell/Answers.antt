@@ -1,10 +1,10 @@
-use Rattle.engine_outbox.proofs.Lawfully.{told_lawful}
-use Rattle.engine_outbox.proofs.Queued.{told_more}
+use Rattle.engine_outbox.proofs.Lawfully.{replied_lawful}
+use Rattle.engine_outbox.proofs.Queued.{replied_more}
 use Rattle.engine_outbox.proofs.outbox.Outbox.tell.Goals as goal
 
 pub returns-clause-continues : goal.returns-clause-continues
 returns-clause-continues g c = λ given lawful.
-    told_lawful given c.args.self.now c.queue_final.new.self lawful c.args.finalized c.queue_final.ensures
+    replied_lawful given c.args.self.now c.queue_final.new.self lawful c.args.finalized c.queue_final.ensures
 
 pub returns-clause-grown : goal.returns-clause-grown
-returns-clause-grown g c = told_more c.args.finalized c.args.self.now c.queue_final.new.self c.queue_final.ensures
+returns-clause-grown g c = replied_more c.args.finalized c.args.self.now c.queue_final.new.self c.queue_final.ensures

@@ -13,12 +13,12 @@ returns g c =
     let taken = c.args.certificate.now in
     let old = c.args.self.now in
     let new = c.touch.new.self in
-    let heard = c.report_certificate.new.self in
+    let notified = c.report_certificate.new.self in
     let above = ap (λ v. v == 0) (sym c.view-view.ensures) ∙ sym c.is_genesis.ensures.is ∙ c.if-is_genesis.false in
     record {
       followed = subst (λ b. IsTakenInAbove bytes bytes_of c.args.now b taken old new) (sym above)
-          (taken_in bytes bytes_of c.args.now taken old heard new c.report_certificate.ensures.same
-          c.in_ok-report_certificate.ensures.heard
-          (subst (λ v. HasPlanned (touching v) (watching heard) new) c.view-view.ensures c.in_ok-touch.ensures));
+          (taken_in bytes bytes_of c.args.now taken old notified new c.report_certificate.ensures.same
+          c.in_ok-report_certificate.ensures.notified
+          (subst (λ v. HasPlanned (touching v) (watching notified) new) c.view-view.ensures c.in_ok-touch.ensures));
       refused = tt;
     }

@@ -16,7 +16,7 @@ use Rattle.ffi_member.specs.Numbers.{fault_status}
 use Rattle.ffi_member.specs.MemberHandles.{host_leader, same_host_payload}
 use Rattle.ffi_engine.specs.EngineHandles.{SettledAsStored}
 use Rattle.ffi_engine.specs.Outputs.{HostOutput}
-use Rattle.ffi_engine.proofs.Given.{all_given, comes_given, has_told, same_error, tells_no_more, traced_given, works_given}
+use Rattle.ffi_engine.proofs.Given.{all_given, comes_given, has_replied, same_error, tells_no_more, traced_given, works_given}
 use Rattle.ffi_engine.proofs.held.HeldEngine.poll_engine.Goals as goal
 
 pub returns-in-Ok-Some : goal.returns-in-Ok-Some
@@ -42,9 +42,9 @@ returns-in-Ok-Some c =
           given = all_given c.in-Ok-Some.output c.args.self.now.stored c.give_out.result c.args.self.now
               c.give_out.new.self going
               (rw rest.0 given) c.give_out.ensures.given;
-          told = tells_no_more c.in-Ok-Some.output c.args.self.now.stored c.give_out.result c.args.self.now
+          reported = tells_no_more c.in-Ok-Some.output c.args.self.now.stored c.give_out.result c.args.self.now
               c.give_out.new.self
-              (rw rest.0 (rw c.in-Ok-Some.field-0-is at c.in-Ok-Some.ensures.told)) c.give_out.ensures.given;
+              (rw rest.0 (rw c.in-Ok-Some.field-0-is at c.in-Ok-Some.ensures.reported)) c.give_out.ensures.given;
           traced = traced_given c.in-Ok-Some.output c.args.self.now.stored c.give_out.result c.args.self.now
               c.give_out.new.self
               (rw rest.0 (rw c.in-Ok-Some.field-0-is at c.in-Ok-Some.ensures.traced)) c.give_out.ensures.given;
@@ -52,7 +52,7 @@ returns-in-Ok-Some c =
           votes = rw rest.0 c.in-Ok-Some.ensures.votes;
           held = rw rest.0 c.in-Ok-Some.ensures.held;
           bounded = rw rest.0 c.in-Ok-Some.ensures.bounded;
-          due_work = λ _. has_told c.in-Ok-Some.output c.args.self.now.stored c.give_out.result c.args.self.now
+          due_work = λ _. has_replied c.in-Ok-Some.output c.args.self.now.stored c.give_out.result c.args.self.now
               c.give_out.new.self
               (rw rest.0 (rw c.in-Ok-Some.field-0-is at c.in-Ok-Some.ensures.due_work)) c.give_out.ensures.given;
           works = λ _. works_given c.in-Ok-Some.output c.args.self.now.stored c.give_out.result c.args.self.now
@@ -79,13 +79,13 @@ returns-in-Ok-None c =
     let going = c.if-self.false in
     let given = rw c.in-Ok-None.field-0-is at c.in-Ok-None.ensures.given in
     let none = c.in-Ok-None.field-0-is in
-    let told = c.no_output-in-Ok-None.ensures in (
+    let reported = c.no_output-in-Ok-None.ensures in (
       inr (
         going,
         record {
           answer = Ok None;
           outcome = (
-            record { status_is = told.status; nothing = told.nothing.0; last = c.requires.last },
+            record { status_is = reported.status; nothing = reported.nothing.0; last = c.requires.last },
             λ settled. record {
               rest = (rw none at c.in-Ok-None.ensures.rest settled) refl;
               short = λ before kept. (rw none at c.in-Ok-None.ensures.short before kept settled) refl;
@@ -105,9 +105,9 @@ returns-in-Ok-None c =
           given = λ before all alive.
               subst (λ last. IsJournaled certificate_bytes (before ++ option_to_list last) c.poll.new.self.core)
               (sym c.requires.last) (given before (all going));
-          told = λ alive. subst (λ last. ReportsNoMore (option_to_list last) c.args.self.now.engine.core.outbox
+          reported = λ alive. subst (λ last. ReportsNoMore (option_to_list last) c.args.self.now.engine.core.outbox
               c.poll.new.self.core.outbox)
-              (sym c.requires.last) (rw none at c.in-Ok-None.ensures.told);
+              (sym c.requires.last) (rw none at c.in-Ok-None.ensures.reported);
           traced = λ alive. subst (λ last. EmitsOn same_host_payload host_leader certificate_bytes
               (IsOrder bytes_in_digest) None (option_to_list last) c.args.self.now.engine.core c.poll.new.self.core)
               (sym c.requires.last) (rw none at c.in-Ok-None.ensures.traced);
@@ -142,7 +142,7 @@ returns-in-Ok-None c =
 pub returns-in-Err : goal.returns-in-Err
 returns-in-Err c =
     let going = c.if-self.false in
-    let told = c.no_output-in-Err.ensures in
+    let reported = c.no_output-in-Err.ensures in
     let failed = c.in-Err.ensures.failed in (
       inr (
         going,
@@ -151,8 +151,8 @@ returns-in-Err c =
           outcome = (
             c.in-Err.ensures.error,
             record {
-              status_is = told.status ∙ c.number_of_fault-in-Err.ensures;
-              nothing = told.nothing.0;
+              status_is = reported.status ∙ c.number_of_fault-in-Err.ensures;
+              nothing = reported.nothing.0;
               last = c.requires.last;
             },
             failed,
@@ -166,9 +166,9 @@ returns-in-Err c =
           given = λ before all alive.
               subst (λ last. IsJournaled certificate_bytes (before ++ option_to_list last) c.poll.new.self.core)
               (sym c.requires.last) (c.in-Err.ensures.given before (all going));
-          told = λ alive. subst (λ last. ReportsNoMore (option_to_list last) c.args.self.now.engine.core.outbox
+          reported = λ alive. subst (λ last. ReportsNoMore (option_to_list last) c.args.self.now.engine.core.outbox
               c.poll.new.self.core.outbox)
-              (sym c.requires.last) c.in-Err.ensures.told;
+              (sym c.requires.last) c.in-Err.ensures.reported;
           traced = λ alive. subst (λ last. EmitsOn same_host_payload host_leader certificate_bytes
               (IsOrder bytes_in_digest) None (option_to_list last) c.args.self.now.engine.core c.poll.new.self.core)
               (sym c.requires.last) c.in-Err.ensures.traced;
@@ -188,9 +188,9 @@ returns-in-Err c =
           refused = λ had.
               let only = c.poll.ensures.refused had in (
                 record {
-                  status_is = told.status ∙ c.number_of_fault-in-Err.ensures
+                  status_is = reported.status ∙ c.number_of_fault-in-Err.ensures
                       ∙ ap fault_status (same_error c.in-Err.is only.0);
-                  nothing = told.nothing.0;
+                  nothing = reported.nothing.0;
                   last = c.requires.last;
                 },
                 only.1,

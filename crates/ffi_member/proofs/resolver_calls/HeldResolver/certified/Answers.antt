@@ -6,7 +6,7 @@ pub returns-in-Err : goal.returns-in-Err
 returns-in-Err c = (
   inr (
     c.in-Err.fault,
-    c.lose.ensures.told,
+    c.lose.ensures.received,
     rw c.lose.ensures.kept.0 c.in-Err.ensures.refused,
     c.lose.ensures.none,
   ),

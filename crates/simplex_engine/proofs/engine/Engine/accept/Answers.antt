@@ -5,9 +5,9 @@ use Rattle.std.proofs.lemmas.Result.{IfOk-weaker}
 use Rattle.simplex_types.specs.Certificates.{certificate_facts}
 use Rattle.simplex_types.specs.Encoding.{certificate_subject}
 use Rattle.engine_outbox.specs.Continuity.{Continues}
-use Rattle.simplex_engine.proofs.Tells.{handed_as, tells_handed, tells_still}
+use Rattle.simplex_engine.proofs.UnfinishedWork.{handed_as, tells_handed, tells_still}
 use Rattle.engine_planner.proofs.PlanStates.{on_ok_both}
-use Rattle.simplex_member.specs.Calls.{told}
+use Rattle.simplex_member.specs.Calls.{reply_facts}
 use Rattle.engine_outbox.specs.CertificateCalls.{certificate_call}
 use Rattle.engine_outbox.specs.Outputs.{work_in}
 use Rattle.engine_planner.specs.Causes.{Quorum, reply_causes}
@@ -37,9 +37,9 @@ returns-clause-continues g c =
 
 pub returns-clause-dropped : goal.returns-clause-dropped
 returns-clause-dropped g c =
-    IfOk-weaker c.follow_certificate.result _ _ (λ is_of_use told no.
+    IfOk-weaker c.follow_certificate.result _ _ (λ is_of_use replied no.
     ap (λ core. core.member.facts) c.follow_certificate.ensures.core
-    ∙ c.in_ok-reply.ensures.refused (not-false _ (sym told ∙ no)))
+    ∙ c.in_ok-reply.ensures.refused (not-false _ (sym replied ∙ no)))
     c.follow_certificate.ensures.of_use
 
 pub returns-clause-acted : goal.returns-clause-acted
@@ -47,12 +47,12 @@ returns-clause-acted g c = λ admitted.
     let same = g.D.PartialEq.eq in
     let elect = g.L.Elector.elect in
     let bytes_of = g.S.CertificateScheme.certificate_bytes in
-    let answer = told bytes_of c.in_ok-reply.reply in
+    let answer = reply_facts bytes_of c.in_ok-reply.reply in
     IfOk-weaker c.follow_certificate.result _ _ (λ is_of_use says. record {
       answer = answer;
       answered = handed_as same elect c.args.self.now.core.member.facts answer c.args.now c.in_ok-copy.ensures.same
           c.follow_certificate.ensures.core c.in_ok-reply.ensures.answered;
-      told = says;
+      useful = says;
     }) c.follow_certificate.ensures.of_use
 
 pub returns-clause-due_work : goal.returns-clause-due_work
@@ -61,7 +61,7 @@ returns-clause-due_work g c =
     let elect = g.L.Elector.elect in
     let bytes_of = g.S.CertificateScheme.certificate_bytes in
     let handed = certificate_facts bytes_of c.args.certificate.now in
-    let answer = told bytes_of c.in_ok-reply.reply in
+    let answer = reply_facts bytes_of c.in_ok-reply.reply in
     on_ok_both c.follow_certificate.result c.follow_certificate.ensures.seen c.follow_certificate.ensures.planned
     (tells_handed c.args.self.now c.follow_certificate.new.self handed c.args.now answer
     (handed_as same elect c.args.self.now.core.member.facts answer c.args.now c.in_ok-copy.ensures.same
@@ -89,7 +89,7 @@ returns-clause-provenance g c =
     let handed = certificate_facts bytes_of c.args.certificate.now in
     let came = Quorum (certificate_subject handed) ∷ [] in
     let answered =
-    handed_as same elect c.args.self.now.core.member.facts (told bytes_of c.in_ok-reply.reply) c.args.now
+    handed_as same elect c.args.self.now.core.member.facts (reply_facts bytes_of c.in_ok-reply.reply) c.args.now
     c.in_ok-copy.ensures.same c.follow_certificate.ensures.core c.in_ok-reply.ensures.answered
     in
     let plain = handed_plain same elect bytes_of c.args.self.now.core.member.facts

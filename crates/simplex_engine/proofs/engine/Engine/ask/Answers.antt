@@ -1,11 +1,11 @@
 -- That a task accepts no certificate, and what its answer says.
 use Rattle.std.proofs.Common.{None, sym, subst, ap, ◌∙◌}
 use Rattle.std.proofs.lemmas.Result.{IfOk-weaker}
-use Rattle.simplex_member.specs.Calls.{told}
+use Rattle.simplex_member.specs.Calls.{reply_facts}
 use Rattle.simplex_member.specs.MemberFacts.{IsCall}
 use Rattle.engine_outbox.specs.Continuity.{Continues}
 use Rattle.engine_planner.specs.Tasks.{call_of}
-use Rattle.simplex_engine.proofs.Tells.{tells_called}
+use Rattle.simplex_engine.proofs.UnfinishedWork.{tells_called}
 use Rattle.engine_planner.proofs.PlanStates.{on_ok, on_ok_both}
 use Rattle.engine_outbox.specs.Outputs.{work_in}
 use Rattle.engine_planner.specs.Causes.{reply_causes}
@@ -19,7 +19,7 @@ returns g c =
     let elect = g.L.Elector.elect in
     let bytes_of = g.S.CertificateScheme.certificate_bytes in
     let before = c.args.self.now.core.member.facts in
-    let answer = told bytes_of c.call-reply.result in
+    let answer = reply_facts bytes_of c.call-reply.result in
     let goes = subst (Continues same elect bytes_of g.S.Scheme.IsSignature None c.args.self.now.core)
     (sym c.follow.ensures.core) (c.call-reply.ensures.quiet c.call.ensures.plain) in
     let answered = subst (λ core. IsCall same elect before (call_of c.args.task c.args.now) answer core.member.facts)
@@ -32,7 +32,7 @@ returns g c =
       acted = IfOk-weaker c.follow.result _ _ (λ is_of_use of_use. record {
         answer = answer;
         answered = answered;
-        told = of_use;
+        useful = of_use;
       }) c.follow.ensures.of_use;
       done = on_ok c.follow.result c.follow.ensures.followed
           (λ followed. record { reply = c.call-reply.result; answered = answered; followed = followed });

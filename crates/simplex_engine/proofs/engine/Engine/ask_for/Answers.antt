@@ -1,12 +1,12 @@
 -- That the call accepts no certificate, and what its answer says.
 use Rattle.std.proofs.Common.{None, sym, subst, ◌∙◌, ap}
-use Rattle.simplex_member.specs.Calls.{told}
+use Rattle.simplex_member.specs.Calls.{reply_facts}
 use Rattle.simplex_member.specs.MemberFacts.{IsCall}
 use Rattle.engine_outbox.specs.Continuity.{Continues}
 use Rattle.engine_planner.specs.Tasks.{call_of}
 use Rattle.simplex_engine.specs.NothingDue.{ReturnsNothing}
 use Rattle.simplex_engine.proofs.OwnSteps.{alone_with}
-use Rattle.simplex_engine.proofs.Tells.{tells_called}
+use Rattle.simplex_engine.proofs.UnfinishedWork.{tells_called}
 use Rattle.engine_outbox.specs.Outputs.{work_in}
 use Rattle.engine_planner.specs.Causes.{reply_causes}
 use Rattle.simplex_engine.proofs.Provenance.{comes_called, hand_asked}
@@ -26,7 +26,7 @@ returns g c =
     let elect = g.L.Elector.elect in
     let bytes_of = g.S.CertificateScheme.certificate_bytes in
     let before = c.args.self.now.core.member.facts in
-    let answer = told bytes_of c.call-reply.result in
+    let answer = reply_facts bytes_of c.call-reply.result in
     let goes = subst (Continues same elect bytes_of g.S.Scheme.IsSignature None c.args.self.now.core)
     (sym c.follow.ensures.core) (c.call-reply.ensures.quiet c.call.ensures.plain) in
     let answered = subst (λ core. IsCall same elect before (call_of c.args.task c.args.now) answer core.member.facts)

@@ -1,9 +1,9 @@
 -- A member with no work continues by the calls that show it.
 use Rattle.std.proofs.Common.{refl, [], inl}
 use Rattle.std.proofs.lemmas.Bool.{and_parts}
-use Rattle.simplex_member.specs.Calls.{told}
+use Rattle.simplex_member.specs.Calls.{reply_facts}
 use Rattle.simplex_engine.proofs.OwnSteps.{alone_further, alone_with}
-use Rattle.simplex_engine.proofs.Tells.{tells_further}
+use Rattle.simplex_engine.proofs.UnfinishedWork.{tells_further}
 use Rattle.engine_planner.specs.declared.task.Task.TheVariants as task
 use Rattle.engine_planner.proofs.Causes.{among_none}
 use Rattle.simplex_engine.proofs.Provenance.{comes_on}
@@ -52,7 +52,7 @@ returns-clause-quiet g c = λ is.
           (c.ask_for-3.new.self.core.member.facts, c.in_ok-has_none-3.ensures.nothing i3.1, refl),
         ),
       );
-      dropped = told g.S.CertificateScheme.certificate_bytes c.in_ok-ask.ensures.done.reply;
+      dropped = reply_facts g.S.CertificateScheme.certificate_bytes c.in_ok-ask.ensures.done.reply;
       left = c.ask.new.self.core.member.facts;
       drops = c.in_ok-ask.ensures.done.answered;
       timed = c.in_ok-has_none-4.ensures.timed i4.1;

@@ -1,7 +1,7 @@
 -- That a call which is planned passes no verdict.
 use Rattle.std.proofs.Common.{refl, sym, subst, inl, ◌∙◌}
 use Rattle.engine_outbox.proofs.Continuity.{stays}
-use Rattle.simplex_engine.proofs.Tells.{tells_still}
+use Rattle.simplex_engine.proofs.UnfinishedWork.{tells_still}
 use Rattle.engine_planner.specs.Causes.{of_task}
 use Rattle.engine_planner.proofs.Causes.{among_last}
 use Rattle.engine_planner.proofs.PlannedWork.{among_more}

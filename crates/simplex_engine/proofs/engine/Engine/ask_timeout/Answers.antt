@@ -1,6 +1,6 @@
 -- That the member is asked for its next timeout, which the engine stores.
 use Rattle.std.proofs.Common.{None, [], refl, sym, subst, ◌∙◌, ap, inl}
-use Rattle.simplex_member.specs.Calls.{told}
+use Rattle.simplex_member.specs.Calls.{reply_facts}
 use Rattle.simplex_member.specs.MemberFacts.{IsCall}
 use Rattle.engine_outbox.specs.Continuity.{Continues}
 use Rattle.engine_outbox.specs.Outputs.{work_in}
@@ -11,7 +11,7 @@ use Rattle.engine_planner.proofs.Causes.{among_none}
 use Rattle.simplex_engine.proofs.OwnSteps.{alone_with}
 use Rattle.simplex_engine.proofs.Provenance.{comes_called, hand_asked}
 use Rattle.simplex_engine.proofs.ReplyWork.{planned_ahead, planned_reply}
-use Rattle.simplex_engine.proofs.Tells.{tells_called}
+use Rattle.simplex_engine.proofs.UnfinishedWork.{tells_called}
 use Rattle.simplex_engine.proofs.Timeouts.{awaited, stores}
 use Rattle.simplex_engine.proofs.engine.Engine.ask_timeout.Goals as goal
 
@@ -30,7 +30,7 @@ returns g c =
     let bytes_of = g.S.CertificateScheme.certificate_bytes in
     let before = c.args.self.now.core.member.facts in
     let asked = call_of task.NextTimeout c.args.now in
-    let answer = told bytes_of c.call-reply.result in
+    let answer = reply_facts bytes_of c.call-reply.result in
     let left = c.follow.new.self in
     let goes = subst (Continues same elect bytes_of g.S.Scheme.IsSignature None c.args.self.now.core)
     (sym c.follow.ensures.core) (c.call-reply.ensures.quiet c.call.ensures.plain) in

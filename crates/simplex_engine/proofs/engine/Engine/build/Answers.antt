@@ -3,7 +3,7 @@ use Rattle.std.proofs.Common.{false, refl, sym, subst, ◌∙◌, inl, [], ◌�
 use Rattle.std.proofs.lemmas.Result.{IfOk-weaker}
 use Rattle.simplex_engine.specs.InputEffects.{IsBlockTaken}
 use Rattle.engine_outbox.proofs.Continuity.{stays}
-use Rattle.simplex_engine.proofs.Tells.{tells_still}
+use Rattle.simplex_engine.proofs.UnfinishedWork.{tells_still}
 use Rattle.engine_planner.specs.declared.task.Task.TheVariants as task
 use Rattle.engine_planner.specs.Causes.{Message}
 use Rattle.engine_planner.proofs.Causes.{among_last}

@@ -32,7 +32,7 @@ returns-then-not-admits_votes g c =
           ∙ ap (λ round. is_so (λ x. admits_votes x round) engine.core.member.facts) c.round_of.ensures.round
           ∙ is));
       due_work = record {
-        stays = λ work told. told;
+        stays = λ work replied. replied;
         works = among_still (work_ahead engine);
         near = λ near. near;
         seen = λ come. come;

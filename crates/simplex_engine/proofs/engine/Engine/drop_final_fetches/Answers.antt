@@ -1,18 +1,18 @@
 -- That a fetch that is closed loses nothing that is planned.
 use Rattle.std.proofs.Common.{ap, [], ◌||◌, true, subst}
-use Rattle.engine_planner.proofs.PlannedWork.{among_still, plans_let_go, keeps_still}
+use Rattle.engine_planner.proofs.PlannedWork.{among_still, plans_dropped, keeps_still}
 use Rattle.engine_planner.specs.Causes.{planned_causes}
-use Rattle.simplex_engine.proofs.Provenance.{lets_go}
-use Rattle.simplex_engine.proofs.Tells.{on_any}
+use Rattle.simplex_engine.proofs.Provenance.{drops_fetches}
+use Rattle.simplex_engine.proofs.UnfinishedWork.{on_any}
 use Rattle.std.specs.Option.{option_map_or}
 use Rattle.std.specs.Prelude.{nat_le, OnOk}
 use Rattle.engine_fetches.specs.OutstandingFetches.{holds}
 use Rattle.engine_planner.specs.FetchRequests.{KeepsFetching}
-use Rattle.engine_planner.proofs.AskedSteps.{lets_go_asks}
+use Rattle.engine_planner.proofs.AskedSteps.{dropped_asks}
 use Rattle.simplex_engine.proofs.engine.Engine.drop_final_fetches.Goals as goal
 
 pub returns-in-Some-clause-planned : goal.returns-in-Some-clause-planned
-returns-in-Some-clause-planned g c = plans_let_go _ _ c.args.self.now.plan c.drop_served.new.self c.drop_served.result
+returns-in-Some-clause-planned g c = plans_dropped _ _ c.args.self.now.plan c.drop_served.new.self c.drop_served.result
     c.drop_served.ensures.same c.drop_served.ensures.kept c.drop_served.ensures.refused
 
 pub returns-in-Some-clause-builds : goal.returns-in-Some-clause-builds
@@ -25,7 +25,7 @@ pub returns-in-None-clause-planned : goal.returns-in-None-clause-planned
 returns-in-None-clause-planned g c = keeps_still
 
 pub returns-in-Some-clause-causes : goal.returns-in-Some-clause-causes
-returns-in-Some-clause-causes g c = lets_go c.drop_served.result _ _ c.args.self.now.plan c.drop_served.new.self
+returns-in-Some-clause-causes g c = drops_fetches c.drop_served.result _ _ c.args.self.now.plan c.drop_served.new.self
     c.drop_served.ensures.same c.drop_served.ensures.kept c.drop_served.ensures.refused
 
 pub returns-in-None-clause-causes : goal.returns-in-None-clause-causes
@@ -38,5 +38,5 @@ returns-in-Some-clause-asks g c =
     (λ x. holds c.drop_served.new.self.repair.resolver.open_fetches x kind view) life true
     || option_map_or (λ x. nat_le view x.finalized) life true) [] c.args.self.now.plan c.drop_served.new.self))
     c.in-Some.ensures.life
-    (lets_go_asks c.drop_served.result c.in-Some.state.now c.args.self.now.plan c.drop_served.new.self
+    (dropped_asks c.drop_served.result c.in-Some.state.now c.args.self.now.plan c.drop_served.new.self
     c.drop_served.ensures.same c.drop_served.ensures.kept)

@@ -11,7 +11,7 @@ use Rattle.simplex_engine.proofs.OwnSteps.{alone_still, forgets_by, forgets_none
 use Rattle.simplex_engine.proofs.CertificateVotes.{takes_no_more, takes_same}
 use Rattle.simplex_engine.proofs.Bounds.{kept_from}
 use Rattle.engine_planner.proofs.PlanStates.{on_ok}
-use Rattle.simplex_engine.proofs.Tells.{tells_further, tells_planned}
+use Rattle.simplex_engine.proofs.UnfinishedWork.{tells_further, tells_planned}
 use Rattle.engine_outbox.specs.Outputs.{work_in}
 use Rattle.simplex_engine.proofs.Provenance.{comes_on, comes_same, hand_alone, risen_facts}
 use Rattle.simplex_engine.proofs.NoMissingCertificates.{forgets_lowest}

@@ -4,7 +4,7 @@ use Rattle.simplex_engine.specs.NothingDue.{HasNothingNew}
 use Rattle.simplex_engine.proofs.OwnSteps.{forgets_further, forgets_none}
 use Rattle.simplex_engine.proofs.ApplicationWork.{ahead_still, short_still}
 use Rattle.engine_planner.specs.PlannedWork.{Constants}
-use Rattle.simplex_engine.proofs.Tells.{tells_further}
+use Rattle.simplex_engine.proofs.UnfinishedWork.{tells_further}
 use Rattle.simplex_engine.proofs.Provenance.{comes_later}
 use Rattle.simplex_engine.proofs.NoMissingCertificates.{forgets_no_lack}
 use Rattle.simplex_engine.proofs.engine.Engine.finish.Goals as goal

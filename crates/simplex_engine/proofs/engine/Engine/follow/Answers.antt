@@ -1,7 +1,7 @@
 -- That nothing but what is planned changes.
 use Rattle.std.proofs.Common.{ap, refl}
 use Rattle.std.specs.Prelude.{not}
-use Rattle.simplex_member.specs.Calls.{told}
+use Rattle.simplex_member.specs.Calls.{reply_facts}
 use Rattle.engine_planner.proofs.PlannedWork.{among_both, among_further, among_still, plans_seen}
 use Rattle.engine_planner.proofs.Consequences.{followed_plans}
 use Rattle.simplex_engine.proofs.BuildBounds.{come_same}
@@ -38,7 +38,7 @@ returns g c =
         followed = c.in_ok-follow.ensures.followed;
       };
       planned = plans_seen c.args.self.now.plan c.update_views.new.self.plan c.follow.new.self c.args.task
-          (told bytes_of c.args.reply) c.in_ok-update_views.ensures.planned follows;
+          (reply_facts bytes_of c.args.reply) c.in_ok-update_views.ensures.planned follows;
       seen = come_same c.update_views.new.self (record (c.update_views.new.self) { plan = c.follow.new.self }) refl
           follows.reached c.in_ok-update_views.ensures.seen;
       causes = among_further

@@ -1,7 +1,7 @@
 -- What follows a vote reports all that the member waits for.
 use Rattle.std.proofs.Common.{[], ◌∷◌, refl, sym, subst}
 use Rattle.engine_planner.proofs.PlannedWork.{has_planned}
-use Rattle.simplex_engine.proofs.Tells.{tells_planned, tells_still}
+use Rattle.simplex_engine.proofs.UnfinishedWork.{tells_planned, tells_still}
 use Rattle.engine_outbox.specs.declared.output.Work.TheVariants as work
 use Rattle.engine_planner.specs.Causes.{WorkItem}
 use Rattle.engine_planner.proofs.Causes.{among_last, planned_more}

@@ -2,7 +2,7 @@
 use Rattle.std.proofs.Common.{refl, sym, ◌∙◌, inl, [], ◌∷◌}
 use Rattle.std.proofs.lemmas.Bool.{false≢true}
 use Rattle.engine_outbox.proofs.Continuity.{stays}
-use Rattle.simplex_engine.proofs.Tells.{tells_still}
+use Rattle.simplex_engine.proofs.UnfinishedWork.{tells_still}
 use Rattle.engine_planner.specs.declared.task.Task.TheVariants as task
 use Rattle.engine_planner.specs.Causes.{Message}
 use Rattle.engine_planner.proofs.Causes.{among_last}

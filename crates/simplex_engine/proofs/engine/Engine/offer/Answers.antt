@@ -10,7 +10,7 @@ use Rattle.engine_outbox.proofs.Continuity.{stays}
 use Rattle.engine_planner.specs.PlannedWork.{AreAmong}
 use Rattle.engine_planner.proofs.PlannedWork.{among_more, among_still, plans_kept}
 use Rattle.simplex_engine.specs.Admission.{stores_early}
-use Rattle.simplex_engine.proofs.Tells.{tells_planned}
+use Rattle.simplex_engine.proofs.UnfinishedWork.{tells_planned}
 use Rattle.simplex_member.specs.Calls as call
 use Rattle.engine_outbox.specs.Outputs.{work_in}
 use Rattle.engine_planner.specs.Causes.{Arrival}

@@ -16,7 +16,7 @@ use Rattle.simplex_engine.proofs.Bounds.{bounded_same}
 use Rattle.engine_outbox.proofs.Continuity.{stays, gives_then, gives_none, gives_later, does_nothing_more, where_ok}
 use Rattle.engine_outbox.specs.Continuity.{EmitsTraced}
 use Rattle.engine_outbox.specs.Signatures.{EmitsSigned}
-use Rattle.simplex_engine.proofs.Tells.{tells_given, still_told, works_given}
+use Rattle.simplex_engine.proofs.UnfinishedWork.{tells_given, still_replied, works_given}
 use Rattle.engine_planner.proofs.Causes.{among_last}
 use Rattle.engine_planner.proofs.PlannedWork.{among_further, among_still}
 use Rattle.engine_planner.proofs.PlanStates.{on_ok}
@@ -32,20 +32,20 @@ returns-then-has_failed-clause-does g c = does_nothing_more c.args.self.now.core
 pub returns-in-Some-clause-does : goal.returns-in-Some-clause-does
 returns-in-Some-clause-does g c = does_nothing_more c.args.self.now.core c.next.new.self c.next.ensures.same.0
 
-pub returns-then-has_failed-clause-told : goal.returns-then-has_failed-clause-told
-returns-then-has_failed-clause-told g c = record { queued = refl; told = refl }
+pub returns-then-has_failed-clause-reported : goal.returns-then-has_failed-clause-reported
+returns-then-has_failed-clause-reported g c = record { queued = refl; reported = refl }
 
-pub returns-in-Some-clause-told : goal.returns-in-Some-clause-told
-returns-in-Some-clause-told g c = subst (λ out.
+pub returns-in-Some-clause-reported : goal.returns-in-Some-clause-reported
+returns-in-Some-clause-reported g c = subst (λ out.
     ReportsNoMore (option_to_list out) c.args.self.now.core.outbox c.next.new.self.outbox) c.in-Some.is
-    c.next.ensures.told
+    c.next.ensures.reported
 
-pub returns-in-None-clause-told : goal.returns-in-None-clause-told
-returns-in-None-clause-told g c =
+pub returns-in-None-clause-reported : goal.returns-in-None-clause-reported
+returns-in-None-clause-reported g c =
     tells_still (returned_outputs c.poll_after_work.result) c.args.self.now.core.outbox c.next.new.self.outbox
     c.poll_after_work.new.self.core.outbox
     (subst (λ out. ReportsNoMore (option_to_list out) c.args.self.now.core.outbox c.next.new.self.outbox) c.in-None.is
-    c.next.ensures.told) c.poll_after_work.ensures.told
+    c.next.ensures.reported) c.poll_after_work.ensures.reported
 
 pub returns-then-has_failed-clause-bounded : goal.returns-then-has_failed-clause-bounded
 returns-then-has_failed-clause-bounded g c =
@@ -73,18 +73,18 @@ returns-in-Some-clause-due_work g c =
 pub returns-in-None-clause-due_work : goal.returns-in-None-clause-due_work
 returns-in-None-clause-due_work g c =
     on_ok c.poll_after_work.result c.poll_after_work.ensures.due_work
-    (λ more given told. more given (still_told c.args.self.now c.next.new.self c.next.ensures.same.0
+    (λ more given reported. more given (still_replied c.args.self.now c.next.new.self c.next.ensures.same.0
     (subst (λ out. c.args.self.now.core.outbox.queue.items ≡ option_to_list out ++ c.next.new.self.outbox.queue.items)
-    c.in-None.is c.next.ensures.front) given told))
+    c.in-None.is c.next.ensures.front) given reported))
 
 pub returns-in-None-clause-waiting : goal.returns-in-None-clause-waiting
 returns-in-None-clause-waiting g c is =
     where_ok c.poll_after_work.result (c.poll_after_work.ensures.waiting
     (stored_beside g.D.PartialEq.eq g.L.Elector.elect g.S.CertificateScheme.certificate_bytes c.args.self.now
     c.next.new.self c.next.ensures.same.0 c.next.ensures.same.1 is))
-    (λ out all none given told. all none given (still_told c.args.self.now c.next.new.self c.next.ensures.same.0
+    (λ out all none given reported. all none given (still_replied c.args.self.now c.next.new.self c.next.ensures.same.0
     (subst (λ out. c.args.self.now.core.outbox.queue.items ≡ option_to_list out ++ c.next.new.self.outbox.queue.items)
-    c.in-None.is c.next.ensures.front) given told))
+    c.in-None.is c.next.ensures.front) given reported))
 
 pub returns-then-has_failed-clause-held : goal.returns-then-has_failed-clause-held
 returns-then-has_failed-clause-held g c =

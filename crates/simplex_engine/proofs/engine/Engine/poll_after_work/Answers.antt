@@ -19,7 +19,7 @@ use Rattle.simplex_engine.proofs.CertificateVotes.{takes_nothing}
 use Rattle.simplex_engine.proofs.OwnSteps.{forgets_as, forgets_nothing}
 use Rattle.simplex_engine.proofs.Provenance.{comes_still, comes_then, hand_given, risen_facts}
 use Rattle.simplex_engine.proofs.NoMissingCertificates.{forgets_no_lack}
-use Rattle.simplex_engine.proofs.Tells.{tells_given, all_left, works_given}
+use Rattle.simplex_engine.proofs.UnfinishedWork.{tells_given, all_left, works_given}
 use Rattle.simplex_engine.proofs.engine.Engine.poll_after_work.Goals as goal
 
 pub returns-then-has_settled-clause-settles : goal.returns-then-has_settled-clause-settles
@@ -39,8 +39,8 @@ returns-then-has_settled-clause-does g c = does_nothing_more c.args.self.now.cor
 pub returns-then-has_settled-clause-traced : goal.returns-then-has_settled-clause-traced
 returns-then-has_settled-clause-traced g c = gives_none (stays c.args.self.now.core)
 
-pub returns-then-has_settled-clause-told : goal.returns-then-has_settled-clause-told
-returns-then-has_settled-clause-told g c = record { queued = refl; told = refl }
+pub returns-then-has_settled-clause-reported : goal.returns-then-has_settled-clause-reported
+returns-then-has_settled-clause-reported g c = record { queued = refl; reported = refl }
 
 pub returns-then-has_settled-clause-settled : goal.returns-then-has_settled-clause-settled
 returns-then-has_settled-clause-settled g c given kept is = is
@@ -78,9 +78,9 @@ pub returns-then-has_settled-clause-due_work : goal.returns-then-has_settled-cla
 returns-then-has_settled-clause-due_work g c = tells_given c.args.self.now c.args.self.now [] refl refl refl
 
 pub returns-then-has_settled-clause-waiting : goal.returns-then-has_settled-clause-waiting
-returns-then-has_settled-clause-waiting g c is none given told =
+returns-then-has_settled-clause-waiting g c is none given reported =
     all_left c.args.self.now c.args.self.now None refl refl c.requires.empty
-    (returns-then-has_settled-clause-rest g c is none).settled.idle.steps refl refl given told
+    (returns-then-has_settled-clause-rest g c is none).settled.idle.steps refl refl given reported
 
 pub returns-then-has_settled-clause-works : goal.returns-then-has_settled-clause-works
 returns-then-has_settled-clause-works g c = works_given c.args.self.now c.args.self.now [] refl refl
@@ -141,13 +141,13 @@ pub returns-in-Ok-clause-does : goal.returns-in-Ok-clause-does
 returns-in-Ok-clause-does g c = does_more c.args.self.now.core c.work.new.self.core c.next.new.self
     c.work.ensures.alone.continues c.next.ensures.same.0
 
-pub returns-in-Ok-clause-told : goal.returns-in-Ok-clause-told
-returns-in-Ok-clause-told g c =
+pub returns-in-Ok-clause-reported : goal.returns-in-Ok-clause-reported
+returns-in-Ok-clause-reported g c =
     tells_no_other_then c.args.self.now.core c.work.new.self.core c.work.ensures.alone.continues c.next.new.self
-    (option_to_list c.next.result) c.next.ensures.told
+    (option_to_list c.next.result) c.next.ensures.reported
 
-pub returns-in-Err-clause-told : goal.returns-in-Err-clause-told
-returns-in-Err-clause-told g c = tells_no_other c.args.self.now.core c.fail.new.self
+pub returns-in-Err-clause-reported : goal.returns-in-Err-clause-reported
+returns-in-Err-clause-reported g c = tells_no_other c.args.self.now.core c.fail.new.self
     (goes_further c.work.ensures.alone.continues c.fail.ensures.continues)
 
 pub returns-in-Ok-clause-votes : goal.returns-in-Ok-clause-votes
@@ -181,17 +181,17 @@ returns-in-Err-clause-bounded g c =
     (bounded_still g.S.CertificateScheme.participants c.fail.ensures.continues (takes_nothing c.work.new.self.batcher))
 
 pub returns-in-Ok-clause-due_work : goal.returns-in-Ok-clause-due_work
-returns-in-Ok-clause-due_work g c = λ given told.
+returns-in-Ok-clause-due_work g c = λ given reported.
     tells_given c.work.new.self (record (c.work.new.self) { core = c.next.new.self }) (option_to_list c.next.result)
     c.next.ensures.same.0 refl c.next.ensures.front given
-    (c.in-Ok.ensures.due_work.stays (work_in given) told)
+    (c.in-Ok.ensures.due_work.stays (work_in given) reported)
 
 pub returns-in-Ok-clause-waiting : goal.returns-in-Ok-clause-waiting
-returns-in-Ok-clause-waiting g c = λ _ none given told.
+returns-in-Ok-clause-waiting g c = λ _ none given reported.
     all_left c.work.new.self (record (c.work.new.self) { core = c.next.new.self }) c.next.result none
     c.next.ensures.same.0 (c.next.ensures.none none) c.in-Ok.ensures.settled.idle.steps refl c.next.ensures.front
     given
-    (c.in-Ok.ensures.due_work.stays (work_in given) told)
+    (c.in-Ok.ensures.due_work.stays (work_in given) reported)
 
 pub returns-in-Ok-clause-held : goal.returns-in-Ok-clause-held
 returns-in-Ok-clause-held g c = forgets_as c.work.new.self.core c.next.new.self c.args.self.now.batcher

@@ -1,7 +1,7 @@
 -- That the views which are over are dropped first, and then the record is made short.
 use Rattle.std.proofs.Common.{ap, refl, [], inl}
 use Rattle.engine_outbox.proofs.Continuity.{goes_further}
-use Rattle.simplex_engine.proofs.Tells.{tells_further, tells_beside}
+use Rattle.simplex_engine.proofs.UnfinishedWork.{tells_further, tells_beside}
 use Rattle.engine_planner.specs.declared.task.Task.TheVariants as task
 use Rattle.engine_planner.specs.Causes.{planned_causes}
 use Rattle.engine_planner.proofs.Causes.{among_none}

@@ -1,6 +1,6 @@
 -- That nothing is done but to queue the work.
 use Rattle.std.proofs.Common.{refl, ap}
-use Rattle.simplex_engine.proofs.Tells.{tells_pushed}
+use Rattle.simplex_engine.proofs.UnfinishedWork.{tells_pushed}
 use Rattle.simplex_engine.proofs.Provenance.{comes_still, hand_pushed}
 use Rattle.simplex_engine.proofs.NoMissingCertificates.{work_lacks_none}
 use Rattle.simplex_engine.proofs.engine.Engine.push.Goals as goal

@@ -1,6 +1,6 @@
 -- That nothing is done but to queue a vote once more.
 use Rattle.std.proofs.Common.{refl, ap}
-use Rattle.simplex_engine.proofs.Tells.{tells_beside}
+use Rattle.simplex_engine.proofs.UnfinishedWork.{tells_beside}
 use Rattle.engine_outbox.proofs.QueuedOutputs.{repeated_no_work}
 use Rattle.engine_planner.specs.Causes.{planned_causes}
 use Rattle.engine_planner.proofs.PlannedWork.{among_still}

@@ -1,7 +1,7 @@
 -- That nothing is done but to queue the work.
 use Rattle.std.proofs.Common.{refl, ap}
 use Rattle.simplex_engine.proofs.OwnSteps.{alone_still}
-use Rattle.simplex_engine.proofs.Tells.{tells_beside, tells_still}
+use Rattle.simplex_engine.proofs.UnfinishedWork.{tells_beside, tells_still}
 use Rattle.engine_outbox.specs.declared.output.Work.TheVariants as work
 use Rattle.engine_planner.specs.Causes.{of_work}
 use Rattle.engine_planner.proofs.Causes.{among_last}

@@ -6,7 +6,7 @@ use Rattle.simplex_member.specs.Journal.{IsResumed}
 use Rattle.laws_safety.specs.MemberHistory.{HasContinued}
 use Rattle.simplex_engine.proofs.Bounds.{bounded_empty}
 use Rattle.engine_outbox.proofs.Continuity.{where_ok}
-use Rattle.simplex_engine.proofs.Tells.{restart_waits, tells_none}
+use Rattle.simplex_engine.proofs.UnfinishedWork.{restart_waits, tells_none}
 use Rattle.std.proofs.lemmas.Bool.{eqb-true}
 use Rattle.simplex_engine.proofs.EngineStart.{has_retry, engine_not_started}
 use Rattle.simplex_engine.proofs.Provenance.{both_ok, nothing_held}

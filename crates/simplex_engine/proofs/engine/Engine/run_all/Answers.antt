@@ -1,7 +1,7 @@
 -- Each run continues from the ones before.
 use Rattle.std.proofs.Common.{refl}
 use Rattle.simplex_engine.proofs.OwnSteps.{alone_still, alone_further}
-use Rattle.simplex_engine.proofs.Tells.{tells_still, tells_further}
+use Rattle.simplex_engine.proofs.UnfinishedWork.{tells_still, tells_further}
 use Rattle.engine_planner.proofs.PlannedWork.{among_still}
 use Rattle.simplex_engine.specs.Provenance.{pending_causes}
 use Rattle.simplex_engine.proofs.Provenance.{comes_on, comes_still}

@@ -9,7 +9,7 @@ use Rattle.engine_planner.proofs.PlanStates.{on_ok}
 use Rattle.simplex_engine.specs.BuildBounds.{BuildsAhead}
 use Rattle.simplex_engine.specs.NothingDue.{IsQuiet}
 use Rattle.simplex_engine.proofs.OwnSteps.{alone_further, alone_with}
-use Rattle.simplex_engine.proofs.Tells.{tells_further, tells_planned}
+use Rattle.simplex_engine.proofs.UnfinishedWork.{tells_further, tells_planned}
 use Rattle.engine_outbox.specs.Outputs.{work_in}
 use Rattle.simplex_engine.proofs.Provenance.{comes_on, comes_same, hand_alone, risen_facts}
 use Rattle.engine_planner.proofs.AskedSteps.{asks_over}

@@ -5,7 +5,7 @@ use Rattle.simplex_engine.specs.BuildBounds.{BuildsAhead}
 use Rattle.simplex_engine.specs.NothingDue.{HasNothingNew}
 use Rattle.simplex_engine.proofs.OwnSteps.{alone_still, alone_further}
 use Rattle.simplex_engine.proofs.ApplicationWork.{ahead_still}
-use Rattle.simplex_engine.proofs.Tells.{tells_still, tells_further}
+use Rattle.simplex_engine.proofs.UnfinishedWork.{tells_still, tells_further}
 use Rattle.engine_planner.proofs.PlannedWork.{among_still}
 use Rattle.simplex_engine.specs.Provenance.{pending_causes}
 use Rattle.simplex_engine.proofs.Provenance.{comes_on, comes_still}

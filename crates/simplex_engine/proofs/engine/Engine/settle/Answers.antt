@@ -5,7 +5,7 @@ use Rattle.simplex_voter.specs.Windows.{min_active}
 use Rattle.engine_votes.specs.StoredVotes.{HoldsFrom}
 use Rattle.engine_fetches.specs.OutstandingFetches.{holds, FetchesTheMissing}
 use Rattle.simplex_engine.proofs.OwnSteps.{forgets_then}
-use Rattle.simplex_engine.proofs.Tells.{tells_further, tells_beside}
+use Rattle.simplex_engine.proofs.UnfinishedWork.{tells_further, tells_beside}
 use Rattle.engine_planner.specs.Causes.{planned_causes}
 use Rattle.engine_planner.proofs.PlannedWork.{among_still}
 use Rattle.simplex_engine.proofs.Provenance.{comes_still, comes_then, hand_alone, risen_facts}

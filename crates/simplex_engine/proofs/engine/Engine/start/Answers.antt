@@ -6,7 +6,7 @@ use Rattle.simplex_member.specs.Start.{started_member}
 use Rattle.laws_safety.specs.MemberHistory.{HasStarted}
 use Rattle.simplex_engine.proofs.Bounds.{bounded_empty}
 use Rattle.engine_outbox.proofs.Continuity.{where_ok}
-use Rattle.simplex_engine.proofs.Tells.{tells_none}
+use Rattle.simplex_engine.proofs.UnfinishedWork.{tells_none}
 use Rattle.std.proofs.lemmas.Bool.{eqb-true}
 use Rattle.simplex_engine.proofs.EngineStart.{has_retry, engine_not_started}
 use Rattle.simplex_engine.proofs.Provenance.{both_ok, nothing_held}

@@ -5,7 +5,7 @@ use Rattle.engine_planner.specs.StepSelection.{HasTaken}
 use Rattle.engine_planner.specs.PlannedWork.{AreAmong, IsPlanned, beside_of, work_planned}
 use Rattle.engine_planner.proofs.StepSelection.{taken_keeps}
 use Rattle.engine_outbox.proofs.Continuity.{stays}
-use Rattle.simplex_engine.proofs.Tells.{tells_planned, tells_taken}
+use Rattle.simplex_engine.proofs.UnfinishedWork.{tells_planned, tells_taken}
 use Rattle.engine_planner.specs.Causes.{of_steps, planned_causes}
 use Rattle.engine_planner.proofs.GivenWork.{taken_alone}
 use Rattle.engine_planner.proofs.PlanStates.{on_ok}

@@ -2,7 +2,7 @@
 use Rattle.std.proofs.Common.{◌≡◌, Bool, true, false, not, refl, ap, subst}
 use Rattle.std.proofs.lemmas.Bool.{false≢true}
 use Rattle.engine_outbox.specs.RecordReach.{IsShort}
-use Rattle.simplex_engine.proofs.Tells.{tells_beside}
+use Rattle.simplex_engine.proofs.UnfinishedWork.{tells_beside}
 use Rattle.engine_planner.specs.Causes.{planned_causes}
 use Rattle.engine_planner.proofs.PlannedWork.{among_still}
 use Rattle.simplex_engine.proofs.Provenance.{comes_still, hand_alone}

@@ -12,7 +12,7 @@ use Rattle.engine_planner.specs.Causes.{Message}
 use Rattle.engine_planner.proofs.PlannedWork.{among_more}
 use Rattle.engine_planner.proofs.PlanStates.{on_ok}
 use Rattle.simplex_engine.specs.Provenance.{pending_causes}
-use Rattle.simplex_engine.proofs.Provenance.{told_verified}
+use Rattle.simplex_engine.proofs.Provenance.{replied_verified}
 use Rattle.simplex_engine.proofs.engine.Engine.take_in.Goals as goal
 
 pub returns-in-Proposal : goal.returns-in-Proposal
@@ -48,7 +48,7 @@ returns-in-Verified g c =
     g.S.Assembly.IsMadeOf g.S.CertificateScheme.participants c.args.now
     c.args.input (input.Verified c.in-Verified.view c.in-Verified.is_valid) c.args.self.now c.ask.new.self c.ask.result
     c.in-Verified.is c.ask.ensures.continues c.ask.ensures.batcher tt c.ask.ensures.due_work
-    (told_verified g.D.PartialEq.eq g.L.Elector.elect g.D.Digest.bytes g.S.CertificateScheme.certificate_bytes
+    (replied_verified g.D.PartialEq.eq g.L.Elector.elect g.D.Digest.bytes g.S.CertificateScheme.certificate_bytes
     c.args.now c.in-Verified.is_valid c.in-Verified.view c.args.self.now c.ask.new.self c.ask.result
     c.verification.ensures c.ask.ensures.provenance)
     (λ no. absurd (false≢true (sym no))) (λ _.

@@ -7,7 +7,7 @@ use Rattle.engine_planner.specs.declared.plan.Step.TheVariants as step
 use Rattle.simplex_engine.proofs.OwnSteps.{alone_with}
 use Rattle.engine_outbox.proofs.Continuity.{stays}
 use Rattle.engine_planner.proofs.PlanStates.{on_ok}
-use Rattle.simplex_engine.proofs.Tells.{on_any, passed_on, tells_other, tells_planned}
+use Rattle.simplex_engine.proofs.UnfinishedWork.{on_any, passed_on, tells_other, tells_planned}
 use Rattle.engine_outbox.specs.Outputs.{work_in}
 use Rattle.engine_planner.specs.Causes.{MissingCertificate, of_step}
 use Rattle.simplex_engine.specs.Provenance.{IsCausedWith}

@@ -2,7 +2,7 @@
 use Rattle.std.proofs.Common.{refl, ap, ◌∙◌}
 use Rattle.engine_outbox.proofs.Continuity.{stays}
 use Rattle.simplex_engine.proofs.OwnSteps.{forgets_further}
-use Rattle.simplex_engine.proofs.Tells.{tells_further, tells_planned}
+use Rattle.simplex_engine.proofs.UnfinishedWork.{tells_further, tells_planned}
 use Rattle.engine_planner.proofs.PlannedWork.{among_all, plans_begun}
 use Rattle.engine_planner.proofs.PlanStates.{on_ok, on_ok_both}
 use Rattle.engine_planner.specs.Causes.{planned_causes}

@@ -24,7 +24,7 @@ returns-clause-plan g c =
           c.args.options.retry resolver c.in_ok-repair.repair
           c.new-2.result.repair c.new-2.ensures.repair
           (subst (λ entries. HasReceivedCalls term_length (Replayed ∷ calls_of bytes (reverse entries)) resolver)
-          c.record.ensures.entries c.in_ok-resolver.ensures.told)
+          c.record.ensures.entries c.in_ok-resolver.ensures.received)
           c.in_ok-repair.ensures.resolver
           (c.in_ok-repair.ensures.fetches ∙ ap (wanting resolver.open_fetches) c.new-fetches.ensures.none)
           (c.in_ok-repair.ensures.same.0 ∙ c.new-fetches.ensures.parts.0)

@@ -2,7 +2,7 @@
 -- refused.
 use Rattle.std.proofs.Common.{map, refl}
 use Rattle.std.proofs.lemmas.Result.{err_from_is_err_and, IfOk-weaker, IfErr-weaker}
-use Rattle.simplex_member.specs.Calls.{told}
+use Rattle.simplex_member.specs.Calls.{reply_facts}
 use Rattle.simplex_member.specs.Runs.{steps_of}
 use Rattle.simplex_record.specs.Start.{start_facts}
 use Rattle.simplex_member.proofs.Runs.{run_from, ends_later, ends_at_once}
@@ -28,7 +28,7 @@ returns-clause-whole g c =
     g.L.Elector.elects_early bytes_of c.args.steps.items in
     IfOk-weaker c.take_steps.result _ _
     (λ replies is. run_from g.D.PartialEq.eq g.L.Elector.elect start steps c.in_ok-member.member.facts
-    (map (told bytes_of) replies.items) c.take_steps.new.member.facts c.in_ok-member.ensures.started
+    (map (reply_facts bytes_of) replies.items) c.take_steps.new.member.facts c.in_ok-member.ensures.started
     c.in_ok-member.ensures.accepted is)
     c.take_steps.ensures.whole
 

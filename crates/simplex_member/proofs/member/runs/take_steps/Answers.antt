@@ -5,7 +5,7 @@ use Rattle.std.proofs.lemmas.Iterator.Consumers.{YieldsList-so_far, YieldsList-t
 use Rattle.std.proofs.lemmas.Iterator.Adapters.{YieldsList-from_vec}
 use Rattle.std.proofs.lemmas.List.{map-append}
 use Rattle.std.proofs.lemmas.Result.{err_from_is_err_and}
-use Rattle.simplex_member.specs.Calls.{told}
+use Rattle.simplex_member.specs.Calls.{reply_facts}
 use Rattle.simplex_member.specs.Runs.{step_facts}
 use Rattle.simplex_member.proofs.Runs.{run_extends, run_ends, replies_answer, met_next, set_up_at}
 use Rattle.simplex_member.proofs.member.runs.take_steps.Goals as goal
@@ -31,11 +31,11 @@ loop-step-preserved g c =
       c.push_reserved.ensures,
       c.reserve.ensures.items,
       map-append facts_of c.loop-step.yielded (c.in-Some.step ∷ []),
-      map-append (told bytes_of) c.loop-step.replies.items (c.in_ok-reply.reply ∷ []),
+      map-append (reply_facts bytes_of) c.loop-step.replies.items (c.in_ok-reply.reply ∷ []),
     )
     (run_extends g.D.PartialEq.eq g.L.Elector.elect c.args.member.now.facts (map facts_of c.loop-step.yielded)
-    (map (told bytes_of) c.loop-step.replies.items) c.loop-step.member.facts (facts_of c.in-Some.step)
-    (told bytes_of c.in_ok-reply.reply) c.take_step.new.member.facts c.loop-step.invariant
+    (map (reply_facts bytes_of) c.loop-step.replies.items) c.loop-step.member.facts (facts_of c.in-Some.step)
+    (reply_facts bytes_of c.in_ok-reply.reply) c.take_step.new.member.facts c.loop-step.invariant
     c.in_ok-reply.ensures.taken)
 
 pub returns-in_err-reply-clause-ended : goal.returns-in_err-reply-clause-ended
@@ -54,7 +54,7 @@ returns-in_err-reply-clause-ended g c =
     let p = err_from_is_err_and c.from_residual-in_err-reply.result c.from_residual-in_err-reply.ensures.1 in
     rw (p.1, p.2)
     (inr (rw (ap (map facts_of) is, map-append facts_of c.loop-step.yielded (c.in-Some.step ∷ rest))
-    (run_ends g.D.PartialEq.eq g.L.Elector.elect (told bytes_of) c.args.member.now.facts
+    (run_ends g.D.PartialEq.eq g.L.Elector.elect (reply_facts bytes_of) c.args.member.now.facts
     (map facts_of c.loop-step.yielded) c.loop-step.replies.items c.loop-step.member.facts (facts_of c.in-Some.step)
     (map facts_of rest) c.in_err-reply.field-0.0 (replies_answer bytes_of) c.loop-step.invariant
     c.in_err-reply.ensures.refused)))

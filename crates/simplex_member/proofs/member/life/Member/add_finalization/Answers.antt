@@ -8,7 +8,7 @@ use Rattle.simplex_record.specs.Entries.{entries_of}
 use Rattle.simplex_member.specs.Calls.{Added, AddFinalization}
 use Rattle.simplex_member.specs.MemberFacts.{MemberFacts, living, open_while}
 use Rattle.simplex_member.proofs.CallResults.{wanting_call}
-use Rattle.simplex_member.proofs.PartialFailures.{part_goes_on, part_of_state, part_made, ended_so, new_recorded, state_ends, told_answered, told_kept}
+use Rattle.simplex_member.proofs.PartialFailures.{part_goes_on, part_of_state, part_made, ended_so, new_recorded, state_ends, replied_answered, replied_kept}
 use Rattle.simplex_member.proofs.member.life.Member.add_finalization.Goals as goal
 
 pub invariant_of-self-2 : goal.invariant_of-self-2
@@ -91,12 +91,12 @@ returns-clause-made g c =
     (sym c.takes_round.ensures ∙ c.if-not-takes_round.false)) p.result p.new.self m.outstanding_work _ part)
 
 pub returns-clause-answered : goal.returns-clause-answered
-returns-clause-answered g c = told_answered g.D.PartialEq.eq g.L.Elector.elect c.args.self.now.facts
+returns-clause-answered g c = replied_answered g.D.PartialEq.eq g.L.Elector.elect c.args.self.now.facts
     (AddFinalization (finalization_facts g.S.CertificateScheme.certificate_bytes c.args.finalization) c.args.now)
     (λ added. Added added.0 added.1) (λ t A is. is) c.map_err.result _ (returns-clause-made g c)
 
 pub returns-clause-kept : goal.returns-clause-kept
-returns-clause-kept g c = told_kept g.D.PartialEq.eq g.L.Elector.elect c.args.self.now.facts
+returns-clause-kept g c = replied_kept g.D.PartialEq.eq g.L.Elector.elect c.args.self.now.facts
     (AddFinalization (finalization_facts g.S.CertificateScheme.certificate_bytes c.args.finalization) c.args.now)
     (λ added. Added added.0 added.1) c.map_err.result _ (returns-clause-made g c)
 

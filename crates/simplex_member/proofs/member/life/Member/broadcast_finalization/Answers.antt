@@ -4,11 +4,11 @@ use Rattle.std.proofs.Common.{ap, false, option_map, refl, sym, ◌∙◌}
 use Rattle.std.proofs.lemmas.List.{append-nil}
 use Rattle.std.proofs.lemmas.Result.{IfOk-weaker}
 use Rattle.simplex_types.specs.Certificates.{certificate_facts}
-use Rattle.simplex_member.proofs.HandedOut.{finalization_none_left, finalization_handed_once}
+use Rattle.simplex_member.proofs.ReturnedCertificates.{finalization_none_left, finalization_handed_once}
 use Rattle.simplex_record.specs.Entries.{entries_of}
 use Rattle.simplex_member.specs.Calls.{BroadcastFinalization, Returned}
 use Rattle.simplex_member.specs.MemberFacts.{MemberFacts, living, open_while}
-use Rattle.simplex_member.proofs.PartialFailures.{part_goes_on, part_made, ended_so, told_answered, told_kept, so_ok, same_on_err, kept_shut, on_answer}
+use Rattle.simplex_member.proofs.PartialFailures.{part_goes_on, part_made, ended_so, replied_answered, replied_kept, so_ok, same_on_err, kept_shut, on_answer}
 use Rattle.simplex_member.proofs.member.life.Member.broadcast_finalization.Goals as goal
 
 pub invariant_of-self : goal.invariant_of-self
@@ -59,13 +59,13 @@ returns-clause-made g c =
     }))
 
 pub returns-clause-answered : goal.returns-clause-answered
-returns-clause-answered g c = told_answered g.D.PartialEq.eq g.L.Elector.elect c.args.self.now.facts
+returns-clause-answered g c = replied_answered g.D.PartialEq.eq g.L.Elector.elect c.args.self.now.facts
     (BroadcastFinalization c.args.view) (λ certificate.
     Returned (option_map (certificate_facts g.S.CertificateScheme.certificate_bytes) certificate)) (λ t A is. is)
     c.map_err.result _ (returns-clause-made g c)
 
 pub returns-clause-kept : goal.returns-clause-kept
-returns-clause-kept g c = told_kept g.D.PartialEq.eq g.L.Elector.elect c.args.self.now.facts
+returns-clause-kept g c = replied_kept g.D.PartialEq.eq g.L.Elector.elect c.args.self.now.facts
     (BroadcastFinalization c.args.view) (λ certificate.
     Returned (option_map (certificate_facts g.S.CertificateScheme.certificate_bytes) certificate)) c.map_err.result _
     (returns-clause-made g c)

@@ -7,7 +7,7 @@ use Rattle.simplex_record.specs.Entries.{entries_of}
 use Rattle.simplex_member.specs.Calls.{Certified, Judged}
 use Rattle.simplex_member.specs.MemberFacts.{MemberFacts, living, open_while}
 use Rattle.simplex_member.proofs.CallResults.{wanting_call}
-use Rattle.simplex_member.proofs.PartialFailures.{part_goes_on, part_made, ended_so, told_answered, told_kept}
+use Rattle.simplex_member.proofs.PartialFailures.{part_goes_on, part_made, ended_so, replied_answered, replied_kept}
 use Rattle.simplex_member.proofs.member.life.Member.certified.Goals as goal
 
 pub invariant_of-self-2 : goal.invariant_of-self-2
@@ -77,13 +77,13 @@ returns-clause-made g c =
     }))
 
 pub returns-clause-answered : goal.returns-clause-answered
-returns-clause-answered g c = told_answered g.D.PartialEq.eq g.L.Elector.elect c.args.self.now.facts
+returns-clause-answered g c = replied_answered g.D.PartialEq.eq g.L.Elector.elect c.args.self.now.facts
     (Certified c.args.view c.args.success c.args.now)
     (λ notarization. Judged c.args.success (option_map (notarization_facts g.S.CertificateScheme.certificate_bytes)
     notarization)) (λ t A is. is) c.map_err.result _ (returns-clause-made g c)
 
 pub returns-clause-kept : goal.returns-clause-kept
-returns-clause-kept g c = told_kept g.D.PartialEq.eq g.L.Elector.elect c.args.self.now.facts
+returns-clause-kept g c = replied_kept g.D.PartialEq.eq g.L.Elector.elect c.args.self.now.facts
     (Certified c.args.view c.args.success c.args.now)
     (λ notarization. Judged c.args.success (option_map (notarization_facts g.S.CertificateScheme.certificate_bytes)
     notarization)) c.map_err.result _ (returns-clause-made g c)

@@ -6,7 +6,7 @@ use Rattle.std.proofs.lemmas.Result.{IfOk-weaker}
 use Rattle.simplex_record.specs.Entries.{entries_of}
 use Rattle.simplex_member.specs.Calls.{CertifyCandidates, Candidates}
 use Rattle.simplex_member.specs.MemberFacts.{MemberFacts, living, open_while}
-use Rattle.simplex_member.proofs.PartialFailures.{part_goes_on, part_made, ended_so, told_answered, told_kept, so_ok, same_on_err}
+use Rattle.simplex_member.proofs.PartialFailures.{part_goes_on, part_made, ended_so, replied_answered, replied_kept, so_ok, same_on_err}
 use Rattle.simplex_member.proofs.member.life.Member.certify_candidates.Goals as goal
 
 pub invariant_of-self : goal.invariant_of-self
@@ -56,10 +56,11 @@ returns-clause-made g c =
     }))
 
 pub returns-clause-answered : goal.returns-clause-answered
-returns-clause-answered g c = told_answered g.D.PartialEq.eq g.L.Elector.elect c.args.self.now.facts CertifyCandidates
+returns-clause-answered g c = replied_answered g.D.PartialEq.eq g.L.Elector.elect c.args.self.now.facts
+    CertifyCandidates
     (λ candidates. Candidates candidates.0.items candidates.1.items) (λ t A is. is) c.map_err.result _
     (returns-clause-made g c)
 
 pub returns-clause-kept : goal.returns-clause-kept
-returns-clause-kept g c = told_kept g.D.PartialEq.eq g.L.Elector.elect c.args.self.now.facts CertifyCandidates
+returns-clause-kept g c = replied_kept g.D.PartialEq.eq g.L.Elector.elect c.args.self.now.facts CertifyCandidates
     (λ candidates. Candidates candidates.0.items candidates.1.items) c.map_err.result _ (returns-clause-made g c)

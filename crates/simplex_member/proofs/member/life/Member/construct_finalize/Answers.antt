@@ -9,7 +9,7 @@ use Rattle.simplex_member.specs.CallSemantics.{vote_entry, finalize_vote}
 use Rattle.simplex_member.specs.MemberFacts.{MemberFacts, living, open_while}
 use Rattle.simplex_member.specs.ReplySignatures.{IsSignedReply}
 use Rattle.simplex_member.specs.declared.member.calls.Reply.TheVariants as reply
-use Rattle.simplex_member.proofs.PartialFailures.{part_goes_on, part_made, part_of_vote, vote_kept, lost_ends, so_ok, ended_so, ended_ok, ended_err, told_answered, told_kept, finalize_made, finalize_is_signed}
+use Rattle.simplex_member.proofs.PartialFailures.{part_goes_on, part_made, part_of_vote, vote_kept, lost_ends, so_ok, ended_so, ended_ok, ended_err, replied_answered, replied_kept, finalize_made, finalize_is_signed}
 use Rattle.simplex_member.proofs.Voted.{finalize_decided, finalize_once, finalize_barred}
 use Rattle.simplex_member.proofs.member.life.Member.construct_finalize.Goals as goal
 
@@ -62,12 +62,12 @@ returns-clause-made g c =
     (rw c.reserve.ensures.items at q.ensures.kept) (rw c.reserve.ensures.items at q.ensures.same_record)))
 
 pub returns-clause-answered : goal.returns-clause-answered
-returns-clause-answered g c = told_answered g.D.PartialEq.eq g.L.Elector.elect c.args.self.now.facts
+returns-clause-answered g c = replied_answered g.D.PartialEq.eq g.L.Elector.elect c.args.self.now.facts
     (ConstructFinalize c.args.view) (λ vote. Finalize (reply_finalize vote)) (λ t A is. is) c.map_err.result _
     (returns-clause-made g c)
 
 pub returns-clause-kept : goal.returns-clause-kept
-returns-clause-kept g c = told_kept g.D.PartialEq.eq g.L.Elector.elect c.args.self.now.facts
+returns-clause-kept g c = replied_kept g.D.PartialEq.eq g.L.Elector.elect c.args.self.now.facts
     (ConstructFinalize c.args.view) (λ vote. Finalize (reply_finalize vote)) c.map_err.result _
     (returns-clause-made g c)
 

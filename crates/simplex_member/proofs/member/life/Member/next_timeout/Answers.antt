@@ -5,7 +5,7 @@ use Rattle.simplex_record.specs.Entries.{entries_of}
 use Rattle.simplex_member.specs.Calls.{NextTimeout, TimesOut}
 use Rattle.simplex_member.specs.MemberFacts.{MemberFacts, living, open_while}
 use Rattle.simplex_member.proofs.CallResults.{call_goes_on, call_of_answer, answered_unrecorded, refused_call, refused_only, answered_only}
-use Rattle.simplex_member.proofs.PartialFailures.{told_answered, told_kept}
+use Rattle.simplex_member.proofs.PartialFailures.{replied_answered, replied_kept}
 use Rattle.simplex_member.proofs.member.life.Member.next_timeout.Goals.{in-Ok, in-Err}
 use Rattle.simplex_member.proofs.member.life.Member.next_timeout.Goals as goal
 
@@ -50,10 +50,10 @@ returns-clause-made g c =
     ])
 
 pub returns-clause-answered : goal.returns-clause-answered
-returns-clause-answered g c = told_answered g.D.PartialEq.eq g.L.Elector.elect c.args.self.now.facts
+returns-clause-answered g c = replied_answered g.D.PartialEq.eq g.L.Elector.elect c.args.self.now.facts
     (NextTimeout c.args.now) (λ timeout. TimesOut (Some timeout)) (λ t A is. is) c.match-next_timeout.result _
     (returns-clause-made g c)
 
 pub returns-clause-kept : goal.returns-clause-kept
-returns-clause-kept g c = told_kept g.D.PartialEq.eq g.L.Elector.elect c.args.self.now.facts (NextTimeout c.args.now)
+returns-clause-kept g c = replied_kept g.D.PartialEq.eq g.L.Elector.elect c.args.self.now.facts (NextTimeout c.args.now)
     (λ timeout. TimesOut (Some timeout)) c.match-next_timeout.result _ (returns-clause-made g c)

@@ -5,7 +5,7 @@ use Rattle.std.proofs.lemmas.Result.{IfOk-weaker}
 use Rattle.simplex_record.specs.Entries.{entries_of}
 use Rattle.simplex_member.specs.Calls.{Prune, Dropped}
 use Rattle.simplex_member.specs.MemberFacts.{MemberFacts, living, open_while}
-use Rattle.simplex_member.proofs.PartialFailures.{part_goes_on, part_of_state, part_made, ended_so, state_ends, so_ok, same_on_err, told_answered, told_kept}
+use Rattle.simplex_member.proofs.PartialFailures.{part_goes_on, part_of_state, part_made, ended_so, state_ends, so_ok, same_on_err, replied_answered, replied_kept}
 use Rattle.simplex_member.proofs.member.life.Member.prune.Goals as goal
 
 pub invariant_of-self : goal.invariant_of-self
@@ -47,9 +47,9 @@ returns-clause-made g c =
     m.outstanding_work m.entries p)
 
 pub returns-clause-answered : goal.returns-clause-answered
-returns-clause-answered g c = told_answered g.D.PartialEq.eq g.L.Elector.elect c.args.self.now.facts Prune
+returns-clause-answered g c = replied_answered g.D.PartialEq.eq g.L.Elector.elect c.args.self.now.facts Prune
     (λ views. Dropped views.items) (λ t A is. is) c.map_err.result _ (returns-clause-made g c)
 
 pub returns-clause-kept : goal.returns-clause-kept
-returns-clause-kept g c = told_kept g.D.PartialEq.eq g.L.Elector.elect c.args.self.now.facts Prune
+returns-clause-kept g c = replied_kept g.D.PartialEq.eq g.L.Elector.elect c.args.self.now.facts Prune
     (λ views. Dropped views.items) c.map_err.result _ (returns-clause-made g c)

@@ -6,7 +6,7 @@ use Rattle.simplex_voter.specs.Refusals.{names_too_large}
 use Rattle.simplex_record.specs.Entries.{entries_of}
 use Rattle.simplex_member.specs.Calls.{SetProposal, Answered}
 use Rattle.simplex_member.specs.MemberFacts.{MemberFacts, living, open_while}
-use Rattle.simplex_member.proofs.PartialFailures.{part_goes_on, part_of_state, part_made, ended_so, state_ends, so_ok, same_on_err, told_answered, told_kept}
+use Rattle.simplex_member.proofs.PartialFailures.{part_goes_on, part_of_state, part_made, ended_so, state_ends, so_ok, same_on_err, replied_answered, replied_kept}
 use Rattle.simplex_member.proofs.member.life.Member.set_proposal.Goals as goal
 
 pub invariant_of-self : goal.invariant_of-self
@@ -51,10 +51,10 @@ returns-clause-made g c =
     p)
 
 pub returns-clause-answered : goal.returns-clause-answered
-returns-clause-answered g c = told_answered g.D.PartialEq.eq g.L.Elector.elect c.args.self.now.facts
+returns-clause-answered g c = replied_answered g.D.PartialEq.eq g.L.Elector.elect c.args.self.now.facts
     (SetProposal c.args.view c.args.proposal) (λ is_new. Answered is_new) (λ t A is. is) c.map_err.result _
     (returns-clause-made g c)
 
 pub returns-clause-kept : goal.returns-clause-kept
-returns-clause-kept g c = told_kept g.D.PartialEq.eq g.L.Elector.elect c.args.self.now.facts
+returns-clause-kept g c = replied_kept g.D.PartialEq.eq g.L.Elector.elect c.args.self.now.facts
     (SetProposal c.args.view c.args.proposal) (λ is_new. Answered is_new) c.map_err.result _ (returns-clause-made g c)

@@ -2,7 +2,7 @@
 use Rattle.simplex_types.specs.Certificates.{notarization_facts}
 use Rattle.simplex_resolver.specs.Steps.{verdict, highest_named}
 use Rattle.simplex_resolver.specs.CallHistory.{LawfulResolverFacts}
-use Rattle.simplex_resolver.proofs.Made.{made_of, told_of, left_of}
+use Rattle.simplex_resolver.proofs.Made.{made_of, received_of, left_of}
 use Rattle.simplex_resolver.proofs.replay.lawful.LawfulResolver.certified.Goals as goal
 
 pub returns-in-Ok-clause-made : goal.returns-in-Ok-clause-made
@@ -11,8 +11,8 @@ returns-in-Ok-clause-made g c =
     (made_of c.apply.result c.in-Ok.effects _ _ c.apply.new.self _ c.in-Ok.ensures.after c.in-Ok.ensures.effects
     c.apply.ensures.state c.apply.ensures.answered c.apply.ensures.applied)
 
-pub returns-in-Ok-clause-told : goal.returns-in-Ok-clause-told
-returns-in-Ok-clause-told g c = told_of c.apply.result _ c.args.self.now c.apply.new.self c.requires
+pub returns-in-Ok-clause-received : goal.returns-in-Ok-clause-received
+returns-in-Ok-clause-received g c = received_of c.apply.result _ c.args.self.now c.apply.new.self c.requires
     (returns-in-Ok-clause-made g c)
 
 pub returns-in-Ok-clause-refused : goal.returns-in-Ok-clause-refused

@@ -2,12 +2,12 @@
 -- received.
 use Rattle.std.proofs.Common.{refl, subst}
 use Rattle.simplex_resolver.specs.Repair.{IsApplied}
-use Rattle.simplex_resolver.proofs.CallHistory.{told_by_record}
+use Rattle.simplex_resolver.proofs.CallHistory.{received_by_record}
 use Rattle.simplex_resolver.proofs.replay.lawful.LawfulResolver.start.Goals as goal
 
 pub returns-in-Ok-clause-begins : goal.returns-in-Ok-clause-begins
 returns-in-Ok-clause-begins g c =
-    told_by_record c.args.term_length _ _ c.in_ok-state.effects.items c.get-positive.ensures.positive
+    received_by_record c.args.term_length _ _ c.in_ok-state.effects.items c.get-positive.ensures.positive
     c.in_ok-state.ensures.named refl
     c.in_ok-state.ensures.state c.in_ok-state.ensures.wanted
     (subst (λ old. IsApplied old c.in_ok-state.effects.items c.apply.new.outstanding.keys) c.new-fetches.ensures.empty

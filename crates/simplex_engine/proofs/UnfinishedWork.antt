@@ -35,7 +35,7 @@ use Rattle.engine_planner.specs.Tasks.{call_of}
 use Rattle.engine_planner.specs.PlannedWork.{AreAmong, awaits, beside_of, constants_of, is_build_of, views_requested, work_planned, work_of, IsPlanned, KeepsPlanned, KeepsPlannedThen, PlansAnswerThen}
 use Rattle.engine_outbox.specs.Outboxes.{QueuesMore}
 use Rattle.simplex_engine.proofs.BuildBounds.{come_beside, come_same, early_anyway, early_further, early_planned, near_by_views, near_kept, near_same, risen_on, risen_same}
-use Rattle.simplex_engine.proofs.ApplicationWork.{IsWorkIn, among_behind, among_swapped, block_further, told_among, told_by, told_none, waits_as_before, work_among, work_by_call}
+use Rattle.simplex_engine.proofs.ApplicationWork.{IsWorkIn, among_behind, among_swapped, block_further, replied_among, replied_by, replied_none, waits_as_before, work_among, work_by_call}
 use Rattle.simplex_engine.proofs.Requests.{near_by_call, open_by_call}
 use Rattle.engine_planner.proofs.PlannedWork.{among_all, among_both, among_further, among_more, among_still, has_further, keeps_own, plans_same, planned-append}
 
@@ -59,7 +59,7 @@ module _ {S D K G C : Type 0} where
 module _ {S L D K G C : Type 0} where
   pub tells_still : (a : Engine S L D K G C) → KeepsApplicationWork a a
   tells_still a = record {
-    stays = λ work told. told;
+    stays = λ work replied. replied;
     works = among_still (work_ahead a);
     near = λ near. near;
     seen = λ come. come;
@@ -77,7 +77,7 @@ module _ {S L D K G C : Type 0} where
         (first.early come) (second.early (first.seen come));
     risen = risen_on a.core.member.facts.life b.core.member.facts.life c.core.member.facts.life first.risen
         second.risen;
-    stays = λ work told. second.stays work (first.stays work told);
+    stays = λ work replied. second.stays work (first.stays work replied);
     works = among_further first.works second.works;
     near = λ near. second.near (first.near near);
     seen = λ come. second.seen (first.seen come);
@@ -107,10 +107,10 @@ module _ {S L D K G C : Type 0} where
       → (TracksViews a.core.member.facts a.plan → TracksViews b.core.member.facts b.plan)
       → KeepsPlannedThen a.plan b.plan → KeepsApplicationWork a b
   tells_same a b waits goes come plans = record {
-    stays = λ work told.
+    stays = λ work replied.
         subst (IsReportedIn (work ++ work_ahead b) (beside_of b.plan)) (sym waits)
-        (told_by (among_both (among_still work) (among_both (queued_still a b goes.queued) plans.found))
-        (planned_last work b) (λ view left. plans.building view left refl) told);
+        (replied_by (among_both (among_still work) (among_both (queued_still a b goes.queued) plans.found))
+        (planned_last work b) (λ view left. plans.building view left refl) replied);
     works = among_both (queued_still a b goes.queued) plans.found;
     near = near_kept a b goes.risen plans.views;
     seen = come;
@@ -134,14 +134,14 @@ module _ {S L D K G C : Type 0} where
   pub tells_planned : (a b : Engine S L D K G C) → b.core ≡ a.core → KeepsPlanned a.plan b.plan
       → KeepsApplicationWork a b
   tells_planned a b is plans = record {
-    stays = λ work told.
+    stays = λ work replied.
         subst (λ (core : Journaled S L D K G C).
         IsReportedIn (work ++ (work_in core.outbox.queue.items ++ work_planned b.plan.steps.items))
         (beside_of b.plan) core.member.facts.outstanding_work) (sym is)
-        (told_by (among_both (among_still work) (among_both (among_still queue) plans.found))
+        (replied_by (among_both (among_still work) (among_both (among_still queue) plans.found))
         (among_further (among_behind queue (work_planned b.plan.steps.items))
         (among_behind work (queue ++ work_planned b.plan.steps.items))) (λ view left. plans.building view left refl)
-        told);
+        replied);
     works = subst (λ (core : Journaled S L D K G C).
         AreAmong (work_ahead a) (work_in core.outbox.queue.items ++ work_planned b.plan.steps.items)) (sym is)
         (among_both (among_still queue) plans.found);
@@ -160,16 +160,17 @@ module _ {S L D K G C : Type 0} where
   -- a task was asked of the member, and what its answer asks of the application is planned
   pub tells_called : {same : D → D → Bool} {elect : Elect L} {bytes_of : C → List ℕ}
       {is_signature : K → Subject D → G → Type 0} {taken : Option (Subject D)} (a b : Engine S L D K G C)
-      (asked : Task D) (now : ℕ) (told : ReplyFacts K D)
-      → IsCall same elect a.core.member.facts (call_of asked now) told b.core.member.facts
+      (asked : Task D) (now : ℕ) (replied : ReplyFacts K D)
+      → IsCall same elect a.core.member.facts (call_of asked now) replied b.core.member.facts
       → Continues same elect bytes_of is_signature taken a.core b.core → TracksViews b.core.member.facts b.plan
-      → PlansAnswerThen asked told a.plan b.plan → KeepsApplicationWork a b
-  tells_called {same = same} {elect = elect} a b asked now told called goes come plans = record {
+      → PlansAnswerThen asked replied a.plan b.plan → KeepsApplicationWork a b
+  tells_called {same = same} {elect = elect} a b asked now replied called goes come plans = record {
     stays = λ work is.
         let ahead = work_ahead a in
-        let more : List (Work S D K G C) = work_of told in
+        let more : List (Work S D K G C) = work_of replied in
         let worked : IsWorkIn ((work ++ ahead) ++ more) b.core.member.facts.outstanding_work =
-        work_by_call same elect (work ++ ahead) a.core.member.facts b.core.member.facts (call_of asked now) told called
+        work_by_call same elect (work ++ ahead) a.core.member.facts b.core.member.facts
+        (call_of asked now) replied called
         (is.verified, is.certified) in
         let among : AreAmong ((work ++ ahead) ++ more) (work ++ work_ahead b) =
         among_further (among_all (append_assoc work ahead more))
@@ -181,22 +182,22 @@ module _ {S L D K G C : Type 0} where
           verified = those.0;
           certified = those.1;
           built = λ view opens. let opened = open_by_call same elect a.core.member.facts b.core.member.facts asked now
-              told called view opens in elim opened.0 [
+              replied called view opens in elim opened.0 [
                 | inl requested ↦ has_further (beside_of b.plan) (beside_of b.plan) view (planned_last work b)
                     (or_right (list_any (is_build_of view) (work ++ work_ahead b)) (awaits (beside_of b.plan) view))
-                    (plans.building view (or_left (list_any (λ v. v == view) (views_requested told))
+                    (plans.building view (or_left (list_any (λ v. v == view) (views_requested replied))
                     (awaits (beside_of a.plan) view) requested) opened.1)
                 | inr before ↦ block_further (beside_of a.plan) (beside_of b.plan) view
                     (among_further (among_more (work ++ ahead) more) among) (planned_last work b)
-                    (λ waits. plans.building view (or_right (list_any (λ v. v == view) (views_requested told))
+                    (λ waits. plans.building view (or_right (list_any (λ v. v == view) (views_requested replied))
                     (awaits (beside_of a.plan) view) waits) opened.1) (is.built view before)
               ];
         };
     works = among_both (queued_still a b goes.queued)
-        (among_further (among_more (work_planned a.plan.steps.items) (work_of told)) plans.found);
-    near = near_by_views (views_requested told) a.plan.builds.buildings.items b.plan.builds.buildings.items
+        (among_further (among_more (work_planned a.plan.steps.items) (work_of replied)) plans.found);
+    near = near_by_views (views_requested replied) a.plan.builds.buildings.items b.plan.builds.buildings.items
         a.core.member.facts.life b.core.member.facts.life goes.risen plans.views
-        (near_by_call same elect a.core.member.facts b.core.member.facts asked now told called);
+        (near_by_call same elect a.core.member.facts b.core.member.facts asked now replied called);
     seen = λ before. come;
     early = λ before. early_planned a b come plans.early;
     risen = goes.risen;
@@ -207,17 +208,18 @@ module _ {S L D K G C : Type 0} where
   -- a certificate was passed in
   pub tells_handed : {same : D → D → Bool} {elect : Elect L} {bytes_of : C → List ℕ}
       {is_signature : K → Subject D → G → Type 0} {taken : Option (Subject D)} (a b : Engine S L D K G C)
-      (certificate : CertificateFacts D) (now : ℕ) (told : ReplyFacts K D)
-      → IsCall same elect a.core.member.facts (certificate_call certificate now) told b.core.member.facts
+      (certificate : CertificateFacts D) (now : ℕ) (replied : ReplyFacts K D)
+      → IsCall same elect a.core.member.facts (certificate_call certificate now) replied b.core.member.facts
       → Continues same elect bytes_of is_signature taken a.core b.core → TracksViews b.core.member.facts b.plan
       → KeepsPlannedThen a.plan b.plan → KeepsApplicationWork a b
-  tells_handed {same = same} {elect = elect} a b certificate now told called goes come plans =
-      elim (waits_as_before same elect a.core.member.facts b.core.member.facts (certificate_call certificate now) told
+  tells_handed {same = same} {elect = elect} a b certificate now replied called goes come plans =
+      elim (waits_as_before same elect a.core.member.facts b.core.member.facts
+      (certificate_call certificate now) replied
       (plain certificate) called) [
         | inl waits ↦ tells_same a b waits goes (λ before. come) plans
         | inr none ↦ record {
           stays = λ work is. subst (IsReportedIn (work ++ work_ahead b) (beside_of b.plan)) (sym none)
-              (told_none (work ++ work_ahead b) (beside_of b.plan));
+              (replied_none (work ++ work_ahead b) (beside_of b.plan));
           works = among_both (queued_still a b goes.queued) plans.found;
           near = near_kept a b goes.risen plans.views;
           seen = λ before. come;
@@ -235,13 +237,13 @@ module _ {S L D K G C : Type 0} where
       plain (Finalized _) x o = refl
 
   -- a copy of it was passed in, and nothing of the member has changed since
-  pub handed_as : (same : D → D → Bool) (elect : Elect L) (m : MemberFacts K L D) (told : ReplyFacts K D) (now : ℕ)
+  pub handed_as : (same : D → D → Bool) (elect : Elect L) (m : MemberFacts K L D) (replied : ReplyFacts K D) (now : ℕ)
       {copy certificate : CertificateFacts D} {left core : Journaled S L D K G C}
-      → copy ≡ certificate → core ≡ left → IsCall same elect m (certificate_call copy now) told left.member.facts
-      → IsCall same elect m (certificate_call certificate now) told core.member.facts
-  handed_as same elect m told now {copy} {certificate} {left} {core} is_copy stays called =
-      subst (λ facts. IsCall same elect m (certificate_call facts now) told core.member.facts) is_copy
-      (subst (λ (it : Journaled S L D K G C). IsCall same elect m (certificate_call copy now) told it.member.facts)
+      → copy ≡ certificate → core ≡ left → IsCall same elect m (certificate_call copy now) replied left.member.facts
+      → IsCall same elect m (certificate_call certificate now) replied core.member.facts
+  handed_as same elect m replied now {copy} {certificate} {left} {core} is_copy stays called =
+      subst (λ facts. IsCall same elect m (certificate_call facts now) replied core.member.facts) is_copy
+      (subst (λ (it : Journaled S L D K G C). IsCall same elect m (certificate_call copy now) replied it.member.facts)
       (sym stays) called)
 
   -- a step that queues no work
@@ -254,14 +256,14 @@ module _ {S L D K G C : Type 0} where
   pub tells_pushed : (a b : Engine S L D K G C) (it : Work S D K G C) → b.core.member ≡ a.core.member → b.plan ≡ a.plan
       → b.core.outbox.queue.items ≡ a.core.outbox.queue.items ++ output.Work it ∷ [] → KeepsTaken (it ∷ []) a b
   tells_pushed a b it same_member same_plan queued = record {
-    stays = λ work told.
+    stays = λ work replied.
         subst (λ (m : SignedMember K L D G). IsReportedIn (work ++ work_ahead b) (beside_of b.plan)
         m.facts.outstanding_work) (sym same_member)
         (subst (λ (plan : Plan S D K G C). IsReportedIn (work ++ work_ahead b) (beside_of plan)
         a.core.member.facts.outstanding_work) (sym same_plan)
-        (told_among (among_further (among_both (among_swapped (it ∷ []) work) (among_still (queue ++ planned)))
+        (replied_among (among_further (among_both (among_swapped (it ∷ []) work) (among_still (queue ++ planned)))
         (among_further (among_moved work (it ∷ []) queue planned) (among_all (ap (λ ahead. work ++ ahead) (sym now)))))
-        told));
+        replied));
     works = among_further (among_moved [] (it ∷ []) queue planned) (among_all (sym now));
     near = near_same a b same_member same_plan;
     seen = come_beside a b same_member same_plan;
@@ -292,16 +294,16 @@ module _ {S L D K G C : Type 0} where
       → OnOk r (KeepsTaken (work_planned (step ∷ [])) mid b) → OnOk r (KeepsApplicationWork a b)
   tells_taken (Err e) step a mid b same plans takes = tt
   tells_taken (Ok x) step a mid b same plans takes = record {
-    stays = λ work told.
+    stays = λ work replied.
         takes.stays work
         (subst (λ (core : Journaled S L D K G C).
         IsReportedIn ((taken ++ work) ++ (work_in core.outbox.queue.items ++ left)) (beside_of mid.plan)
         core.member.facts.outstanding_work) (sym same)
-        (told_by (among_further (among_further (among_both (among_still work) (among_both (among_still queue) split))
+        (replied_by (among_further (among_further (among_both (among_still work) (among_both (among_still queue) split))
         (among_back work taken queue left))
         (among_both (among_swapped work taken) (among_still (queue ++ left))))
         (among_further (among_all front) (among_both (among_more taken work) (among_behind queue left)))
-        (λ view waits. plans.building view waits refl) told));
+        (λ view waits. plans.building view waits refl) replied));
     works = among_further (subst (λ (core : Journaled S L D K G C).
         AreAmong (work_ahead a) (taken ++ (work_in core.outbox.queue.items ++ left))) (sym same)
         (among_further (among_both (among_still queue) split) (among_back [] taken queue left))) takes.works;
@@ -344,7 +346,7 @@ module _ {S L D K G C : Type 0} where
       → b.plan ≡ a.plan
       → a.core.outbox.queue.items ≡ out ++ b.core.outbox.queue.items → (given : List (Output S D Stored K G C))
       → HasReportedAll given a → HasReportedAll (given ++ out) b
-  tells_given a b out same_member same_plan front given told =
+  tells_given a b out same_member same_plan front given replied =
       let left = work_in b.core.outbox.queue.items in
       let planned = work_planned a.plan.steps.items in
       let now : work_in (given ++ out) ++ work_ahead b ≡ work_in given ++ work_ahead a =
@@ -358,7 +360,7 @@ module _ {S L D K G C : Type 0} where
       b.core.member.facts.outstanding_work) (sym same_plan)
       (subst (λ (m : SignedMember K L D G). IsReportedIn (work_in (given ++ out) ++ work_ahead b) (beside_of a.plan)
       m.facts.outstanding_work) (sym same_member)
-      (subst (λ items. IsReportedIn items (beside_of a.plan) a.core.member.facts.outstanding_work) (sym now) told))
+      (subst (λ items. IsReportedIn items (beside_of a.plan) a.core.member.facts.outstanding_work) (sym now) replied))
 
   -- and the work in it is no longer ahead
   pub works_given : (a b : Engine S L D K G C) (out : List (Output S D Stored K G C)) → b.plan ≡ a.plan
@@ -372,37 +374,37 @@ module _ {S L D K G C : Type 0} where
       ∙ ap (λ (plan : Plan S D K G C). work_in out ++ (left ++ work_planned plan.steps.items)) (sym same_plan))
 
   -- nothing was
-  pub still_told : (a : Engine S L D K G C) (core : Journaled S L D K G C) → core.member ≡ a.core.member
+  pub still_replied : (a : Engine S L D K G C) (core : Journaled S L D K G C) → core.member ≡ a.core.member
       → a.core.outbox.queue.items ≡ core.outbox.queue.items
       → (given : List (Output S D Stored K G C)) → HasReportedAll given a
       → HasReportedAll given (record a { core = core })
-  still_told a core same_member front given told =
+  still_replied a core same_member front given replied =
       subst (λ outs. HasReportedAll outs (record a { core = core })) (append-nil given)
-      (tells_given a (record a { core = core }) [] same_member refl front given told)
+      (tells_given a (record a { core = core }) [] same_member refl front given replied)
 
   -- where nothing is queued and nothing planned, all was
   pub all_given : (a : Engine S L D K G C) → a.core.outbox.queue.items ≡ [] → a.plan.steps.items ≡ []
       → (given : List (Output S D Stored K G C)) → HasReportedAll given a → AllIsReturned given a
-  all_given a queue steps given told =
+  all_given a queue steps given replied =
       subst (λ items. IsReportedIn items (beside_of a.plan) a.core.member.facts.outstanding_work)
       (append-nil (work_in given))
       (subst (λ ahead. IsReportedIn (work_in given ++ ahead) (beside_of a.plan) a.core.member.facts.outstanding_work)
-      (ap (λ items. work_in items ++ work_planned a.plan.steps.items) queue ∙ ap work_planned steps) told)
+      (ap (λ items. work_in items ++ work_planned a.plan.steps.items) queue ∙ ap work_planned steps) replied)
 
   pub all_left : (a b : Engine S L D K G C) (out : Option (Output S D Stored K G C)) → IsNone out
       → b.core.member ≡ a.core.member → b.core.outbox.queue.items ≡ [] → b.plan.steps.items ≡ []
       → b.plan ≡ a.plan → a.core.outbox.queue.items ≡ option_to_list out ++ b.core.outbox.queue.items
       → (given : List (Output S D Stored K G C)) → HasReportedAll given a → AllIsReturned given b
-  all_left a b (Some out) none same_member queue steps same_plan front given told = absurd (false≢true (sym none))
-  all_left a b None none same_member queue steps same_plan front given told =
+  all_left a b (Some out) none same_member queue steps same_plan front given replied = absurd (false≢true (sym none))
+  all_left a b None none same_member queue steps same_plan front given replied =
       all_given b queue steps given (subst (λ outs. HasReportedAll outs b) (append-nil given)
-      (tells_given a b [] same_member same_plan front given told))
+      (tells_given a b [] same_member same_plan front given replied))
 
   -- a member that waits for nothing
   pub tells_none : (a : Engine S L D K G C) → a.core.member.facts.outstanding_work ≡ no_outstanding_work
       → HasReportedAll [] a
   tells_none a none = subst (IsReportedIn (work_ahead a) (beside_of a.plan)) (sym none)
-      (told_none (work_ahead a) (beside_of a.plan))
+      (replied_none (work_ahead a) (beside_of a.plan))
 
 pub restart_waits : {K L D : Type 0} (same : D → D → Bool) (elect : Elect L) (m : MemberFacts K L D)
     (r : RestartFacts K L D) (result : Result (Unit {0}) RecoverError) (left : MemberFacts K L D)

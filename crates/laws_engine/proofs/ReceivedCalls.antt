@@ -27,7 +27,7 @@ use Rattle.engine_planner.specs.declared.task.Task.{Task}
 use Rattle.engine_planner.specs.declared.task.Task.TheVariants as task
 use Rattle.engine_planner.proofs.PlannedWork.{any_either, among_all, among_further, among_more}
 use Rattle.simplex_engine.specs.Provenance.{step_causes, IsCausedBy, IsIn, IsCallCaused, IsStepCaused}
-use Rattle.laws_engine.specs.Laws.{given_by_all, IsToldBy}
+use Rattle.laws_engine.specs.Laws.{given_by_all, WasReceived}
 
 pub any_weaker : {A : Type 0} (p q : A → Bool) → ((a : A) → p a ≡ true → q a ≡ true) → (items : List A)
     → list_any p items ≡ true → list_any q items ≡ true
@@ -111,58 +111,58 @@ module _ {S D K G C : Type 0} where
         ];
   }
 
-  told_before : (causes given : List (Cause S D K G C)) → list_any is_outside given ≡ false → (call : CallFacts D)
-      → IsToldBy (causes ++ given) call → IsToldBy causes call
-  told_before causes given inside (Verified view) is =
+  replied_before : (causes given : List (Cause S D K G C)) → list_any is_outside given ≡ false → (call : CallFacts D)
+      → WasReceived (causes ++ given) call → WasReceived causes call
+  replied_before causes given inside (Verified view) is =
       outside_before causes given inside (Message (task.Verified view)) refl is
-  told_before causes given inside (VerificationFailed view reason now) is =
+  replied_before causes given inside (VerificationFailed view reason now) is =
       outside_before causes given inside (Message (task.VerificationFailed view)) refl is
-  told_before causes given inside (Proposed view payload now) is =
+  replied_before causes given inside (Proposed view payload now) is =
       outside_before causes given inside (Message (task.Proposed view payload)) refl is
-  told_before causes given inside (Certified view success now) is =
+  replied_before causes given inside (Certified view success now) is =
       outside_before causes given inside (Message (task.Certified view success)) refl is
-  told_before causes given inside (TriggerTimeout view reason now) is =
+  replied_before causes given inside (TriggerTimeout view reason now) is =
       outside_before causes given inside (Message (task.TriggerTimeout view reason)) refl is
-  told_before causes given inside (SetProposal view proposal) (inl is) =
+  replied_before causes given inside (SetProposal view proposal) (inl is) =
       inl (outside_before causes given inside (Message (task.SetProposal view proposal)) refl is)
-  told_before causes given inside (SetProposal view proposal) (inr (from, is)) =
+  replied_before causes given inside (SetProposal view proposal) (inr (from, is)) =
       inr (from, outside_before causes given inside (Arrival from proposal) refl is)
-  told_before causes given inside (AddNotarization c) is =
+  replied_before causes given inside (AddNotarization c) is =
       outside_before causes given inside (Quorum (certificate_subject (Notarized c))) refl is
-  told_before causes given inside (AddNullification c now) is =
+  replied_before causes given inside (AddNullification c now) is =
       outside_before causes given inside (Quorum (certificate_subject (Nullified c))) refl is
-  told_before causes given inside (AddFinalization c now) is =
+  replied_before causes given inside (AddFinalization c now) is =
       outside_before causes given inside (Quorum (certificate_subject (Finalized c))) refl is
-  told_before causes given inside call is = tt
+  replied_before causes given inside call is = tt
 
   -- what causes a task or a certificate
 
-  task_told : (causes : List (Cause S D K G C)) (now : ℕ) (asked : Task D) → AreAmong (of_task asked) causes
-      → IsToldBy causes (call_of asked now)
-  task_told causes now (task.Verified view) is = is
-  task_told causes now (task.VerificationFailed view) is = is
-  task_told causes now (task.Proposed view payload) is = is
-  task_told causes now (task.Certified view success) is = is
-  task_told causes now (task.TriggerTimeout view reason) is = is
-  task_told causes now (task.SetProposal view proposal) is = inl is
-  task_told causes now asked is = tt
+  task_replied : (causes : List (Cause S D K G C)) (now : ℕ) (asked : Task D) → AreAmong (of_task asked) causes
+      → WasReceived causes (call_of asked now)
+  task_replied causes now (task.Verified view) is = is
+  task_replied causes now (task.VerificationFailed view) is = is
+  task_replied causes now (task.Proposed view payload) is = is
+  task_replied causes now (task.Certified view success) is = is
+  task_replied causes now (task.TriggerTimeout view reason) is = is
+  task_replied causes now (task.SetProposal view proposal) is = inl is
+  task_replied causes now asked is = tt
 
-  certificate_told : (causes : List (Cause S D K G C)) (now : ℕ) (certificate : CertificateFacts D)
+  certificate_replied : (causes : List (Cause S D K G C)) (now : ℕ) (certificate : CertificateFacts D)
       → IsIn (Quorum (certificate_subject certificate)) causes
-      → IsToldBy causes (certificate_call certificate now)
-  certificate_told causes now (Notarized c) is = is
-  certificate_told causes now (Nullified c) is = is
-  certificate_told causes now (Finalized c) is = is
+      → WasReceived causes (certificate_call certificate now)
+  certificate_replied causes now (Notarized c) is = is
+  certificate_replied causes now (Nullified c) is = is
+  certificate_replied causes now (Finalized c) is = is
 
 module _ {S L D K G C : Type 0} (now : ℕ) where
-  meant_told : (causes : List (Cause S D K G C)) (m : MemberFacts K L D) (call : CallFacts D)
-      → IsCallCaused now causes m call → IsToldBy causes call
-  meant_told causes m call (inl (asked, is, of_these, on_offer)) =
-      subst (IsToldBy causes) (sym is) (task_told causes now asked of_these)
-  meant_told causes m call (inr (inl (from, proposal, is, in_these, admits))) =
-      subst (IsToldBy causes) (sym is) (inr (from, in_these))
-  meant_told causes m call (inr (inr (certificate, is, in_these))) =
-      subst (IsToldBy causes) (sym is) (certificate_told causes now certificate in_these)
+  meant_replied : (causes : List (Cause S D K G C)) (m : MemberFacts K L D) (call : CallFacts D)
+      → IsCallCaused now causes m call → WasReceived causes call
+  meant_replied causes m call (inl (asked, is, of_these, on_offer)) =
+      subst (WasReceived causes) (sym is) (task_replied causes now asked of_these)
+  meant_replied causes m call (inr (inl (from, proposal, is, in_these, admits))) =
+      subst (WasReceived causes) (sym is) (inr (from, in_these))
+  meant_replied causes m call (inr (inr (certificate, is, in_these))) =
+      subst (WasReceived causes) (sym is) (certificate_replied causes now certificate in_these)
 
   steps_inside : (step : StepFacts K L D) (answer : Reply S D K G C)
       → list_any is_outside (step_causes now step answer) ≡ false
@@ -173,20 +173,20 @@ module _ {S L D K G C : Type 0} (now : ℕ) where
 module _ {S L D K G C : Type 0} (same : D → D → Bool) (elect : Elect L) (bytes_of : C → List ℕ) (now : ℕ)
     (asks_now over : FetchKind → ℕ → Bool) where
   -- a call of one of these steps was received with what was at hand before all of them
-  pub calls_told : (steps : List (StepFacts K L D × Reply S D K G C)) (causes left : List (Cause S D K G C))
+  pub calls_replied : (steps : List (StepFacts K L D × Reply S D K G C)) (causes left : List (Cause S D K G C))
       (asked : FetchKind → ℕ → Bool) (m end : MemberFacts K L D)
       → IsCausedBy same elect bytes_of now asks_now over steps causes asked m left end
       → (call : CallFacts D) (answer : Reply S D K G C) → Contains steps (Calls call, answer)
-      → IsToldBy causes call
-  calls_told [] causes left asked m end provenance call answer there =
+      → WasReceived causes call
+  calls_replied [] causes left asked m end provenance call answer there =
       (let none = there.1 in absurd (omega (arith, none)))
-  calls_told ((step, reply) ∷ rest) causes left asked m end (meant, next, is_step, provenance) call answer there =
+  calls_replied ((step, reply) ∷ rest) causes left asked m end (meant, next, is_step, provenance) call answer there =
       elim (first_or_later (step, reply) rest (Calls call, answer) there) [
-        | inl is ↦ meant_told now causes m call
+        | inl is ↦ meant_replied now causes m call
             (subst (IsStepCaused now causes m) (ap (λ (it : StepFacts K L D × Reply S D K G C). it.0) is) meant)
         | inr later ↦ (let given : List (Cause S D K G C) = step_causes {L = L} now step reply in
-            told_before causes given (steps_inside now step reply) call
-            (calls_told rest (causes ++ given) left (with_missing_certificate asked given) next end provenance call
+            replied_before causes given (steps_inside now step reply) call
+            (calls_replied rest (causes ++ given) left (with_missing_certificate asked given) next end provenance call
             answer
             later))
       ]

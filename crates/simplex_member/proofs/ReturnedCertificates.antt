@@ -14,8 +14,8 @@ use Rattle.simplex_member.specs.MemberFacts.{MemberFacts}
 use Rattle.simplex_member.specs.MethodContracts.{IsAnswered, HasNoneLeft}
 use Rattle.simplex_member.proofs.Voted.{at_life, from_life}
 
-abbrev handed_told : {K D : Type 0} → Option (CertificateFacts D) → ReplyFacts K D
-handed_told handed = Returned handed
+abbrev handed_replied : {K D : Type 0} → Option (CertificateFacts D) → ReplyFacts K D
+handed_replied handed = Returned handed
 
 once_sent : {C : Type 0} (sent : Bool) (certificate : Option C) → once (sent || is_some certificate) certificate ≡ None
 once_sent true certificate = refl
@@ -80,10 +80,11 @@ module _ {K L D : Type 0} (same : D → D → Bool) (elect : Elect L) (m left : 
 -- if the view has none left, none is returned
 none_handed : {K D C A : Type 0} (facts : C → CertificateFacts D) (wrap : A → CertificateFacts D)
     (certificate : Option C) (found : Option A) → found ≡ None
-    → handed_told {K = K} (option_map facts certificate) ≡ handed_told (option_map wrap found) → IsNone certificate
+    → handed_replied {K = K} (option_map facts certificate) ≡ handed_replied (option_map wrap found)
+    → IsNone certificate
 none_handed facts wrap None found none is = refl
 none_handed {K = K} facts wrap (Some c) found none is =
-    let same : handed_told {K = K} (Some (facts c)) ≡ handed_told None = rw none at is in
+    let same : handed_replied {K = K} (Some (facts c)) ≡ handed_replied None = rw none at is in
     absurd (let no : ⊥ = cc in no)
 
 module _ {K L D C : Type 0} (same : D → D → Bool) (elect : Elect L) (m left : MemberFacts K L D) (v : ℕ)
@@ -93,18 +94,18 @@ module _ {K L D C : Type 0} (same : D → D → Bool) (elect : Elect L) (m left 
       → IsNone certificate
   notarization_handed_once was is = none_handed facts Notarized certificate (broadcast_notarization_answer is.state v)
       (from_life (λ (x : StateFacts K L D). broadcast_notarization_answer x v ≡ None) m.life is.state is.alive was)
-      is.told_so
+      is.replied_so
 
   pub nullification_handed_once : HasNoneLeft broadcast_nullification_answer m v
       → IsAnswered same elect m (BroadcastNullification v) (Returned (option_map facts certificate)) left
       → IsNone certificate
   nullification_handed_once was is = none_handed facts Nullified certificate (broadcast_nullification_answer is.state v)
       (from_life (λ (x : StateFacts K L D). broadcast_nullification_answer x v ≡ None) m.life is.state is.alive was)
-      is.told_so
+      is.replied_so
 
   pub finalization_handed_once : HasNoneLeft broadcast_finalization_answer m v
       → IsAnswered same elect m (BroadcastFinalization v) (Returned (option_map facts certificate)) left
       → IsNone certificate
   finalization_handed_once was is = none_handed facts Finalized certificate (broadcast_finalization_answer is.state v)
       (from_life (λ (x : StateFacts K L D). broadcast_finalization_answer x v ≡ None) m.life is.state is.alive was)
-      is.told_so
+      is.replied_so

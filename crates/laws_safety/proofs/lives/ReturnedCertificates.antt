@@ -33,10 +33,10 @@ IsSpent kind v x =
 abbrev pub Hands : {K L D : Type 0} → KindOfCertificate → List ℕ → StateFacts K L D → StateFacts K L D → Type 0
 Hands kind views x y = (views ≡ []) ⊎ ((v : ℕ) × (views ≡ v ∷ []) × (IsSpent kind v x → ⊥) × IsSpent kind v y)
 
-pub record HandsOut {K L D : Type 0} (call : CallFacts D) (told : ReplyFacts K D) (x y : StateFacts K L D) : Type
+pub record HandsOut {K L D : Type 0} (call : CallFacts D) (replied : ReplyFacts K D) (x y : StateFacts K L D) : Type
     0 where
   pub spent : (kind : KindOfCertificate) (v : ℕ) → IsSpent kind v x → IsSpent kind v y
-  pub hands : (kind : KindOfCertificate) → Hands kind (returned_by_call kind call told) x y
+  pub hands : (kind : KindOfCertificate) → Hands kind (returned_by_call kind call replied) x y
 
 module _ {K L D C : Type 0} (flag : RoundFacts K D → Bool) (certificate : RoundFacts K D → Option C)
     (x : StateFacts K L D) (v : ℕ) where
@@ -206,9 +206,9 @@ module _ {K L D : Type 0} (same : D → D → Bool) (elect : Elect L) where
   call_hands x o GetBestCertificate kind = inl (best_unasked K kind (best_certificate x))
   call_hands x o _ kind = inl refl
 
-  outcome : (m : MemberFacts K L D) (call : CallFacts D) (told : ReplyFacts K D) (left : MemberFacts K L D)
-      → IsCall same elect m call told left → ((fault : Fault) × (told ≡ Refused fault) × (left.life ≡ None))
-      ⊎ ((x y : StateFacts K L D) × (m.life ≡ Some x) × (left.life ≡ Some y) × HandsOut call told x y)
+  outcome : (m : MemberFacts K L D) (call : CallFacts D) (replied : ReplyFacts K D) (left : MemberFacts K L D)
+      → IsCall same elect m call replied left → ((fault : Fault) × (replied ≡ Refused fault) × (left.life ≡ None))
+      ⊎ ((x y : StateFacts K L D) × (m.life ≡ Some x) × (left.life ≡ Some y) × HandsOut call replied x y)
   outcome =
       call_outcome same elect HandsOut
       (λ call fault x. record { spent = λ kind v s. s; hands = λ kind. inl refl })
@@ -226,10 +226,10 @@ module _ {K L D : Type 0} (same : D → D → Bool) (elect : Elect L) (kind : Ki
       → IsSpentIn kind v m.life → IsLifetime same elect m calls replies end
       → AllByRecursion (λ w. nat_eq v w ≡ false) (returned_in kind calls replies)
   never_again v m end [] [] spent life = tt
-  never_again v m end [] (told ∷ replies) spent life = absurd life
+  never_again v m end [] (replied ∷ replies) spent life = absurd life
   never_again v m end (call ∷ calls) [] spent life = absurd life
-  never_again v m end (call ∷ calls) (told ∷ replies) spent (next, is_call, rest) =
-      elim (outcome same elect m call told next is_call) [
+  never_again v m end (call ∷ calls) (replied ∷ replies) spent (next, is_call, rest) =
+      elim (outcome same elect m call replied next is_call) [
         | inl (fault, tells, dies) ↦
             rw tells (never_again v next end calls replies (subst (IsSpentIn kind v) (sym dies) tt) rest)
         | inr (x, y, alive, lives, out) ↦ (
@@ -252,10 +252,10 @@ module _ {K L D : Type 0} (same : D → D → Bool) (elect : Elect L) (kind : Ki
       → IsLifetime same elect m calls replies end → IsDistinct nat_eq (returned_in kind calls replies)
   unfolding IsDistinct
   handed_once m end [] [] life = tt
-  handed_once m end [] (told ∷ replies) life = absurd life
+  handed_once m end [] (replied ∷ replies) life = absurd life
   handed_once m end (call ∷ calls) [] life = absurd life
-  handed_once m end (call ∷ calls) (told ∷ replies) (next, is_call, rest) =
-      elim (outcome same elect m call told next is_call) [
+  handed_once m end (call ∷ calls) (replied ∷ replies) (next, is_call, rest) =
+      elim (outcome same elect m call replied next is_call) [
         | inl (fault, tells, dies) ↦ rw tells (handed_once next end calls replies rest)
         | inr (x, y, alive, lives, out) ↦ (
             let later = handed_once next end calls replies rest in
