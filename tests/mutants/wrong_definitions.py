@@ -60,7 +60,7 @@ EXAMPLES = {
     "laws_chains": Examples((), tuple(f"chains::{name}" for name in (
         "finalized_parents_are_certified", "finalized_chains_reach_genesis", "views_ahead_reach_genesis", "chains_need_offers",
         "parents_need_one_elector", "votes_may_be_on_another_parent", "verdicts_on_offers_await_parents"))),
-    "laws_engine": Examples(("Examples", "Votes"), (
+    "laws_engine": Examples(("Examples", "Votes", "AskedFetches"), (
         "laws::calls_were_received_before", "laws::nullifies_once_due", "laws::work_was_given", "laws::engines_run_on_offers", "laws::polls_end")),
     "laws_hosts": Examples((), ("agreement",)),
     "laws_host_steps": Examples((), ("steps",)),
@@ -433,8 +433,28 @@ WRONG_DEFINITIONS = (
         (("same_kind (fetch_kind of) kind && nat_le start view", "nat_le start view"),), ENGINE,
     ),
     Wrong(
+        "a fetch counts as asked though no output asks for it", "engine_planner/specs/AskedFetches.antt",
+        (("list_any (is_ask (ask_of old due)) works ≡ true", "list_any (is_ask (ask_of old due)) works ≡ list_any (is_ask (ask_of old due)) works"),), ENGINE,
+    ),
+    Wrong(
+        "a fetch counts as asked before it is due", "engine_planner/specs/AskedFetches.antt",
+        (("due.moment ≤ now", "now ≤ now"),), ENGINE,
+    ),
+    Wrong(
+        "an outstanding fetch disappears", "engine_planner/specs/AskedFetches.antt",
+        (("→ is_fetch_open kind view new ≡ true", "→ is_fetch_open kind view new ≡ is_fetch_open kind view new"),), ENGINE,
+    ),
+    Wrong(
+        "a peer is asked whose turn it is not", "engine_planner/specs/AskedFetches.antt",
+        (("same_kind a.kind b.kind && a.view == b.view && same_member a.of b.of", "same_kind a.kind b.kind && a.view == b.view"),), ENGINE,
+    ),
+    Wrong(
+        "a peer is asked for any certificate that is outstanding", "engine_planner/specs/FetchRequests.antt",
+        (("IsWanted : same_kind ask.kind Nullification ≡ true", "IsWanted : same_kind ask.kind ask.kind ≡ same_kind ask.kind ask.kind"),), ENGINE,
+    ),
+    Wrong(
         "work may be caused by nothing", "simplex_engine/specs/Provenance.antt",
-        (("[] causes asked m left end = AreAmong left causes ×", "[] causes asked m left end = AreAmong left left ×"),), ENGINE,
+        (("AreAmong (unrequested left) causes ×", "AreAmong (unrequested left) left ×"),), ENGINE,
     ),
     Wrong(
         "views that are kept may be forgotten", "simplex_engine/specs/Provenance.antt",

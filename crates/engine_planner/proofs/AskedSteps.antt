@@ -50,6 +50,8 @@ use Rattle.engine_planner.specs.Consequences.{AreCertified, Consequence, Nothing
 use Rattle.engine_planner.specs.Causes.{Cause, WorkItem, Expiry, MissingCertificate, reply_causes, of_block, shown_by}
 use Rattle.engine_planner.specs.PlanStates.{HasPlanned, touching, watching}
 use Rattle.engine_planner.specs.Tasks.{call_of}
+use Rattle.engine_planner.specs.AskedFetches.{AsksNoPeer}
+use Rattle.engine_planner.proofs.AskedFetches.{asks_none_as, asks_none_in, asks_none_on, asks_none_still, asks_none_wider, unasked_effects, unasked_fetching, unasked_kept, unasked_on, unasked_opened, unasked_wider, without_in}
 use Rattle.engine_planner.proofs.FetchRequests.{asks_on, asks_same, kind_same, turned_over, behind_steps, open_each, open_fetched, open_further, open_kept, open_now, open_through, planned_still, queued_more}
 use Rattle.engine_planner.proofs.PlannedWork.{any_right}
 
@@ -80,6 +82,18 @@ ended_on a b (it ∷ first) second (next, made, rest) kind view un =
       ap (λ b. b || ended_by (after a.state it) first kind view) parts.0
           ∙ subst (λ x. ended_by x first kind view ≡ false) made.state later.0,
       later.1,
+    )
+
+-- what is over neither by some calls nor by those after them
+over_parts : (a b : LawfulResolverFacts) (over : FetchKind → ℕ → Bool) (first second : List Call) → AreMade a first b
+    → (kind : FetchKind) (view : ℕ) → (over kind view || ended_by a.state (first ++ second) kind view) ≡ false
+    → ((over kind view || ended_by a.state first kind view) ≡ false)
+    × ((over kind view || ended_by b.state second kind view) ≡ false)
+over_parts a b over first second is kind view un =
+    let parts = not_or (over kind view) _ un in
+    let ended = ended_on a b first second is kind view parts.1 in (
+      ap (λ t. t || ended_by a.state first kind view) parts.0 ∙ ended.0,
+      ap (λ t. t || ended_by b.state second kind view) parts.0 ∙ ended.1,
     )
 
 -- a fetch of the same kind and view
@@ -152,15 +166,16 @@ no_task_hands_in bytes now task.NextTimeout = refl
 no_task_hands_in bytes now task.Prune = refl
 
 module _ {S D K G C : Type 0} where
-  -- nothing of the resolver has changed, and what was asked for is
+  -- nothing of the resolver has changed, what was asked for is, and no peer is asked
   pub keeps_asking : {old new : Plan S D K G C} (over : FetchKind → ℕ → Bool)
       → new.repair.resolver ≡ old.repair.resolver
       → ((kind : FetchKind) (view : ℕ) → asks old kind view ≡ true → over kind view ≡ false → asks new kind view ≡ true)
-      → KeepsFetching [] over [] old new
-  keeps_asking {old = old} over same still = record {
+      → AsksNoPeer over old.repair.fetches new.repair.fetches → KeepsFetching [] over [] old new
+  keeps_asking {old = old} over same still unasked = record {
     received = same;
     still = λ kind view is un. still kind view (or_nothing (asks old kind view) is)
         (not_or (over kind view) false un).0;
+    unasked = asks_none_wider (λ kind view un. (not_or (over kind view) false un).0) unasked;
   }
 
   -- beside matters of which none is a missing certificate
@@ -171,27 +186,29 @@ module _ {S D K G C : Type 0} where
   asks_beside {old = old} given none keeps = record {
     received = keeps.received;
     still = λ kind view is. keeps.still kind view (ap (λ b. asks old kind view || b) (sym (none kind view)) ∙ is);
+    unasked = keeps.unasked;
   }
 
   -- whatever is over
   pub asks_over : {old new : Plan S D K G C} {given : List (Cause S D K G C)} {calls : List Call}
       (over : FetchKind → ℕ → Bool) → KeepsFetching given never calls old new → KeepsFetching given over calls old new
-  asks_over over keeps =
-      record {
-        received = keeps.received;
-        still = λ kind view is un. keeps.still kind view is
-            (not_or (over kind view) _ un).1;
-      }
+  asks_over over keeps = record {
+    received = keeps.received;
+    still = λ kind view is un. keeps.still kind view is (not_or (over kind view) _ un).1;
+    unasked = asks_none_wider (λ kind view un. (not_or (over kind view) _ un).1) keeps.unasked;
+  }
 
   pub asks_where_same : {old new : Plan S D K G C} (over : FetchKind → ℕ → Bool) → new ≡ old
       → KeepsFetching [] over [] old new
   asks_where_same over is = keeps_asking over (ap (λ (p : Plan S D K G C). p.repair.resolver) is)
       (λ kind view asked un. asks_same kind view is asked)
+      (asks_none_still (ap (λ (p : Plan S D K G C). p.repair.fetches) is))
 
   pub asks_behind : {more : List (Step S D K G C)} {old new : Plan S D K G C} (over : FetchKind → ℕ → Bool)
       → HasPlanned more old new → KeepsFetching [] over [] old new
   asks_behind over is = keeps_asking over (ap (λ (p : Plan S D K G C). p.repair.resolver) is.same)
       (λ kind view asked un. planned_still kind view is asked)
+      (asks_none_still (ap (λ (p : Plan S D K G C). p.repair.fetches) is.same))
 
   pub asks_further : {a b c : Plan S D K G C} {given : List (Cause S D K G C)} {over : FetchKind → ℕ → Bool}
       {calls more : List Call} → KeepsFetching given over calls a b → KeepsFetching [] over more b c
@@ -205,6 +222,11 @@ module _ {S D K G C : Type 0} where
         (first.still kind view is
         (ap (λ t. t || ended_by a.repair.resolver.state calls kind view) parts.0 ∙ ended.0)))
         (ap (λ t. t || ended_by b.repair.resolver.state more kind view) parts.0 ∙ ended.1);
+    unasked = asks_none_on
+        (asks_none_wider (λ kind view un.
+        (over_parts a.repair.resolver b.repair.resolver over calls more first.received kind view un).0) first.unasked)
+        (asks_none_wider (λ kind view un.
+        (over_parts a.repair.resolver b.repair.resolver over calls more first.received kind view un).1) second.unasked);
   }
 
   -- before it nothing was lost
@@ -224,6 +246,11 @@ module _ {S D K G C : Type 0} where
           | inr now ↦ or_right (asks b kind view) (list_any (is_missing_certificate kind view) given) now
         ])
         (ap (λ t. t || ended_by b.repair.resolver.state more kind view) parts.0 ∙ ended.1);
+    unasked = asks_none_on
+        (asks_none_wider (λ kind view un.
+        (over_parts a.repair.resolver b.repair.resolver over calls more first.received kind view un).0) first.unasked)
+        (asks_none_wider (λ kind view un.
+        (over_parts a.repair.resolver b.repair.resolver over calls more first.received kind view un).1) second.unasked);
   }
 
   -- ---- other views
@@ -255,6 +282,7 @@ module _ {S D K G C : Type 0} where
       (asks_on kind view old between (λ before.
       still kind view un (nat_lt old.views.last_finalized views.last_finalized) is.passed before) (λ queued. queued)
       asked))
+      (passed_alone (nat_lt old.views.last_finalized views.last_finalized) is.passed)
     where
       between : Plan S D K G C
       between = record old { views = views; repair = new.repair }
@@ -266,6 +294,15 @@ module _ {S D K G C : Type 0} where
 
       above : (a b : ℕ) → nat_le b a ≡ false → nat_lt a b ≡ true
       above a b un = grind (arith, nat_tests, un)
+
+      passed_alone : (b : Bool) → IsPassedWhere b views.last_finalized old.repair new.repair
+          → AsksNoPeer (λ kind view. nat_le view views.last_finalized) old.repair.fetches new.repair.fetches
+      passed_alone true passes = asks_none_in passes
+          (unasked_kept (λ f. nat_lt views.last_finalized f.view) old.repair.fetches.wanted.items
+          (λ kind view un f here. ap (nat_lt views.last_finalized)
+          (eqb-true f.view view (and_parts (same_kind f.kind kind) (f.view == view) here).1)
+          ∙ above views.last_finalized view un))
+      passed_alone false passes = asks_none_still (ap (λ (r : Repair). r.fetches) passes)
 
       still : (kind : FetchKind) (view : ℕ) → nat_le view views.last_finalized ≡ false → (b : Bool)
           → IsPassedWhere b views.last_finalized old.repair new.repair
@@ -361,17 +398,18 @@ module _ {S D K G C : Type 0} where
       keeps_asking never (ap (λ (p : Plan S D K G C). p.repair.resolver) is.same)
       (λ kind view asked un. queued_more kind view more old new is.steps
       (ap (λ (p : Plan S D K G C). p.repair) is.same) asked)
+      (asks_none_still (ap (λ (p : Plan S D K G C). p.repair.fetches) is.same))
 
   -- whatever of the plan is no matter of what it asks for
   pub as_watched : {given : List (Cause S D K G C)} {over : FetchKind → ℕ → Bool} {calls : List Call}
       {old new : Plan S D K G C} → KeepsFetching given over calls (watching old) new
       → KeepsFetching given over calls old new
-  as_watched keeps = record { received = keeps.received; still = keeps.still }
+  as_watched keeps = record { received = keeps.received; still = keeps.still; unasked = keeps.unasked }
 
   as_timed : {given : List (Cause S D K G C)} {over : FetchKind → ℕ → Bool} {calls : List Call}
       {old new : Plan S D K G C} {moment : ℕ} → KeepsFetching given over calls (record old { timeout = moment }) new
       → KeepsFetching given over calls old new
-  as_timed keeps = record { received = keeps.received; still = keeps.still }
+  as_timed keeps = record { received = keeps.received; still = keeps.still; unasked = keeps.unasked }
 
   consequence_asks : (what : Consequence D) (old new : Plan S D K G C) → IsConsequence what old new
       → KeepsFetching [] never [] old new
@@ -382,6 +420,7 @@ module _ {S D K G C : Type 0} where
   consequence_asks (Ended view) old new is =
       keeps_asking never (ap (λ (p : Plan S D K G C). p.repair.resolver) is.same)
       (λ kind v asked un. ap (λ (p : Plan S D K G C). asks p kind v) is.same ∙ asked)
+      (asks_none_still (ap (λ (p : Plan S D K G C). p.repair.fetches) is.same))
   consequence_asks (Asked call) old new is = asks_behind never is
 
   verify_asks : (now : ℕ) (answer : Verify D K) (asked : CallFacts D) (old new : Plan S D K G C)
@@ -408,6 +447,7 @@ module _ {S D K G C : Type 0} where
                   (as_open (fetch_kind lacks) kind at view old.repair.fetches.wanted.items
                   (or_nothing (same_kind (fetch_kind lacks) kind && at == view) now) is_open)
             ]);
+        unasked = asks_none_still (ap (λ (p : Plan S D K G C). p.repair.fetches) planned.same);
       }
       by_test false is_open planned = record {
         received = ap (λ (p : Plan S D K G C). p.repair.resolver) planned.same;
@@ -419,6 +459,7 @@ module _ {S D K G C : Type 0} where
                   (ap (list_any (is_resolve kind view)) planned.steps
                   ∙ any_right (is_resolve kind view) old.steps.items more now)
             ];
+        unasked = asks_none_still (ap (λ (p : Plan S D K G C). p.repair.fetches) planned.same);
       }
 
   request_asks : (now : ℕ) (request : Option (ProposalRequest D K)) (asked : CallFacts D) (old new : Plan S D K G C)
@@ -457,6 +498,7 @@ module _ {S D K G C : Type 0} where
               (sym (no_lack S K G C kind view proposals))
               ∙ sym (list_any-append (is_missing_certificate kind view) offers lacks) ∙ given))
         ];
+    unasked = asks_none_in is.fetched (unasked_fetching now wanted old.repair.fetches.wanted.items);
   }
     where
       offers : List (Cause S D K G C)
@@ -478,6 +520,9 @@ module _ {S D K G C : Type 0} where
         before
         (not_or (is_notarized kind view it) _ (not_or _ false un).0).1) (λ queued. queued)
         (or_nothing (asks old kind view) asked));
+    unasked = asks_none_wider (λ kind view un. (not_or (is_notarized kind view it) _ (not_or _ false un).0).1)
+        (asks_none_as is.peers is.retry is.fetches_now
+        (unasked_effects moment (effects old.repair.resolver.state it) old.repair.fetches.wanted.items));
   }
 
   module _ (bytes : D → List ℕ) (bytes_of : C → List ℕ) (now : ℕ) where
@@ -500,6 +545,7 @@ module _ {S D K G C : Type 0} where
         → IsNullifyFollowed now answer old new → KeepsFetching [] never [] old new
     nullify_asks None old new is = keeps_asking never (ap (λ (p : Plan S D K G C). p.repair.resolver) is)
         (λ kind view asked un. asks_same kind view is asked)
+        (asks_none_still (ap (λ (p : Plan S D K G C). p.repair.fetches) is))
     nullify_asks (Some (true, vote)) old new is = asks_behind never is
     nullify_asks (Some (false, vote)) old new is = asks_behind never is
 
@@ -590,6 +636,16 @@ module _ {S D K G C : Type 0} where
           (open_through kind view moment (effects old.repair.resolver.state it) old.repair.fetches.wanted.items before
           (not_or (is_notarized kind view it) _ (not_or _ false un).0).1))
           (λ queued. queued) (or_nothing (asks old kind view) asked));
+      unasked = asks_none_as is.notified.peers is.notified.retry is.notified.fetched (unasked_on
+          (unasked_wider (λ kind view un. (not_or (is_notarized kind view it) _ (not_or _ false un).0).1)
+          (unasked_effects moment (effects old.repair.resolver.state it) old.repair.fetches.wanted.items))
+          (record {
+            stay = λ kind view before un. without_asks accepted kind view
+                (after_effects moment (effects old.repair.resolver.state it) old.repair.fetches.wanted.items)
+                (not_or (is_notarized kind view it) _ (not_or _ false un).0).0 before;
+            unasked = λ f has. inl (without_in accepted
+                (after_effects moment (effects old.repair.resolver.state it) old.repair.fetches.wanted.items) f has);
+          }));
     }
       where
         it : Call
@@ -668,6 +724,7 @@ module _ {S D K G C : Type 0} where
               ∙ open_now kind view k v first moment old.repair.fetches.wanted.items
               (or_nothing (same_kind k kind && v == view) now))
         ];
+    unasked = asks_none_in opens (unasked_opened k v first moment old.repair.fetches.wanted.items);
   }
 
   -- missing certificates are still asked for
@@ -687,7 +744,9 @@ module _ {S D K G C : Type 0} where
       ∙ open_kept kind view (is_missing wanted x)
       (λ f here. lacks kind view f here (not_or (holds wanted x kind view) _ un)) old.repair.fetches.wanted.items
       before)
-      (λ queued. ap (λ (p : Plan S D K G C). list_any (is_resolve kind view) p.steps.items) is ∙ queued) asked))
+      (λ queued. ap (λ (p : Plan S D K G C). list_any (is_resolve kind view) p.steps.items) is ∙ queued) asked)
+      (asks_none_in passes (unasked_kept (is_missing wanted x) old.repair.fetches.wanted.items
+      (λ kind view un f here. lacks kind view f here (not_or (holds wanted x kind view) _ un)))))
     where
       wanted : List ℕ
       wanted = old.repair.resolver.open_fetches

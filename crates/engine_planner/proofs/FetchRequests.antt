@@ -121,7 +121,7 @@ module _ (kind : FetchKind) (view : ℕ) where
       ]
 
   -- effects that do not end it
-  open_past : (moment : ℕ) (e : Effect) (xs : List Fetch) → is_fetch_open kind view xs ≡ true
+  pub open_past : (moment : ℕ) (e : Effect) (xs : List Fetch) → is_fetch_open kind view xs ≡ true
       → ends_fetch kind view e ≡ false → is_fetch_open kind view (after_effect moment e xs) ≡ true
   open_past moment (effect.Fetch v cause reason) xs is un = open_further fetch.Nullification v 0 moment xs is
   open_past moment (effect.Settled of start end) xs is un =

@@ -1,6 +1,6 @@
 -- What the calls of a plan leave at hand: what was, and what an answer gives.
-use Rattle.std.proofs.Common.{◌≡◌, ◌∙◌, refl, ap, sym, ℕ, Bool, true, false, not, ◌==◌, cond, List, [], ◌∷◌, ◌++◌, append_assoc, append-nil, filter, map, Option, Some, None, is_some}
-use Rattle.std.specs.Prelude.{nat_le, nat_lt, option_to_list}
+use Rattle.std.proofs.Common.{◌≡◌, ◌∙◌, refl, ap, ℕ, Bool, true, false, not, ◌==◌, cond, List, [], ◌∷◌, ◌++◌, append_assoc, append-nil, filter, map, Option, Some, None, is_some}
+use Rattle.std.specs.Prelude.{nat_le, nat_lt}
 use Rattle.simplex_types.specs.Certificates.{certificate_facts}
 use Rattle.simplex_types.specs.MessageViews.{certificate_view}
 use Rattle.simplex_types.specs.declared.reasons.TimeoutReason.{TimeoutReason}
@@ -27,8 +27,8 @@ use Rattle.engine_fetches.specs.declared.fetches.FetchKind.TheVariants as fetch
 use Rattle.engine_fetches.specs.declared.repair.Repair.{Repair}
 use Rattle.engine_fetches.specs.Fetches.{fetch_kind, is_of, is_fetch_open}
 use Rattle.engine_fetches.specs.Repairs.{IsRepaired}
-use Rattle.engine_fetches.specs.OutstandingFetches.{after_effects, fetching, wants, OpensNoOther}
-use Rattle.engine_fetches.proofs.OpenedFetches.{open_asked, opens_after, opens_further, opens_left}
+use Rattle.engine_fetches.specs.OutstandingFetches.{after_effects, fetching, OpensNoOther}
+use Rattle.engine_fetches.proofs.OpenedFetches.{opens_after, opens_further, opens_left}
 use Rattle.engine_outbox.specs.declared.output.Work.TheVariants as work
 use Rattle.engine_outbox.specs.CertificateCalls.{certificate_call}
 use Rattle.engine_planner.specs.declared.plan.builds.PendingBuild.{PendingBuild}
@@ -42,7 +42,6 @@ use Rattle.engine_planner.specs.declared.task.Task.TheVariants as task
 use Rattle.engine_planner.specs.Blocks.{all_but_at}
 use Rattle.engine_planner.specs.BuildPlans.{IsEnded, IsStopped}
 use Rattle.engine_planner.specs.ViewChanges.{asking_by, offering, offering_one, HasEntered, HasEnteredWhere, IsPassedWhere, HasSeen}
-use Rattle.engine_planner.specs.StepSelection.{fetching_one, watching_all, watching_where, AreWatched, HasTaken, IsFetchAsked, IsPruneAsked, IsReady, IsTimeoutAsked}
 use Rattle.engine_planner.specs.Consequences.{AreCertified, Consequence, Nothing, Touched, Built, Stopped, Ended, Asked, after_flag, after_refusal, after_watch, certifying, effects_due, showing, waits, without, IsBroadcastFollowed, IsBuilt, IsCertificateFollowed, IsConsequence, IsFollowed, IsNewFollowed, IsNullifyFollowed, IsRequestFollowed, IsResolverNotified, IsTakenInAbove, IsTimeoutFollowed, IsVerdictFollowed, IsVerdictReportedAbove, IsVerifyFollowed, later}
 use Rattle.engine_planner.specs.Causes.{Cause, WorkItem, MissingCertificate, Arrival, Expiry, reply_causes, of_block, of_blocks, of_early, of_fetches, of_repair, of_steps, of_task, planned_causes, shown_by}
 use Rattle.engine_planner.specs.PlanStates.{HasPlanned, touching, watching}
@@ -122,82 +121,6 @@ module _ {S D K G C : Type 0} where
       (among_further (among_still (of_steps old.steps.items)) (in_steps old)) (in_blocks old) (in_early old)
       (among_further (passed_repair (nat_lt old.views.last_finalized views.last_finalized) views.last_finalized
       old.repair new.repair is.passed) (in_fetches old)))
-
-  -- ---- the next step
-
-  asked_of_peer : (ask : Option Ask) → of_steps {S = S} {D = D} {K = K} {G = G} {C = C} (fetching_one ask) ≡ []
-  asked_of_peer None = refl
-  asked_of_peer (Some ask) = refl
-
-  watched_none : (current : ℕ) (builds : List (PendingBuild D K))
-      → of_steps {S = S} {D = D} {K = K} {G = G} {C = C} (watching_all current builds) ≡ []
-  watched_none current [] = refl
-  watched_none current (b ∷ builds) = one (nat_lt b.context.round.view current) ∙ watched_none current builds
-    where
-      one : (t : Bool) → of_task {S = S} {D = D} {K = K} {G = G} {C = C}
-          (cond t (task.ReleaseProposalRequest b.context.round.view)
-          (task.PendingHandoffAbandonment b.context.round.view)) ++ of_steps (watching_all current builds) ≡ of_steps
-          (watching_all current builds)
-      one true = refl
-      one false = refl
-
-  watched_where : (b : Bool) (current : ℕ) (builds : List (PendingBuild D K))
-      → of_steps {S = S} {D = D} {K = K} {G = G} {C = C} (watching_where b current builds) ≡ []
-  watched_where true current builds = watched_none current builds
-  watched_where false current builds = refl
-
-  module _ (now : ℕ) where
-    fetch_asked : (old new : Plan S D K G C) → IsFetchAsked now old new
-        → AreAmong (planned_causes new) (planned_causes old)
-    fetch_asked old new is =
-        among_further (planned_alone (asked_of_peer is.ask) is.planned)
-        (among_further (fetches_alone old (record old { repair = new.repair }) [] refl
-        (among_further (no_other old.repair.resolver.open_fetches new.repair.resolver.open_fetches
-        old.repair.fetches.wanted.items new.repair.fetches.wanted.items (λ kind view is_open unwanted. (
-          sym (open_asked now old.repair.fetches new.repair.fetches is.ask is.asked kind view) ∙ is_open,
-          ap (λ (r : LawfulResolverFacts). wants r.open_fetches kind view) (sym is.resolver) ∙ unwanted,
-        )))
-        (among_further (in_fetches old) (among_more (planned_causes old) []))))
-        (among_all (append-nil (planned_causes old))))
-
-    prune_asked : (b : Bool) (old new : Plan S D K G C) → IsPruneAsked b now old new
-        → AreAmong (planned_causes new) (planned_causes old)
-    prune_asked true old new is = planned_alone refl is
-    prune_asked false old new is = fetch_asked old new is
-
-    timeout_asked : (b : Bool) (old new : Plan S D K G C) → IsTimeoutAsked b now old new
-        → AreAmong (planned_causes new) (planned_causes old)
-    timeout_asked true old new is = planned_alone refl is
-    timeout_asked false old new is = prune_asked old.is_prune_due old new is
-
-    watched_on : (steps : List (Step S D K G C)) → of_steps steps ≡ [] → (old new : Plan S D K G C)
-        → AreWatched steps now old new → AreAmong (planned_causes new) (planned_causes old)
-    watched_on [] none old new is = timeout_asked old.is_timeout_due old new is
-    watched_on (step ∷ steps) none old new is = planned_alone none is
-
-    ready_on : (steps : List (Step S D K G C)) (old ready : Plan S D K G C) → IsReady steps now old ready
-        → AreAmong (planned_causes ready) (planned_causes old)
-    ready_on [] old ready is =
-        watched_on (watching_where old.is_watch_due old.views.current old.builds.buildings.items)
-        (watched_where old.is_watch_due old.views.current old.builds.buildings.items)
-        (record old { is_watch_due = false }) ready is
-    ready_on (step ∷ steps) old ready is = same_plan is
-
-    -- the step that is taken, and what is left, were at hand
-    pub taken_alone : (step : Option (Step S D K G C)) (old new : Plan S D K G C) → HasTaken now step old new
-        → AreAmong (of_steps (option_to_list step) ++ planned_causes new) (planned_causes old)
-    taken_alone step old new taken =
-        among_further
-        (among_each (among_further (among_more (of_steps (option_to_list step)) (of_steps new.steps.items)) front)
-        (each_part new (among_further (among_last (of_steps (option_to_list step)) (of_steps new.steps.items)) front)
-        (still_blocks taken.ready new (ap (λ (p : Plan S D K G C). p.builds) taken.same))
-        (still_early taken.ready new (ap (λ (p : Plan S D K G C). p.early) taken.same))
-        (still_fetches taken.ready new (ap (λ (p : Plan S D K G C). p.repair) taken.same))))
-        (ready_on old.steps.items old taken.ready taken.is_ready)
-      where
-        front : AreAmong (of_steps (option_to_list step) ++ of_steps new.steps.items) (planned_causes taken.ready)
-        front = among_further (among_all (sym
-            (ap of_steps taken.taken ∙ of_steps-append (option_to_list step) new.steps.items))) (in_steps taken.ready)
 
   -- ---- answers
 

@@ -1,5 +1,5 @@
 -- The causes of work, calls and fetches: what a plan has at hand, and what a reply of the member brings.
-use Rattle.std.specs.Prelude.{ℕ, nat_le, List, [], ◌∷◌, ◌++◌, map, Some, if◌then◌else◌}
+use Rattle.std.specs.Prelude.{ℕ, nat_le, Bool, true, false, List, [], ◌∷◌, ◌++◌, map, filter, Some, if◌then◌else◌}
 use Rattle.simplex_types.specs.declared.types.messages.Context.{Context}
 use Rattle.simplex_types.specs.declared.types.messages.Proposal.{Proposal}
 use Rattle.simplex_types.specs.declared.types.messages.Subject.{Subject}
@@ -9,6 +9,7 @@ use Rattle.simplex_voter.specs.declared.voter.verify.Verify.TheVariants as verif
 use Rattle.simplex_member.specs.Calls.{CallFacts, AddNotarization, AddNullification, AddFinalization}
 use Rattle.simplex_member.specs.declared.member.calls.Reply.{Reply}
 use Rattle.simplex_member.specs.declared.member.calls.Reply.TheVariants as reply
+use Rattle.engine_fetches.specs.declared.fetches.Ask.{Ask}
 use Rattle.engine_fetches.specs.declared.fetches.Fetch.{Fetch}
 use Rattle.engine_fetches.specs.declared.fetches.FetchKind.{FetchKind}
 use Rattle.engine_fetches.specs.declared.fetches.FetchKind.TheVariants.{Notarization}
@@ -17,6 +18,7 @@ use Rattle.engine_fetches.specs.Fetches.{fetch_kind}
 use Rattle.engine_fetches.specs.OutstandingFetches.{wants}
 use Rattle.engine_outbox.specs.declared.output.Work.{Work}
 use Rattle.engine_outbox.specs.declared.output.Work.TheVariants.{Broadcast, Verify, Build, StopBuilding, Certify, Fetch as AskPeer, ProposedTwice}
+use Rattle.engine_planner.specs.AskedFetches.{same_ask}
 use Rattle.engine_planner.specs.declared.plan.builds.PendingBuild.{PendingBuild}
 use Rattle.engine_planner.specs.declared.plan.early.Early.{Early}
 use Rattle.engine_planner.specs.declared.plan.Plan.{Plan}
@@ -31,6 +33,8 @@ pub data Cause (S D K G C : Type 0) : Type 0 where
   WorkItem : Work S D K G C → Cause S D K G C
   -- a certificate of this view is missing
   MissingCertificate : FetchKind → ℕ → Cause S D K G C
+  -- a peer is to be asked for a certificate
+  Request : Ask → Cause S D K G C
   -- a proposal that this member made
   Arrival : ℕ → Proposal D → Cause S D K G C
   -- a certificate on this
@@ -41,9 +45,9 @@ pub data Cause (S D K G C : Type 0) : Type 0 where
   Expiry : Cause S D K G C
 
 module _ {S D K G C : Type 0} where
-  -- work is its own cause, except what is asked of a peer for an outstanding fetch
+  -- work is its own cause
   abbrev pub of_work : Work S D K G C → List (Cause S D K G C)
-  of_work (AskPeer _) = []
+  of_work (AskPeer ask) = Request ask ∷ []
   of_work work = WorkItem work ∷ []
 
   -- the same for each of these
@@ -97,6 +101,20 @@ module _ {S D K G C : Type 0} where
   -- early proposals
   abbrev pub of_early : List (Early D) → List (Cause S D K G C)
   of_early early = map (λ (it : Early D). Arrival it.from it.proposal) early
+
+  -- this peer is to be asked for this certificate
+  abbrev pub is_request : Ask → Cause S D K G C → Bool
+  is_request ask (Request it) = same_ask it ask
+  is_request ask _ = false
+
+  -- what is not asked of peers
+  abbrev pub is_other : Cause S D K G C → Bool
+  is_other (Request _) = false
+  is_other _ = true
+
+  -- the same of these
+  abbrev pub unrequested : List (Cause S D K G C) → List (Cause S D K G C)
+  unrequested causes = filter is_other causes
 
   -- what a plan has at hand
   abbrev pub planned_causes : Plan S D K G C → List (Cause S D K G C)

@@ -11,13 +11,15 @@ use Rattle.simplex_types.specs.Certificates.{Notarized, Nullified, Finalized, no
 use Rattle.simplex_member.specs.Calls.{CallFacts, AddNotarization, AddNullification, AddFinalization}
 use Rattle.simplex_member.specs.declared.member.calls.Reply.{Reply}
 use Rattle.simplex_member.specs.declared.member.calls.Reply.TheVariants as reply
+use Rattle.engine_fetches.specs.declared.fetches.Ask.{Ask}
 use Rattle.engine_fetches.specs.declared.fetches.FetchKind.{FetchKind}
 use Rattle.engine_fetches.specs.declared.fetches.FetchKind.TheVariants.{Notarization, Nullification}
 use Rattle.engine_fetches.specs.Fetches.{fetch_kind, is_fetch_open, same_kind}
 use Rattle.engine_planner.specs.declared.plan.Plan.{Plan}
 use Rattle.engine_planner.specs.declared.plan.Step.{Step}
 use Rattle.engine_planner.specs.declared.plan.Step.TheVariants.{Resolve}
-use Rattle.engine_planner.specs.Causes.{Cause, MissingCertificate}
+use Rattle.engine_planner.specs.AskedFetches.{AsksNoPeer}
+use Rattle.engine_planner.specs.Causes.{Cause, MissingCertificate, is_request}
 
 -- an effect of a resolver ends the fetch of this kind and view
 abbrev pub ends_fetch : FetchKind → ℕ → Effect → Bool
@@ -102,11 +104,24 @@ received_by bytes bytes_of (reply.Certified is_success (Some n)) asked =
     above_genesis n.proposal.round.view (verdict bytes (notarization_facts bytes_of n) is_success)
 received_by bytes bytes_of _ asked = []
 
+-- why a peer is asked for a certificate
+pub data IsSought {S D K G C : Type 0} (causes : List (Cause S D K G C)) (asks_now over : FetchKind → ℕ → Bool)
+    (ask : Ask) : Type 0 where
+  -- these ask for it
+  WasAsked : list_any (is_request ask) causes ≡ true → IsSought causes asks_now over ask
+  -- these name it as missing
+  IsNamed : list_any (is_missing_certificate ask.kind ask.view) causes ≡ true → IsSought causes asks_now over ask
+  -- it is a nullification, which is asked for now, unless that is over
+  IsWanted : same_kind ask.kind Nullification ≡ true
+      → (over ask.kind ask.view ≡ false → asks_now ask.kind ask.view ≡ true) → IsSought causes asks_now over ask
+
 -- a plan still asks for what it asked for, and asks for what was named as missing, unless that is over; and its
--- resolver, which received exactly these calls, received none that ends it
+-- resolver, which received exactly these calls, received none that ends it; no peer is asked
 pub record KeepsFetching {S D K G C : Type 0} (given : List (Cause S D K G C)) (over : FetchKind → ℕ → Bool)
     (calls : List Call) (old new : Plan S D K G C)
     : Type 0 where
   pub received : AreMade old.repair.resolver calls new.repair.resolver
   pub still : IsStill (with_missing_certificate (asks old) given)
       (λ kind view. over kind view || ended_by old.repair.resolver.state calls kind view) (asks new)
+  pub unasked : AsksNoPeer (λ kind view. over kind view || ended_by old.repair.resolver.state calls kind view)
+      old.repair.fetches new.repair.fetches

@@ -6,5 +6,6 @@ pub mod ViewChanges
 pub mod StepSelection
 pub mod Consequences
 pub mod PlannedWork
+pub mod AskedFetches
 pub mod Causes
 pub mod FetchRequests

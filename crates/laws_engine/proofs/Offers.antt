@@ -43,7 +43,7 @@ module _ {S L D K G C : Type 0} (same : D → D → Bool) (elect : Elect L) (byt
       (asked : FetchKind → ℕ → Bool) (m end : MemberFacts K L D)
       → IsCausedBy same elect bytes_of now asks_now over steps causes asked m left end
       → IsRunOnOffers same elect m (map (λ e. e.0) steps) (map (λ e. reply_facts bytes_of e.1) steps) end
-  steps_on_offers [] causes left asked m end (among, is, still) = sym is
+  steps_on_offers [] causes left asked m end (among, is, still, sought) = sym is
   steps_on_offers ((step, reply) ∷ rest) causes left asked m end (meant, next, is_step, provenance) =
       let given : List (Cause S D K G C) = step_causes {L = L} now step reply in (
         step_on_offer now causes m step meant,

@@ -20,7 +20,7 @@ use Rattle.engine_outbox.specs.CertificateCalls.{certificate_call}
 use Rattle.engine_outbox.specs.declared.output.Work.{Work}
 use Rattle.engine_outbox.specs.declared.output.Work.TheVariants.{Certify, ProposedTwice}
 use Rattle.engine_planner.specs.FetchRequests.{with_missing_certificate}
-use Rattle.engine_planner.specs.Causes.{Cause, WorkItem, MissingCertificate, Arrival, Message, Quorum, Expiry, reply_causes, of_task, shown_by}
+use Rattle.engine_planner.specs.Causes.{Cause, WorkItem, MissingCertificate, Arrival, Message, Quorum, Expiry, reply_causes, of_task, shown_by, unrequested}
 use Rattle.engine_planner.specs.PlannedWork.{AreAmong}
 use Rattle.engine_planner.specs.Tasks.{call_of}
 use Rattle.engine_planner.specs.declared.task.Task.{Task}
@@ -195,7 +195,7 @@ module _ {S L D K G C : Type 0} (same : D → D → Bool) (elect : Elect L) (byt
   pub left_given : (steps : List (StepFacts K L D × Reply S D K G C)) (causes left : List (Cause S D K G C))
       (asked : FetchKind → ℕ → Bool) (m end : MemberFacts K L D)
       → IsCausedBy same elect bytes_of now asks_now over steps causes asked m left end
-      → AreAmong left (causes ++ given_by_all now steps)
+      → AreAmong (unrequested left) (causes ++ given_by_all now steps)
   left_given [] causes left asked m end provenance = among_further provenance.0 (among_more causes [])
   left_given ((step, reply) ∷ rest) causes left asked m end (meant, next, is_step, provenance) =
       let given : List (Cause S D K G C) = step_causes {L = L} now step reply in

@@ -16,7 +16,7 @@ use Rattle.simplex_member.specs.declared.member.calls.Reply.TheVariants as reply
 use Rattle.engine_fetches.specs.declared.fetches.FetchKind.{FetchKind}
 use Rattle.engine_outbox.specs.CertificateCalls.{certificate_call}
 use Rattle.engine_planner.specs.FetchRequests.{with_missing_certificate}
-use Rattle.engine_planner.specs.Causes.{Cause, WorkItem, MissingCertificate, Arrival, Message, Quorum, Expiry, reply_causes, of_task}
+use Rattle.engine_planner.specs.Causes.{Cause, WorkItem, MissingCertificate, Arrival, Message, Quorum, Expiry, reply_causes, of_task, Request}
 use Rattle.engine_planner.specs.Tasks.{call_of}
 use Rattle.engine_planner.specs.declared.task.Task.{Task}
 use Rattle.engine_planner.specs.declared.task.Task.TheVariants as task
@@ -42,6 +42,7 @@ module _ {S D K G C : Type 0} where
       ]
       by_matter test passes (WorkItem work) is = absurd (false≢true is)
       by_matter test passes (MissingCertificate kind view) is = absurd (false≢true is)
+      by_matter test passes (Request ask) is = absurd (false≢true is)
       by_matter test passes (Arrival from proposal) is = absurd (false≢true is)
       by_matter test passes (Quorum subject) is = absurd (false≢true is)
       by_matter test passes (Message asked) is = absurd (false≢true is)

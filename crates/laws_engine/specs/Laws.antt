@@ -10,7 +10,7 @@ use Rattle.simplex_member.specs.declared.member.calls.Reply.{Reply}
 use Rattle.simplex_member.specs.declared.member.calls.Reply.TheVariants.{Timeout}
 use Rattle.engine_fetches.specs.declared.fetches.FetchKind.{FetchKind}
 use Rattle.engine_outbox.specs.declared.output.Work.{Work}
-use Rattle.engine_planner.specs.Causes.{Cause, Arrival, Expiry, Message, Quorum, of_works}
+use Rattle.engine_planner.specs.Causes.{Cause, Arrival, Expiry, Message, Quorum, of_works, unrequested}
 use Rattle.engine_planner.specs.PlannedWork.{AreAmong}
 use Rattle.engine_planner.specs.declared.task.Task.TheVariants as task
 use Rattle.simplex_engine.specs.Provenance.{pending_causes, step_causes, IsCaused, IsIn}
@@ -58,7 +58,8 @@ CallsWereReceivedBefore S L D K G C =
 -- by a reply
 abbrev pub WorkWasGiven : (S L D K G C : Type 0) → Type 0
 WorkWasGiven S L D K G C = OfEachWay S L D K G C (λ now came out old new steps.
-    AreAmong (of_works out ++ pending_causes new) ((came ++ pending_causes old) ++ given_by_all now steps))
+    AreAmong (unrequested (of_works out ++ pending_causes new))
+    ((came ++ pending_causes old) ++ given_by_all now steps))
 
 -- a reply says that the moment of a timeout has come
 pub record SaysDue {S D K G C : Type 0} (now : ℕ) (reply : Reply S D K G C) : Type 0 where

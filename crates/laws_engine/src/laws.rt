@@ -12,7 +12,7 @@ pub fn calls_were_received_before<S, L, D, K, G, C>()
 {}
 
 /// All work that it returns, queues or plans came in, was there before, or was in a reply of its member. The exception
-/// is what it asks of peers, which is not followed.
+/// is what it asks of peers, for which `provenance` itself gives the reason.
 pub fn work_was_given<S, L, D, K, G, C>()
     ensures { WorkWasGiven S L D K G C }
 {}

@@ -398,5 +398,6 @@ module _ {S L D K G C : Type 0} (same : D → D → Bool) (elect : Elect L) (byt
           received = taken.provenance.received;
           by_steps = taken.provenance.by_steps;
           works = taken.provenance.works;
+          asked = taken.provenance.asked;
         };
       })

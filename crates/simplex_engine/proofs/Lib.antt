@@ -8,7 +8,9 @@ mod ApplicationWork
 mod Requests
 mod ReplyWork
 mod AtRest
+mod CausedSteps
 mod Provenance
+mod FetchCauses
 mod NoMissingCertificates
 mod UnfinishedWork
 mod InputResults

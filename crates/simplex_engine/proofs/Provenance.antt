@@ -1,6 +1,6 @@
 -- For the code of the engine. What is done is caused by what is at hand, step by step.
-use Rattle.std.proofs.Common.{◌≡◌, ◌∙◌, refl, ap, sym, subst, ℕ, Bool, true, false, cond, inl, inr, List, [], ◌∷◌, ◌++◌, append_assoc, append-nil, filter, Option, Some, Result, Ok, Err, ◌⊎◌, ◌≤◌, ◌||◌, arith, None, ◌&&◌, ◌==◌}
-use Rattle.std.specs.Prelude.{IfErr, IfOk, IsErrAnd, OnErr, OnOk, option_map, option_to_list, nat_le}
+use Rattle.std.proofs.Common.{◌≡◌, ◌∙◌, refl, ap, sym, subst, ℕ, Bool, true, false, cond, inl, inr, List, [], ◌∷◌, ◌++◌, append_assoc, append-nil, Option, Some, Result, Ok, Err, ◌⊎◌, ◌≤◌, ◌||◌, arith, None, ◌&&◌, ◌==◌}
+use Rattle.std.specs.Prelude.{IfOk, IsErrAnd, OnOk, option_map, option_to_list, nat_le}
 use Rattle.std.proofs.lemmas.Bool.{false≢true, or_cases, or_left, or_right}
 use Rattle.std.proofs.lemmas.List.{map-append}
 use Rattle.std.proofs.lemmas.Result.{err_from_is_err_and}
@@ -10,8 +10,6 @@ use Rattle.simplex_types.specs.MessageViews.{subject_view}
 use Rattle.simplex_types.specs.declared.types.messages.Proposal.{Proposal}
 use Rattle.simplex_types.specs.declared.types.messages.Subject.{Subject}
 use Rattle.simplex_types.specs.declared.types.messages.Subject.TheVariants as subject
-use Rattle.simplex_types.specs.declared.types.fault.Fault.{Fault}
-use Rattle.simplex_types.specs.declared.types.fault.Fault.TheVariants.{Failed}
 use Rattle.simplex_resolver.specs.CallHistory.{LawfulResolverFacts}
 use Rattle.simplex_voter.specs.Facts.{Elect, StateFacts}
 use Rattle.simplex_member.specs.Calls.{CallFacts, reply_facts}
@@ -29,10 +27,8 @@ use Rattle.engine_votes.specs.declared.batcher.Counted.{Counted}
 use Rattle.engine_votes.specs.declared.batcher.Counted.TheVariants as counted
 use Rattle.engine_votes.specs.declared.batcher.poll.Ballot.{Ballot}
 use Rattle.engine_votes.specs.declared.votes.Vote.{Vote}
-use Rattle.engine_fetches.specs.declared.fetches.Fetch.{Fetch}
 use Rattle.engine_fetches.specs.declared.fetches.FetchKind.{FetchKind}
-use Rattle.engine_fetches.specs.Fetches.{opened, same_kind}
-use Rattle.engine_fetches.specs.Repairs.{HasFetches, HasPassed}
+use Rattle.engine_fetches.specs.Fetches.{is_fetch_open, same_kind}
 use Rattle.engine_fetches.specs.OutstandingFetches.{wanting}
 use Rattle.engine_fetches.proofs.OpenedFetches.{open_wanting}
 use Rattle.engine_outbox.specs.declared.journaled.Journaled.{Journaled}
@@ -43,6 +39,7 @@ use Rattle.engine_outbox.specs.declared.output.Work.TheVariants as work
 use Rattle.engine_outbox.specs.Journals.{BeginsWith}
 use Rattle.engine_outbox.specs.Outputs.{work_in}
 use Rattle.engine_outbox.proofs.QueuedOutputs.{work_in-append}
+use Rattle.engine_fetches.specs.declared.fetches.Ask.{Ask}
 use Rattle.engine_planner.specs.declared.plan.Options.{Options}
 use Rattle.engine_planner.specs.declared.plan.Plan.{Plan}
 use Rattle.engine_planner.specs.declared.plan.Step.{Step}
@@ -53,19 +50,23 @@ use Rattle.engine_planner.specs.declared.task.Task.TheVariants as task
 use Rattle.std.specs.List.{list_any}
 use Rattle.std.specs.Option.{option_map_or}
 use Rattle.std.proofs.lemmas.Bool.Decides.{nat_tests}
-use Rattle.engine_planner.specs.FetchRequests.{asks, ended_by, received_by, is_missing_certificate, is_resolve, with_missing_certificate, AreMade, IsStill, KeepsFetching}
-use Rattle.engine_planner.proofs.AskedSteps.{asks_beside, asks_where_same, ended_on, keeps_asking, made_on, AsksOn}
+use Rattle.engine_planner.specs.AskedFetches.{AsksWhoseTurn}
+use Rattle.engine_planner.proofs.TakenSteps.{any_weaker, other_and, unrequested_all}
+use Rattle.simplex_voter.proofs.Between.{any-filter}
+use Rattle.simplex_engine.proofs.CausedSteps.{by_more, joined, left_more, sought_by, sought_wider}
+use Rattle.engine_planner.proofs.AskedFetches.{asked_none, asked_on, asks_none_still}
+use Rattle.engine_planner.specs.FetchRequests.{asks, ended_by, never, received_by, is_missing_certificate, is_resolve, with_missing_certificate, AreMade, KeepsFetching, IsSought, IsNamed, IsWanted, WasAsked}
+use Rattle.engine_planner.proofs.AskedSteps.{asks_beside, asks_where_same, ended_on, made_on, AsksOn}
 use Rattle.laws_safety.specs.LifetimeLaws.{WhileAlive}
 use Rattle.engine_outbox.specs.Continuity.{HasRisen}
 use Rattle.engine_outbox.proofs.Continuity.{risen_not}
 use Rattle.simplex_member.specs.CallSemantics.{answer}
 use Rattle.simplex_resolver.specs.Steps.{Call}
-use Rattle.engine_planner.specs.Causes.{Cause, Quorum, WorkItem, MissingCertificate, Arrival, Message, reply_causes, of_blocks, of_early, of_fetches, of_step, of_steps, of_work, of_works, planned_causes}
-use Rattle.engine_planner.specs.PlannedWork.{AreAmong}
+use Rattle.engine_planner.specs.Causes.{Cause, Quorum, WorkItem, Arrival, Message, reply_causes, of_blocks, of_early, of_fetches, of_step, of_steps, of_work, of_works, planned_causes, is_other, is_request, unrequested}
+use Rattle.engine_planner.specs.PlannedWork.{AreAmong, work_planned}
 use Rattle.engine_planner.specs.Tasks.{call_of}
-use Rattle.engine_planner.proofs.GivenWork.{repaired_alone}
-use Rattle.engine_planner.proofs.Causes.{among_each, among_last, among_none, closes_some, each_part, fetches_by, in_early, in_steps, opens_one, same_plan, still_blocks, still_fetches}
-use Rattle.engine_planner.proofs.PlannedWork.{among_all, among_both, among_further, among_more, among_still}
+use Rattle.engine_planner.proofs.Causes.{among_each, among_last, among_none, each_part, fetches_by, in_early, in_steps, still_blocks, still_fetches}
+use Rattle.engine_planner.proofs.PlannedWork.{among_all, among_both, among_further, among_more, among_still, planned-append, any_either, any_left, any_right}
 use Rattle.simplex_engine.specs.declared.engine.Engine.{Engine}
 use Rattle.simplex_engine.specs.declared.input.Input.TheVariants as input
 use Rattle.simplex_engine.specs.ApplicationWork.{work_ahead}
@@ -73,97 +74,7 @@ use Rattle.simplex_engine.specs.InputEffects.{verification_of}
 use Rattle.simplex_engine.specs.Admission.{stores_early, IsStoredEarly}
 use Rattle.simplex_engine.specs.EngineStart.{HasStartedWith}
 use Rattle.simplex_engine.proofs.Tests.{not_or, or_none, or_nothing}
-use Rattle.simplex_engine.specs.Provenance.{pending_causes, input_causes, evidence, step_causes, received_in, of_counted, evidence_against, IsCallCaused, IsOnOffer, IsStepCaused, IsCaused, IsCausedBy, IsCausedWith, is_final, IsCausedWithoutInput, HasNoMissingCertificate, work_by_reply, work_by_steps}
-
-module _ {S L D K G C : Type 0} (now : ℕ) {causes more : List (Cause S D K G C)} (among : AreAmong causes more)
-    (m : MemberFacts K L D) where
-  -- more causes a step
-  meant_among : (call : CallFacts D) → IsCallCaused now causes m call → IsCallCaused now more m call
-  meant_among call (inl (asked, is, of_these, on_offer)) = inl (asked, is, among_further of_these among, on_offer)
-  meant_among call (inr (inl (from, proposal, is, in_these, admits))) =
-      inr (inl (from, proposal, is, among_further in_these among, admits))
-  meant_among call (inr (inr (certificate, is, in_these))) = inr (inr (certificate, is, among_further in_these among))
-
-  step_among : (step : StepFacts K L D) → IsStepCaused now causes m step → IsStepCaused now more m step
-  step_among (Calls call) is = meant_among call is
-  step_among Prunes is = tt
-  step_among (Restarts restart) is = is
-
-module _ {S L D K G C : Type 0} (same : D → D → Bool) (elect : Elect L) (bytes_of : C → List ℕ) (now : ℕ)
-    (asks_now : FetchKind → ℕ → Bool) where
-  -- more causes steps, where what was asked for before still is, or is over
-  by_more : (steps : List (StepFacts K L D × Reply S D K G C)) (over wider : FetchKind → ℕ → Bool)
-      (causes more left : List (Cause S D K G C)) (asked before : FetchKind → ℕ → Bool)
-      (m end : MemberFacts K L D) → AreAmong causes more → IsStill before wider asked
-      → ((kind : FetchKind) (view : ℕ) → wider kind view ≡ false → over kind view ≡ false)
-      → IsCausedBy same elect bytes_of now asks_now over steps causes asked m left end
-      → IsCausedBy same elect bytes_of now asks_now wider steps more before m left end
-  by_more [] over wider causes more left asked before m end among still within is =
-      (among_further is.0 among, is.1, λ kind view it un. is.2 kind view (still kind view it un) (within kind view un))
-  by_more ((step, answer) ∷ rest) over wider causes more left asked before m end among still within
-      (meant, next, is_step, provenance) =
-      let given : List (Cause S D K G C) = step_causes {L = L} now step answer in (
-        step_among now among m step meant,
-        next,
-        is_step,
-        by_more rest over wider (causes ++ given) (more ++ given) left (with_missing_certificate asked given)
-            (with_missing_certificate before given) next end
-            (among_both among (among_still given))
-            (λ kind view it un. lacks_too kind view given
-            (or_cases (before kind view) (list_any (is_missing_certificate kind view) given) it) un) within
-            provenance,
-      )
-    where
-      lacks_too : (kind : FetchKind) (view : ℕ) (given : List (Cause S D K G C))
-          → (before kind view ≡ true) ⊎ (list_any (is_missing_certificate kind view) given ≡ true)
-          → wider kind view ≡ false
-          → with_missing_certificate asked given kind view ≡ true
-      lacks_too kind view given (inl it) un =
-          or_left (asked kind view) (list_any (is_missing_certificate kind view) given) (still kind view it un)
-      lacks_too kind view given (inr it) un =
-          or_right (asked kind view) (list_any (is_missing_certificate kind view) given) it
-
-module _ {S L D K G C : Type 0} (same : D → D → Bool) (elect : Elect L) (bytes_of : C → List ℕ) (now : ℕ)
-    (asks_now : FetchKind → ℕ → Bool) where
-  -- what was at hand stays so beside what is left
-  left_more : (steps : List (StepFacts K L D × Reply S D K G C)) (over : FetchKind → ℕ → Bool)
-      (causes extra left : List (Cause S D K G C)) (asked : FetchKind → ℕ → Bool) (m end : MemberFacts K L D)
-      → AreAmong extra causes → IsCausedBy same elect bytes_of now asks_now over steps causes asked m left end
-      → IsCausedBy same elect bytes_of now asks_now over steps causes asked m (extra ++ left) end
-  left_more [] over causes extra left asked m end among is = (among_each among is.0, is.1, is.2)
-  left_more ((step, answer) ∷ rest) over causes extra left asked m end among (meant, next, is_step, provenance) =
-      let given : List (Cause S D K G C) = step_causes {L = L} now step answer in (
-        meant,
-        next,
-        is_step,
-        left_more rest over (causes ++ given) extra left (with_missing_certificate asked given)
-            next end (among_further among (among_more causes given)) provenance,
-      )
-
--- what earlier steps leave causes the steps after them
-module _ {S L D K G C : Type 0} (same : D → D → Bool) (elect : Elect L) (bytes_of : C → List ℕ) (now : ℕ)
-    (between asks_now over later wider : FetchKind → ℕ → Bool)
-    (first_within : (kind : FetchKind) (view : ℕ) → wider kind view ≡ false → over kind view ≡ false)
-    (second_within : (kind : FetchKind) (view : ℕ) → wider kind view ≡ false → later kind view ≡ false) where
-  joined : (steps more : List (StepFacts K L D × Reply S D K G C)) (a b c : List (Cause S D K G C))
-      (asked : FetchKind → ℕ → Bool) (m n end : MemberFacts K L D)
-      → IsCausedBy same elect bytes_of now between over steps a asked m b n
-      → IsCausedBy same elect bytes_of now asks_now later more b (λ kind view. between kind view || false) n c end
-      → IsCausedBy same elect bytes_of now asks_now wider (steps ++ more) a asked m c end
-  joined [] more a b c asked m n end first second =
-      by_more same elect bytes_of now asks_now more later wider b a c (λ kind view. between kind view || false) asked m
-      end first.0
-      (λ kind view it un. or_left (between kind view) false (first.2 kind view it (first_within kind view un)))
-      second_within
-      (subst (λ (it : MemberFacts K L D). IsCausedBy same elect bytes_of now asks_now later more b
-      (λ kind view. between kind view || false) it c end) first.1 second)
-  joined ((step, answer) ∷ rest) more a b c asked m n end (meant, next, is_step, provenance) second = (
-    meant,
-    next,
-    is_step,
-    joined rest more (a ++ step_causes {L = L} now step answer) b c
-        (with_missing_certificate asked (step_causes {L = L} now step answer)) next n end provenance second,
-  )
+use Rattle.simplex_engine.specs.Provenance.{pending_causes, input_causes, evidence, received_in, of_counted, evidence_against, IsCallCaused, IsOnOffer, IsCaused, IsCausedBy, IsCausedWith, is_final, IsCausedWithoutInput, HasNoMissingCertificate, work_by_reply, work_by_steps}
 
 -- three reasons, the first two apart
 regrouped : (a b c : Bool) → (a || (b || c)) ≡ false → ((a || b) || c) ≡ false
@@ -237,12 +148,17 @@ module _ {S L D K G C : Type 0} {same : D → D → Bool} {elect : Elect L} {byt
       c.core.member.facts
       → AreAmong (work_by_steps steps) (work_ahead b) → AreAmong (work_ahead b) (out ++ work_ahead c)
       → AreAmong (work_by_steps more) (out ++ work_ahead c)
+      → AsksWhoseTurn now (over_since bytes bytes_of held b a.plan steps) (work_ahead b) a.plan.repair.fetches
+      b.plan.repair.fetches
+      → AsksWhoseTurn now (over_since bytes bytes_of holds c b.plan more) (out ++ work_ahead c) b.plan.repair.fetches
+      c.plan.repair.fetches
       → IsCaused same elect bytes bytes_of now came out holds a c
   comes_joined {came = came} {out = out} {held = held} {holds = holds} {a = a} {c = c} b mid steps more first_received
-      first within risen second_received second first_works works second_works = record {
+      first within risen second_received second first_works works second_works first_asked second_asked = record {
         steps = steps ++ more;
         received = both.1;
         by_steps = both.0;
+        asked = both.2;
         works = among_further (among_all (works_further steps more))
             (among_each (among_further first_works works) second_works);
       }
@@ -258,44 +174,59 @@ module _ {S L D K G C : Type 0} {same : D → D → Bool} {elect : Elect L} {byt
       none_of false true z p q r = q
       none_of false false z p q r = r
 
+      wider : FetchKind → ℕ → Bool
+      wider kind view = holds kind view
+          || (is_final c.core.member.facts view || ends a.plan (received steps ++ received more) kind view)
+
+      over_first : (kind : FetchKind) (view : ℕ) → wider kind view ≡ false
+          → over_since bytes bytes_of held b a.plan steps kind view ≡ false
+      over_first kind view un =
+          let parts = not_or (holds kind view) _ un in
+          let rest = not_or (is_final c.core.member.facts view) _ parts.1 in
+          none_of (held kind view) (is_final b.core.member.facts view) _ (within kind view parts.0)
+          (final_further b.core.member.facts c.core.member.facts risen view rest.0)
+          (ended_on a.plan.repair.resolver b.plan.repair.resolver (received steps)
+          (received more) first_received kind view
+          rest.1).0
+
+      over_second : (kind : FetchKind) (view : ℕ) → wider kind view ≡ false
+          → over_since bytes bytes_of holds c b.plan more kind view ≡ false
+      over_second kind view un =
+          let parts = not_or (holds kind view) _ un in
+          let rest = not_or (is_final c.core.member.facts view) _ parts.1 in
+          none_of (holds kind view) (is_final c.core.member.facts view) _ parts.0 rest.0
+          (ended_on a.plan.repair.resolver b.plan.repair.resolver (received steps)
+          (received more) first_received kind view
+          rest.1).1
+
       both : IsCausedBy same elect bytes_of now (asks c.plan)
           (λ kind view.
           holds kind view || (is_final c.core.member.facts view || ends a.plan (received (steps ++ more)) kind view))
           (steps ++ more) (came ++ pending_causes a) (with_missing_certificate (asks a.plan) came) a.core.member.facts
           (of_works out ++ pending_causes c) c.core.member.facts
           × AreMade a.plan.repair.resolver (received (steps ++ more)) c.plan.repair.resolver
+          × AsksWhoseTurn now (λ kind view.
+          holds kind view || (is_final c.core.member.facts view || ends a.plan (received (steps ++ more)) kind view))
+          (out ++ work_ahead c) a.plan.repair.fetches c.plan.repair.fetches
       both =
           subst (λ calls. IsCausedBy same elect bytes_of now (asks c.plan)
           (λ kind view. holds kind view || (is_final c.core.member.facts view || ends a.plan calls kind view))
           (steps ++ more) (came ++ pending_causes a) (with_missing_certificate (asks a.plan) came) a.core.member.facts
           (of_works out ++ pending_causes c) c.core.member.facts
-          × AreMade a.plan.repair.resolver calls c.plan.repair.resolver)
+          × AreMade a.plan.repair.resolver calls c.plan.repair.resolver
+          × AsksWhoseTurn now
+          (λ kind view. holds kind view || (is_final c.core.member.facts view || ends a.plan calls kind view))
+          (out ++ work_ahead c) a.plan.repair.fetches c.plan.repair.fetches)
           (sym (received_further bytes bytes_of steps more)) (
             joined same elect bytes_of now (asks b.plan) (asks c.plan) (over_since bytes bytes_of held b a.plan steps)
-                (over_since bytes bytes_of holds c b.plan more)
-                (λ kind view. holds kind view
-                || (is_final c.core.member.facts view || ends a.plan (received steps ++ received more) kind view))
-                (λ kind view un.
-                let parts = not_or (holds kind view) _ un in
-                let rest = not_or (is_final c.core.member.facts view) _ parts.1 in
-                none_of (held kind view) (is_final b.core.member.facts view) _ (within kind view parts.0)
-                (final_further b.core.member.facts c.core.member.facts risen view rest.0)
-                (ended_on a.plan.repair.resolver b.plan.repair.resolver (received steps)
-                (received more) first_received kind view
-                rest.1).0)
-                (λ kind view un.
-                let parts = not_or (holds kind view) _ un in
-                let rest = not_or (is_final c.core.member.facts view) _ parts.1 in
-                none_of (holds kind view) (is_final c.core.member.facts view) _ parts.0 rest.0
-                (ended_on a.plan.repair.resolver b.plan.repair.resolver (received steps)
-                (received more) first_received kind view
-                rest.1).1)
+                (over_since bytes bytes_of holds c b.plan more) wider over_first over_second
                 steps more (came ++ pending_causes a) mid (of_works out ++ pending_causes c)
                 (with_missing_certificate (asks a.plan) came) a.core.member.facts b.core.member.facts
                 c.core.member.facts first second,
             made_on a.plan.repair.resolver b.plan.repair.resolver c.plan.repair.resolver (received steps)
                 (received more)
                 first_received second_received,
+            asked_on over_first over_second works first_asked second_asked,
           )
 
   pub comes_then : {came : List (Cause S D K G C)} {out : List (Work S D K G C)} {held holds : FetchKind → ℕ → Bool}
@@ -308,7 +239,8 @@ module _ {S L D K G C : Type 0} {same : D → D → Bool} {elect : Elect L} {byt
       → IsCaused same elect bytes bytes_of now came out holds a c
   comes_then {held = held} {holds = holds} {b = b} first within risen works second =
       comes_joined {held = held} {holds = holds} b (pending_causes b) first.steps second.steps first.received
-      first.by_steps within risen second.received second.by_steps first.works works second.works
+      first.by_steps within risen second.received second.by_steps first.works works second.works first.asked
+      second.asked
 
   pub comes_on : {came : List (Cause S D K G C)} {out : List (Work S D K G C)} {holds : FetchKind → ℕ → Bool}
       {a b c : Engine S L D K G C}
@@ -319,24 +251,43 @@ module _ {S L D K G C : Type 0} {same : D → D → Bool} {elect : Elect L} {byt
       → IsCaused same elect bytes bytes_of now came out holds a c
   comes_on first risen works second = comes_then first (λ kind view un. refl) risen works second
 
-  -- the member is the same
-  pub comes_same : {came : List (Cause S D K G C)} {out : List (Work S D K G C)} {held : FetchKind → ℕ → Bool}
+  -- the member is the same, and no peer is asked but for what is sought
+  pub comes_seeking : {came : List (Cause S D K G C)} {out : List (Work S D K G C)} {held : FetchKind → ℕ → Bool}
       {a b : Engine S L D K G C} → b.core.member.facts ≡ a.core.member.facts
-      → AreAmong (of_works out ++ pending_causes b) (came ++ pending_causes a)
+      → AreAmong (unrequested (of_works out ++ pending_causes b)) (came ++ pending_causes a)
+      → ((ask : Ask) → list_any (is_request ask) (of_works out ++ pending_causes b) ≡ true
+      → IsSought (came ++ pending_causes a) (asks b.plan) never ask)
       → KeepsFetching came (λ kind view. held kind view || is_final b.core.member.facts view) [] a.plan b.plan
       → IsCaused same elect bytes bytes_of now came out held a b
-  comes_same {held = held} {a = a} {b = b} is among keeps = record {
+  comes_seeking {held = held} {a = a} {b = b} is among sought keeps = record {
     steps = [];
     received = keeps.received;
     by_steps = (
       among,
       is,
-      λ kind view it un. keeps.still kind view it
-          (regrouped (held kind view) (is_final b.core.member.facts view)
-          (ended_by a.plan.repair.resolver.state [] kind view) un),
+      λ kind view it un. keeps.still kind view it (apart kind view un),
+      λ ask it. sought_wider (λ kind view un. refl) (sought ask it),
     );
     works = among_none _;
+    asked = asked_none apart keeps.unasked;
   }
+    where
+      apart : (kind : FetchKind) (view : ℕ)
+          → (held kind view || (is_final b.core.member.facts view
+          || ended_by a.plan.repair.resolver.state [] kind view)) ≡ false
+          → ((held kind view || is_final b.core.member.facts view)
+          || ended_by a.plan.repair.resolver.state [] kind view) ≡ false
+      apart kind view un = regrouped (held kind view) (is_final b.core.member.facts view)
+          (ended_by a.plan.repair.resolver.state [] kind view) un
+
+  -- or none
+  pub comes_same : {came : List (Cause S D K G C)} {out : List (Work S D K G C)} {held : FetchKind → ℕ → Bool}
+      {a b : Engine S L D K G C} → b.core.member.facts ≡ a.core.member.facts
+      → AreAmong (of_works out ++ pending_causes b) (came ++ pending_causes a)
+      → KeepsFetching came (λ kind view. held kind view || is_final b.core.member.facts view) [] a.plan b.plan
+      → IsCaused same elect bytes bytes_of now came out held a b
+  comes_same is among keeps =
+      comes_seeking is (unrequested_all among) (λ ask it. WasAsked (among.found (is_request ask) it)) keeps
 
   -- and the plan
   pub comes_still : {came : List (Cause S D K G C)} {out : List (Work S D K G C)} {held : FetchKind → ℕ → Bool}
@@ -363,9 +314,15 @@ module _ {S L D K G C : Type 0} {same : D → D → Bool} {elect : Elect L} {byt
       meant,
       b.core.member.facts,
       called,
-      (among, refl, λ kind view it un. alone.still kind view (without kind view it) un),
+      (
+        unrequested_all among,
+        refl,
+        λ kind view it un. alone.still kind view (without kind view it) un,
+        λ ask it. WasAsked (among.found (is_request ask) it),
+      ),
     );
     works = among_each works (among_none (work_ahead b));
+    asked = asked_none (λ kind view un. un) alone.unasked;
   }
     where
       -- nothing else is received
@@ -396,13 +353,17 @@ module _ {S L D K G C : Type 0} {same : D → D → Bool} {elect : Elect L} {byt
       b.core.member.facts,
       (refl, is),
       (
-        among_further among (among_more (pending_causes a) []),
+        unrequested_all (among_further among (among_more (pending_causes a) [])),
         refl,
         λ kind view it un. ap (λ (p : Plan S D K G C). asks p kind view) plan
             ∙ or_nothing (asks a.plan kind view) (or_nothing (asks a.plan kind view || false) it),
+        λ ask it. WasAsked ((among_more (pending_causes a) []).found (is_request ask)
+            (among.found (is_request ask) it)),
       ),
     );
     works = among_none _;
+    asked = asked_none {over = never} (λ kind view un. refl)
+        (asks_none_still (ap (λ (p : Plan S D K G C). p.repair.fetches) plan));
   }
 
   -- of more
@@ -416,11 +377,13 @@ module _ {S L D K G C : Type 0} {same : D → D → Bool} {elect : Elect L} {byt
         (over_by (received_in bytes bytes_of is.steps)) (came ++ pending_causes a) (more ++ pending_causes a)
         (pending_causes b) (with_missing_certificate (asks a.plan) came)
         (with_missing_certificate (asks a.plan) more) a.core.member.facts b.core.member.facts
-        (among_both among (among_still (pending_causes a)))
+        (unrequested_all (among_both among (among_still (pending_causes a))))
+        (λ ask it. WasAsked ((among_both among (among_still (pending_causes a))).found (is_request ask) it))
         (λ kind view it un. or_left (asks a.plan kind view) (list_any (is_missing_certificate kind view) came)
         (or_nothing (asks a.plan kind view) (sym (ap (λ t. asks a.plan kind view || t) (none kind view)) ∙ it)))
         (λ kind view un. un) is.by_steps;
     works = is.works;
+    asked = is.asked;
   }
     where
       over_by : List Call → FetchKind → ℕ → Bool
@@ -448,10 +411,10 @@ module _ {S L D K G C : Type 0} {same : D → D → Bool} {elect : Elect L} {byt
       (over_since bytes bytes_of holds c b.plan second.steps) (came ++ pending_causes b) (came ++ pending_causes b)
       (of_works out ++ pending_causes c)
       (with_missing_certificate (asks b.plan) came) (λ kind view. asks b.plan kind view || false) b.core.member.facts
-      c.core.member.facts (among_still (came ++ pending_causes b))
+      c.core.member.facts (unrequested_all (among_still (came ++ pending_causes b))) (λ ask it. WasAsked it)
       (λ kind view it un. or_left (asks b.plan kind view) (list_any (is_missing_certificate kind view) came)
       (or_nothing (asks b.plan kind view) it)) (λ kind view un. un) second.by_steps)
-      wider.works works second.works
+      wider.works works second.works wider.asked second.asked
 
   -- before it nothing was done
   pub comes_before : {came : List (Cause S D K G C)} {out : List (Work S D K G C)} {held : FetchKind → ℕ → Bool}
@@ -470,10 +433,13 @@ module _ {S L D K G C : Type 0} {same : D → D → Bool} {elect : Elect L} {byt
         (came ++ pending_causes mid) (came ++ pending_causes a) (of_works out ++ pending_causes b)
         (with_missing_certificate (asks mid.plan) came)
         (with_missing_certificate (asks a.plan) came) mid.core.member.facts b.core.member.facts
-        (among_both (among_still came) among)
+        (unrequested_all (among_both (among_still came) among))
+        (λ ask it. WasAsked ((among_both (among_still came) among).found (is_request ask) it))
         (λ kind view it un. ap (λ (p : Plan S D K G C). with_missing_certificate (asks p) came kind view) plan ∙ it)
         (λ kind view un. ap (λ (p : Plan S D K G C). over_by p kind view) plan ∙ un) is.by_steps);
     works = is.works;
+    asked = subst (λ (p : Plan S D K G C). AsksWhoseTurn now (over_by p) (out ++ work_ahead b) p.repair.fetches
+        b.plan.repair.fetches) plan is.asked;
   }
     where
       over_by : Plan S D K G C → FetchKind → ℕ → Bool
@@ -483,10 +449,16 @@ module _ {S L D K G C : Type 0} {same : D → D → Bool} {elect : Elect L} {byt
 
   -- the step in front is taken
   pub comes_taken : (front : Step S D K G C) {a mid b : Engine S L D K G C} → mid.core ≡ a.core
-      → AreAmong (of_step front ++ pending_causes mid) (pending_causes a) → AsksOn (front ∷ []) a.plan mid.plan
+      → AreAmong (unrequested (of_step front ++ pending_causes mid)) (pending_causes a)
+      → ((ask : Ask) → list_any (is_request ask) (of_step front ++ pending_causes mid) ≡ true
+      → IsSought (pending_causes a) (asks mid.plan) never ask)
+      → AsksOn (front ∷ []) a.plan mid.plan
+      → AsksWhoseTurn now never (work_planned (front ∷ mid.plan.steps.items)) a.plan.repair.fetches
+      mid.plan.repair.fetches
+      → AreAmong (work_planned (front ∷ []) ++ work_ahead mid) (work_ahead b)
       → IsCausedWith same elect bytes bytes_of now (of_step front) mid b
       → IsCausedWithoutInput same elect bytes bytes_of now a b
-  comes_taken front {a = a} {mid = mid} {b = b} core among asks_as is = record {
+  comes_taken front {a = a} {mid = mid} {b = b} core among sought asks_as asked ahead is = record {
     steps = is.steps;
     received = subst (λ (r : LawfulResolverFacts). AreMade r
         (received_in bytes bytes_of is.steps) b.plan.repair.resolver)
@@ -499,6 +471,9 @@ module _ {S L D K G C : Type 0} {same : D → D → Bool} {elect : Elect L} {byt
         (over_by a.plan.repair.resolver) (of_step front ++ pending_causes mid) (pending_causes a) (pending_causes b)
         (with_missing_certificate (asks mid.plan) (of_step front)) (λ kind view. asks a.plan kind view || false)
         mid.core.member.facts b.core.member.facts among
+        (λ ask it. sought_by (λ kind view before. or_left (asks mid.plan kind view)
+        (list_any (is_missing_certificate kind view) (of_step front)) before)
+        (sought_wider (λ kind view un. refl) (sought ask it)))
         (λ kind view it un. from_step kind view front
         (or_cases (list_any (is_resolve kind view) (front ∷ [])) (asks mid.plan kind view)
         (asks_as.1 kind view (or_nothing (asks a.plan kind view) it))))
@@ -506,6 +481,11 @@ module _ {S L D K G C : Type 0} {same : D → D → Bool} {elect : Elect L} {byt
         is_final b.core.member.facts view || ended_by r.state (received_in bytes bytes_of is.steps) kind view)
         asks_as.0 ∙ un) is.by_steps);
     works = is.works;
+    asked = asked_on (λ kind view un. refl)
+        (λ kind view un. ap (λ (r : LawfulResolverFacts). over_by r kind view) asks_as.0 ∙ un)
+        (among_further (among_all (planned-append (front ∷ []) mid.plan.steps.items))
+        (among_further (among_both (among_still (work_planned (front ∷ [])))
+        (among_last (work_in mid.core.outbox.queue.items) (work_planned mid.plan.steps.items))) ahead)) asked is.asked;
   }
     where
       over_by : LawfulResolverFacts → FetchKind → ℕ → Bool
@@ -616,20 +596,75 @@ module _ {S L D K G C : Type 0} where
 
     -- the step in front is taken
     pub taken_hand_of : (taken : List (Cause S D K G C)) → b.core ≡ a.core
-        → AreAmong (taken ++ planned_causes b.plan) (planned_causes a.plan)
-        → AreAmong (taken ++ pending_causes b) (pending_causes a)
-    taken_hand_of taken same among =
-        among_each (among_further (among_more taken (planned_causes b.plan))
-        (among_further among (among_last (queued a) (planned_causes a.plan))))
-        (hand_alone (ap (λ (core : Journaled S L D K G C). work_in core.outbox.queue.items) same)
-        (among_further (among_last taken (planned_causes b.plan)) among))
+        → AreAmong (unrequested (taken ++ planned_causes b.plan)) (planned_causes a.plan)
+        → AreAmong (unrequested (taken ++ pending_causes b)) (pending_causes a)
+    taken_hand_of taken same among = record { found = at_hand }
+      where
+        of_planned : (test : Cause S D K G C → Bool)
+            → list_any (other_and test) (taken ++ planned_causes b.plan) ≡ true
+            → list_any test (pending_causes a) ≡ true
+        of_planned test it = any_right test (queued a) (planned_causes a.plan)
+            (among.found test (any-filter is_other test (taken ++ planned_causes b.plan) ∙ it))
+
+        at_hand : (test : Cause S D K G C → Bool) → list_any test (unrequested (taken ++ pending_causes b)) ≡ true
+            → list_any test (pending_causes a) ≡ true
+        at_hand test some = elim (any_either (other_and test) taken (pending_causes b)
+            (sym (any-filter is_other test (taken ++ pending_causes b)) ∙ some)) [
+              | inl this ↦ of_planned test (any_left (other_and test) taken (planned_causes b.plan) this)
+              | inr rest ↦ (elim (any_either (other_and test) (queued b) (planned_causes b.plan) rest) [
+                | inl before ↦ any_left test (queued a) (planned_causes a.plan) (any_weaker test (queued a)
+                    (ap (λ (core : Journaled S L D K G C).
+                    list_any (other_and test) (of_works (work_in core.outbox.queue.items))) (sym same) ∙ before))
+                | inr planned ↦ of_planned test (any_right (other_and test) taken (planned_causes b.plan) planned)
+              ])
+            ]
+
+    abbrev outstanding : FetchKind → ℕ → Bool
+    outstanding kind view = is_fetch_open kind view b.plan.repair.fetches.wanted.items
+
+    -- what it asks of a peer is sought
+    pub taken_sought_of : (taken : List (Cause S D K G C)) → b.core ≡ a.core
+        → ((ask : Ask) → list_any (is_request ask) (taken ++ planned_causes b.plan) ≡ true
+        → IsSought (planned_causes a.plan) outstanding never ask)
+        → (ask : Ask) → list_any (is_request ask) (taken ++ pending_causes b) ≡ true
+        → IsSought (pending_causes a) (asks b.plan) never ask
+    taken_sought_of taken same sought ask some =
+        elim (any_either (is_request ask) taken (pending_causes b) some) [
+          | inl this ↦ ahead (sought ask (any_left (is_request ask) taken (planned_causes b.plan) this))
+          | inr rest ↦ (elim (any_either (is_request ask) (queued b) (planned_causes b.plan) rest) [
+            | inl before ↦ WasAsked (any_left (is_request ask) (queued a) (planned_causes a.plan)
+                (ap (λ (core : Journaled S L D K G C).
+                list_any (is_request ask) (of_works (work_in core.outbox.queue.items))) (sym same) ∙ before))
+            | inr planned ↦ ahead (sought ask (any_right (is_request ask) taken (planned_causes b.plan) planned))
+          ])
+        ]
+      where
+        ahead : IsSought (planned_causes a.plan) outstanding never ask
+            → IsSought (pending_causes a) (asks b.plan) never ask
+        ahead (WasAsked it) = WasAsked (any_right (is_request ask) (queued a) (planned_causes a.plan) it)
+        ahead (IsNamed it) = IsNamed (any_right (is_missing_certificate ask.kind ask.view) (queued a)
+            (planned_causes a.plan) it)
+        ahead (IsWanted kind opens) = IsWanted kind (λ un. or_left
+            (is_fetch_open ask.kind ask.view b.plan.repair.fetches.wanted.items)
+            (list_any (is_resolve ask.kind ask.view) b.plan.steps.items) (opens un))
 
   pub taken_hand : (step : Step S D K G C) (a b : Engine S L D K G C) → b.core ≡ a.core
-      → AreAmong (of_steps (step ∷ []) ++ planned_causes b.plan) (planned_causes a.plan)
-      → AreAmong (of_step step ++ pending_causes b) (pending_causes a)
-  taken_hand step a b same among =
-      taken_hand_of a b (of_step step) same (among_further
-      (among_both (among_all (sym (append-nil (of_step step)))) (among_still (planned_causes b.plan))) among)
+      → AreAmong (unrequested (of_steps (step ∷ []) ++ planned_causes b.plan)) (planned_causes a.plan)
+      → AreAmong (unrequested (of_step step ++ pending_causes b)) (pending_causes a)
+  taken_hand step a b same among = taken_hand_of a b (of_step step) same
+      (subst (λ front. AreAmong (unrequested (front ++ planned_causes b.plan)) (planned_causes a.plan))
+      (append-nil (of_step step)) among)
+
+  pub hand_sought : (step : Step S D K G C) (a b : Engine S L D K G C) → b.core ≡ a.core
+      → ((ask : Ask) → list_any (is_request ask) (of_steps (step ∷ []) ++ planned_causes b.plan) ≡ true
+      → IsSought (planned_causes a.plan) (λ kind view. is_fetch_open kind view b.plan.repair.fetches.wanted.items)
+      never ask)
+      → (ask : Ask) → list_any (is_request ask) (of_step step ++ pending_causes b) ≡ true
+      → IsSought (pending_causes a) (asks b.plan) never ask
+  hand_sought step a b same sought = taken_sought_of a b (of_step step) same
+      (subst (λ front. (ask : Ask) → list_any (is_request ask) (front ++ planned_causes b.plan) ≡ true
+      → IsSought (planned_causes a.plan) (λ kind view. is_fetch_open kind view b.plan.repair.fetches.wanted.items)
+      never ask) (append-nil (of_step step)) sought)
 
   -- an early proposal is stored, or is not
   pub kept_early : (from : ℕ) (proposal : Proposal D) (a b : Engine S L D K G C) → IsStoredEarly from proposal a b
@@ -688,34 +723,6 @@ module _ {S L D K G C : Type 0} (same : D → D → Bool) (elect : Elect L) (byt
             among_more (Message (task.VerificationFailed view) ∷ []) (pending_causes a),
             subst (λ it. IsOnOffer a.core.member.facts (call_of it now)) (sym is_it) tt,
           ))
-
--- ---- fetches
-
-module _ {S D K G C : Type 0} where
-  pub asks_none : {old new : Plan S D K G C} {over : FetchKind → ℕ → Bool} → AsksOn [] old new
-      → KeepsFetching [] over [] old new
-  asks_none {over = over} is = keeps_asking over is.0 (λ kind view asked un. is.1 kind view asked)
-
-  pub resolved : {X E : Type 0} (r : Result X E) (kind : FetchKind) (view first moment : ℕ) (old new : Plan S D K G C)
-      → new ≡ record old { repair = new.repair }
-      → OnOk r (HasFetches (opened kind view first moment old.repair.fetches.wanted.items) old.repair new.repair)
-      → OnErr r (HasFetches old.repair.fetches.wanted.items old.repair new.repair)
-      → AreAmong (planned_causes new) (planned_causes old ++ MissingCertificate kind view ∷ [])
-  resolved (Ok x) kind view first moment old new is opens refused = opens_one kind view first moment is opens
-  resolved (Err e) kind view first moment old new is opens refused =
-      among_further (repaired_alone old new is
-      (among_all (ap (of_fetches new.repair.resolver.open_fetches) refused.fetches_now
-      ∙ ap (λ (r : LawfulResolverFacts). of_fetches r.open_fetches old.repair.fetches.wanted.items)
-      refused.resolver)))
-      (among_more (planned_causes old) (MissingCertificate kind view ∷ []))
-
-  pub drops_fetches : {X : Type 0} (r : Result X Fault) (finalized : ℕ) (keep : Fetch → Bool) (old new : Plan S D K G C)
-      → new ≡ record old { repair = new.repair }
-      → OnOk r (HasPassed finalized (filter keep old.repair.fetches.wanted.items) old.repair new.repair)
-      → IfErr r (λ fault. (fault ≡ Failed) × (new ≡ old))
-      → AreAmong (planned_causes new) (planned_causes old)
-  drops_fetches (Ok x) finalized keep old new is passes refused = closes_some keep is passes
-  drops_fetches (Err e) finalized keep old new is passes refused = same_plan refused.1
 
 -- ---- a vote
 

@@ -23,6 +23,7 @@ use Rattle.engine_votes.specs.declared.batcher.Counted.{Counted}
 use Rattle.engine_votes.specs.declared.batcher.Counted.TheVariants as counted
 use Rattle.engine_votes.specs.declared.batcher.poll.Ballot.{Ballot}
 use Rattle.engine_votes.specs.declared.votes.Vote.{Vote}
+use Rattle.engine_fetches.specs.declared.fetches.Ask.{Ask}
 use Rattle.engine_fetches.specs.declared.fetches.FetchKind.{FetchKind}
 use Rattle.engine_fetches.specs.OutstandingFetches.{holds}
 use Rattle.simplex_engine.specs.declared.engine.Engine.{Engine}
@@ -35,8 +36,9 @@ use Rattle.engine_outbox.specs.declared.output.Work.TheVariants.{Equivocated, Fo
 use Rattle.engine_outbox.specs.declared.output.Work.TheVariants as work
 use Rattle.engine_planner.specs.declared.task.Task.{Task}
 use Rattle.engine_planner.specs.declared.task.Task.TheVariants as task
-use Rattle.engine_planner.specs.Causes.{Cause, WorkItem, Arrival, Quorum, Message, reply_causes, of_task, of_works, planned_causes}
-use Rattle.engine_planner.specs.FetchRequests.{asks, ended_by, received_by, is_missing_certificate, with_missing_certificate, AreMade, IsStill}
+use Rattle.engine_planner.specs.Causes.{Cause, WorkItem, Arrival, Quorum, Message, reply_causes, of_task, of_works, planned_causes, is_request, unrequested}
+use Rattle.engine_planner.specs.AskedFetches.{AsksWhoseTurn}
+use Rattle.engine_planner.specs.FetchRequests.{asks, ended_by, received_by, is_missing_certificate, with_missing_certificate, AreMade, IsStill, IsSought}
 use Rattle.engine_planner.specs.PlannedWork.{AreAmong}
 use Rattle.engine_planner.specs.Tasks.{call_of}
 use Rattle.simplex_engine.specs.ApplicationWork.{work_ahead}
@@ -164,12 +166,14 @@ work_by_steps (_ ∷ rest) = work_by_steps rest
 module _ {S L D K G C : Type 0} (same : D → D → Bool) (elect : Elect L) (bytes_of : C → List ℕ) (now : ℕ) where
   -- from a member with this at hand to another with that, by these steps and their replies, in order. What is at hand,
   -- with what the replies before it bring, causes each step, and also what is pending at the end. Each certificate that
-  -- was asked for, or that a reply names as missing, is asked for in the end, unless that is over
+  -- was asked for, or that a reply names as missing, is asked for in the end, unless that is over. A peer is asked only
+  -- for what is sought
   abbrev pub IsCausedBy : (asks_now is_over : FetchKind → ℕ → Bool) → List (StepFacts K L D × Reply S D K G C)
       → List (Cause S D K G C)
       → (FetchKind → ℕ → Bool) → MemberFacts K L D → List (Cause S D K G C) → MemberFacts K L D → Type 0
   IsCausedBy asks_now is_over [] causes asked m left end =
-      AreAmong left causes × (end ≡ m) × IsStill asked is_over asks_now
+      AreAmong (unrequested left) causes × (end ≡ m) × IsStill asked is_over asks_now
+      × ((ask : Ask) → list_any (is_request ask) left ≡ true → IsSought causes asks_now is_over ask)
   IsCausedBy asks_now is_over ((step, reply) ∷ rest) causes asked m left end =
       let given = step_causes {L = L} now step reply in
       IsStepCaused now causes m step
@@ -181,7 +185,8 @@ module _ {S L D K G C : Type 0} (same : D → D → Bool) (elect : Elect L) (byt
     (bytes_of : C → List ℕ) (now : ℕ) where
   -- the same for an engine, where this came in besides, this work was returned, and these certificates need not be
   -- asked for: those of views up to the last finalized one, and those that the resolver ends by what it receives, which
-  -- is what the replies say. All work that the replies ask for is returned, queued or planned
+  -- is what the replies say. All work that the replies ask for is returned, queued or planned. So is the output that
+  -- asks a peer for each fetch that counts as asked since, and that was due at this moment
   pub record IsCaused (came : List (Cause S D K G C)) (out : List (Work S D K G C)) (held : FetchKind → ℕ → Bool)
       (old new : Engine S L D K G C)
       : Type 0 where
@@ -194,6 +199,11 @@ module _ {S L D K G C : Type 0} (same : D → D → Bool) (elect : Elect L) (byt
         steps (came ++ pending_causes old) (with_missing_certificate (asks old.plan) came) old.core.member.facts
         (of_works out ++ pending_causes new) new.core.member.facts
     pub works : AreAmong (work_by_steps steps) (out ++ work_ahead new)
+    pub asked : AsksWhoseTurn now
+        (λ kind view. held kind view
+        || (is_final new.core.member.facts view
+        || ended_by old.plan.repair.resolver.state (received_in bytes bytes_of steps) kind view))
+        (out ++ work_ahead new) old.plan.repair.fetches new.plan.repair.fetches
 
   -- the same where nothing is returned, and each certificate is to be asked for
   abbrev pub IsCausedWith : List (Cause S D K G C) → Engine S L D K G C → Engine S L D K G C → Type 0

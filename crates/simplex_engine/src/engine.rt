@@ -113,7 +113,10 @@ impl<S: Assembly<D>, L: Elector<S>, D: Digest> Engine<S, L, D> {
     ///   the same.
     /// - `provenance`: this input, what was there before, or a reply of the member causes each of these: a call of the
     ///   member, work, a fetch that the resolver does not want, an early proposal. The engine continues to ask for a
-    ///   certificate that a reply named as missing, until its view is final or the resolver ends the fetch.
+    ///   certificate that a reply named as missing, until its view is final or the resolver ends the fetch. A fetch
+    ///   that counts as asked by this call was due, and an output asks the peer whose turn it was (`AsksWhoseTurn`). An
+    ///   output that was not there before asks a peer only for a certificate that was named as missing, or for a
+    ///   nullification that the engine still asks for, unless its fetch is over (`IsSought`).
     /// - `fetch_heights`: no fetch appears of a view above both the next term's first view and the views of all entries
     ///   of the record.
     /// - `ignored`: exactly the ignored inputs are counted.

@@ -21,7 +21,7 @@ use Rattle.engine_planner.specs.declared.plan.Step.TheVariants as step
 use Rattle.engine_planner.specs.declared.task.Task.{Task}
 use Rattle.engine_planner.specs.declared.task.Task.TheVariants as task
 use Rattle.engine_planner.specs.FetchRequests.{is_missing_certificate}
-use Rattle.engine_planner.specs.Causes.{Cause, WorkItem, MissingCertificate, Arrival, Quorum, Message, Expiry, of_blocks, of_early, of_fetch, of_fetches, of_repair, of_step, of_steps, of_task, of_work, of_works, planned_causes}
+use Rattle.engine_planner.specs.Causes.{Cause, WorkItem, MissingCertificate, Request, Arrival, Quorum, Message, Expiry, of_blocks, of_early, of_fetch, of_fetches, of_repair, of_step, of_steps, of_task, of_work, of_works, planned_causes}
 use Rattle.simplex_engine.specs.declared.engine.Engine.{Engine}
 use Rattle.simplex_engine.specs.Provenance.{pending_causes, HasNoMissingCertificate}
 use Rattle.simplex_engine.specs.FetchHeights.{resolves_above}
@@ -227,6 +227,7 @@ none_lacks top (MissingCertificate kind view ∷ rest) none =
     absurd (false≢true (sym (none kind view)
     ∙ or_left (same_kind kind kind && view == view) (list_any (is_missing_certificate kind view) rest)
     (ap (λ t. t && view == view) (kind_itself kind) ∙ eq-eqb view view refl)))
+none_lacks top (Request ask ∷ rest) none = none_lacks top rest none
 none_lacks top (Arrival from proposal ∷ rest) none = none_lacks top rest none
 none_lacks top (Quorum on ∷ rest) none = none_lacks top rest none
 none_lacks top (Message replied ∷ rest) none = none_lacks top rest none

@@ -25,8 +25,9 @@ use Rattle.laws_safety.proofs.own_records.Verdicts.{ShowsVerdicts}
 use Rattle.laws_safety.proofs.records.RunsLawful.{keep_terms}
 use Rattle.engine_fetches.specs.declared.fetches.FetchKind.{FetchKind}
 use Rattle.engine_planner.specs.FetchRequests.{received_by, with_missing_certificate}
-use Rattle.engine_planner.specs.Causes.{Cause}
+use Rattle.engine_planner.specs.Causes.{Cause, unrequested}
 use Rattle.engine_planner.specs.PlannedWork.{AreAmong}
+use Rattle.engine_planner.proofs.TakenSteps.{unrequested_test}
 use Rattle.simplex_engine.specs.Provenance.{step_causes, received_in, IsCausedBy}
 use Rattle.simplex_engine.specs.FetchHeights.{highest_received}
 use Rattle.simplex_engine.proofs.fetch_heights.AtHand.{lacks_above, none_both}
@@ -114,7 +115,8 @@ module _ {S L D K G C : Type 0} (same : D → D → Bool) (elect : Elect L) (byt
   pub dead_stays : (steps : List (StepFacts K L D × Reply S D K G C)) (causes left : List (Cause S D K G C))
       (asked : FetchKind → ℕ → Bool) (m end : MemberFacts K L D) → m.life ≡ None
       → IsCausedBy same elect bytes_of now asks_now over steps causes asked m left end → end.life ≡ None
-  dead_stays [] causes left asked m end dead (among, is, still) = ap (λ (n : MemberFacts K L D). n.life) is ∙ dead
+  dead_stays [] causes left asked m end dead (among, is, still, sought) =
+      ap (λ (n : MemberFacts K L D). n.life) is ∙ dead
   dead_stays ((Calls call, answer) ∷ rest) causes left asked m end dead (meant, next, is_step, provenance) =
       let given : List (Cause S D K G C) = step_causes {L = L} now (Calls call) answer in
       dead_stays rest (causes ++ given) left (with_missing_certificate asked given) next end
@@ -141,13 +143,14 @@ module _ {S L D K G C : Type 0} (same : D → D → Bool) (elect : Elect L) (byt
         → HasHistory same elect term_length i all m → (x y : StateFacts K L D) → m.life ≡ Some x → end.life ≡ Some y
         → IsCausedBy same elect bytes_of now asks_now over steps causes asked m left end
         → Climbs m x end y steps causes left
-    climbs [] causes left asked m end all done x y alive lives (among, is, still) =
+    climbs [] causes left asked m end all done x y alive lives (among, is, still, sought) =
         let one : x ≡ y = some_is x y (sym alive ∙ (ap (λ (n : MemberFacts K L D). n.life) (sym is) ∙ lives)) in
         record {
           up = subst (λ (n : MemberFacts K L D). highest_received m x ≤ highest_received n y) (sym is)
               (subst (λ z. highest_received m x ≤ highest_received m z) one (omega arith));
           received = tt;
-          low = λ none. none_among (lacks_above (highest_received end y)) left causes among none;
+          low = λ none. sym (unrequested_test (lacks_above (highest_received end y)) (λ request. refl) left)
+              ∙ none_among (lacks_above (highest_received end y)) (unrequested left) causes among none;
         }
     climbs ((Calls call, answer) ∷ rest) causes left asked m end all done x y alive lives
         (meant, next, is_step, provenance) =

@@ -54,4 +54,4 @@ returns-in-Ok g c =
     (length (g.S.CertificateScheme.participants engine.batcher.scheme)) engine.batcher c.count.new.self c.args.vote
     c.in-Ok.counted c.in-Ok.ensures.counted)
     (vote_lacks_none g.S.CertificateScheme.certificate_bytes engine.batcher c.args.vote) provenance in
-    record { steps = it.steps; received = it.received; by_steps = it.by_steps; works = it.works }))
+    record { steps = it.steps; received = it.received; by_steps = it.by_steps; works = it.works; asked = it.asked }))

@@ -2,7 +2,7 @@
 use Rattle.std.proofs.Common.{ap, [], ◌||◌, true, subst}
 use Rattle.engine_planner.proofs.PlannedWork.{among_still, plans_dropped, keeps_still}
 use Rattle.engine_planner.specs.Causes.{planned_causes}
-use Rattle.simplex_engine.proofs.Provenance.{drops_fetches}
+use Rattle.simplex_engine.proofs.FetchCauses.{drops_fetches}
 use Rattle.simplex_engine.proofs.UnfinishedWork.{on_any}
 use Rattle.std.specs.Option.{option_map_or}
 use Rattle.std.specs.Prelude.{nat_le, OnOk}

@@ -73,7 +73,13 @@ returns-in-Ok g c =
       error = tt;
       refused = λ failed. absurd (false≢true (sym c.if-has_failed.false ∙ c.has_failed.ensures ∙ failed));
       provenance = let is = taken.provenance in
-          record { steps = is.steps; received = is.received; by_steps = is.by_steps; works = is.works };
+          record {
+            steps = is.steps;
+            received = is.received;
+            by_steps = is.by_steps;
+            works = is.works;
+            asked = is.asked;
+          };
       fetch_heights = λ term_length i all done.
           no_higher g.D.PartialEq.eq g.met.D.Digest.equal_is_same g.met.D.Digest.same_is_equal g.L.Elector.elect
           g.D.Digest.bytes

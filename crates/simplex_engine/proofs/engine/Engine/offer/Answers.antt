@@ -18,6 +18,7 @@ use Rattle.engine_planner.proofs.PlanStates.{on_ok}
 use Rattle.simplex_engine.specs.Provenance.{pending_causes, is_final}
 use Rattle.simplex_engine.proofs.Provenance.{comes_same, hand_with, kept_early}
 use Rattle.engine_planner.specs.FetchRequests.{asks}
+use Rattle.engine_planner.proofs.AskedFetches.{asks_none_still}
 use Rattle.engine_planner.proofs.AskedSteps.{asks_beside, keeps_asking}
 use Rattle.simplex_engine.proofs.engine.Engine.offer.Goals as goal
 
@@ -85,5 +86,6 @@ returns g c =
           (asks_beside (Arrival c.args.from c.args.proposal ∷ []) (λ kind view. refl)
           (keeps_asking (λ kind view. is_final c.store_early.new.self.core.member.facts view)
           (ap (λ engine. engine.plan.repair.resolver) c.store_early.ensures.same)
-          (λ kind view asked un. ap (λ engine. asks engine.plan kind view) c.store_early.ensures.same ∙ asked)));
+          (λ kind view asked un. ap (λ engine. asks engine.plan kind view) c.store_early.ensures.same ∙ asked)
+          (asks_none_still (ap (λ engine. engine.plan.repair.fetches) c.store_early.ensures.same))));
     }

@@ -1,7 +1,8 @@
 -- That a fetch loses nothing that is planned.
 use Rattle.std.proofs.Common.{Ok}
 use Rattle.engine_planner.proofs.PlannedWork.{plans_opened}
-use Rattle.simplex_engine.proofs.Provenance.{fails, resolved}
+use Rattle.simplex_engine.proofs.FetchCauses.{resolved}
+use Rattle.simplex_engine.proofs.Provenance.{fails}
 use Rattle.engine_planner.proofs.AskedSteps.{resolves_asks}
 use Rattle.simplex_engine.proofs.engine.Engine.resolve.Goals as goal
 

@@ -1,15 +1,22 @@
 -- That the step which is next is taken.
-use Rattle.std.proofs.Common.{◌++◌, [], Some, None, false, refl, subst}
+use Rattle.std.proofs.Common.{◌≡◌, ◌++◌, [], Some, None, true, false, refl, subst}
 use Rattle.std.specs.Prelude.{option_to_list}
 use Rattle.engine_planner.specs.StepSelection.{HasTaken}
 use Rattle.engine_planner.specs.PlannedWork.{AreAmong, IsPlanned, beside_of, work_planned}
 use Rattle.engine_planner.proofs.StepSelection.{taken_keeps}
 use Rattle.engine_outbox.proofs.Continuity.{stays}
 use Rattle.simplex_engine.proofs.UnfinishedWork.{tells_planned, tells_taken}
-use Rattle.engine_planner.specs.Causes.{of_steps, planned_causes}
-use Rattle.engine_planner.proofs.GivenWork.{taken_alone}
-use Rattle.engine_planner.proofs.PlanStates.{on_ok}
-use Rattle.simplex_engine.proofs.Provenance.{asks_none, comes_same, comes_taken, hand_alone, taken_hand}
+use Rattle.engine_planner.specs.Causes.{is_request, of_steps, planned_causes, unrequested}
+use Rattle.engine_planner.proofs.TakenSteps.{taken_alone, taken_sought}
+use Rattle.engine_planner.proofs.PlanStates.{on_ok, on_ok_both}
+use Rattle.simplex_engine.proofs.FetchCauses.{asks_none}
+use Rattle.simplex_engine.proofs.Provenance.{comes_seeking, comes_taken, hand_sought, taken_hand, taken_hand_of, taken_sought_of}
+use Rattle.engine_planner.specs.AskedFetches.{AsksWhoseTurn}
+use Rattle.engine_planner.specs.FetchRequests.{never, IsSought}
+use Rattle.engine_fetches.specs.declared.fetches.Ask.{Ask}
+use Rattle.engine_fetches.specs.Fetches.{is_fetch_open}
+use Rattle.std.specs.List.{list_any}
+use Rattle.engine_planner.proofs.AskedFetches.{asked_taken, taken_asks_none}
 use Rattle.engine_planner.proofs.AskedSteps.{taken_asks, AsksOn}
 use Rattle.simplex_engine.proofs.engine.Engine.step.Goals as goal
 
@@ -33,13 +40,25 @@ returns-in-Some g c = record {
       (work_planned (option_to_list taken ++ c.next.new.self.steps.items)) (beside_of c.next.new.self)) c.in-Some.is
       (taken_keeps c.args.now c.in_ok-step.field-0 c.args.self.now.plan c.next.new.self c.in_ok-step.ensures))
       c.take_step.ensures.due_work;
-  provenance = on_ok c.take_step.result c.take_step.ensures.provenance (comes_taken c.in-Some.step refl
+  provenance = on_ok_both c.take_step.result c.take_step.ensures.due_work c.take_step.ensures.provenance
+      (λ due_work provenance. comes_taken c.in-Some.step refl
       (taken_hand c.in-Some.step c.args.self.now (record c.args.self.now { plan = c.next.new.self }) refl
-      (subst (λ taken. AreAmong (of_steps (option_to_list taken) ++ planned_causes c.next.new.self)
+      (subst (λ taken. AreAmong (unrequested (of_steps (option_to_list taken) ++ planned_causes c.next.new.self))
       (planned_causes c.args.self.now.plan)) c.in-Some.is
       (taken_alone c.args.now c.in_ok-step.field-0 c.args.self.now.plan c.next.new.self c.in_ok-step.ensures)))
+      (hand_sought c.in-Some.step c.args.self.now (record c.args.self.now { plan = c.next.new.self }) refl
+      (subst (λ taken. (ask : Ask)
+      → list_any (is_request ask) (of_steps (option_to_list taken) ++ planned_causes c.next.new.self) ≡ true
+      → IsSought (planned_causes c.args.self.now.plan)
+      (λ kind view. is_fetch_open kind view c.next.new.self.repair.fetches.wanted.items) never ask) c.in-Some.is
+      (taken_sought c.args.now c.in_ok-step.field-0 c.args.self.now.plan c.next.new.self c.in_ok-step.ensures)))
       (subst (λ taken. AsksOn (option_to_list taken) c.args.self.now.plan c.next.new.self) c.in-Some.is
-      (taken_asks c.args.now c.in_ok-step.field-0 c.args.self.now.plan c.next.new.self c.in_ok-step.ensures)));
+      (taken_asks c.args.now c.in_ok-step.field-0 c.args.self.now.plan c.next.new.self c.in_ok-step.ensures))
+      (subst (λ taken. AsksWhoseTurn c.args.now never
+      (work_planned (option_to_list taken ++ c.next.new.self.steps.items))
+      c.args.self.now.plan.repair.fetches c.next.new.self.repair.fetches) c.in-Some.is
+      (asked_taken c.args.now c.in_ok-step.field-0 c.args.self.now.plan c.next.new.self c.in_ok-step.ensures))
+      due_work.works provenance);
 }
 
 pub returns-in-None : goal.returns-in-None
@@ -57,10 +76,20 @@ returns-in-None g c = record {
       (beside_of c.args.self.now.plan)
       (work_planned (option_to_list taken ++ c.next.new.self.steps.items)) (beside_of c.next.new.self)) c.in-None.is
       (taken_keeps c.args.now c.in_ok-step.field-0 c.args.self.now.plan c.next.new.self c.in_ok-step.ensures));
-  provenance = comes_same refl (hand_alone c.args.self.now (record c.args.self.now { plan = c.next.new.self }) refl
-      (subst (λ taken. AreAmong (of_steps (option_to_list taken) ++ planned_causes c.next.new.self)
+  provenance = comes_seeking refl
+      (taken_hand_of c.args.self.now (record c.args.self.now { plan = c.next.new.self }) [] refl
+      (subst (λ taken. AreAmong (unrequested (of_steps (option_to_list taken) ++ planned_causes c.next.new.self))
       (planned_causes c.args.self.now.plan)) c.in-None.is
       (taken_alone c.args.now c.in_ok-step.field-0 c.args.self.now.plan c.next.new.self c.in_ok-step.ensures)))
+      (taken_sought_of c.args.self.now (record c.args.self.now { plan = c.next.new.self }) [] refl
+      (subst (λ taken. (ask : Ask)
+      → list_any (is_request ask) (of_steps (option_to_list taken) ++ planned_causes c.next.new.self) ≡ true
+      → IsSought (planned_causes c.args.self.now.plan)
+      (λ kind view. is_fetch_open kind view c.next.new.self.repair.fetches.wanted.items) never ask) c.in-None.is
+      (taken_sought c.args.now c.in_ok-step.field-0 c.args.self.now.plan c.next.new.self c.in_ok-step.ensures)))
       (asks_none (subst (λ taken. AsksOn (option_to_list taken) c.args.self.now.plan c.next.new.self) c.in-None.is
-      (taken_asks c.args.now c.in_ok-step.field-0 c.args.self.now.plan c.next.new.self c.in_ok-step.ensures)));
+      (taken_asks c.args.now c.in_ok-step.field-0 c.args.self.now.plan c.next.new.self c.in_ok-step.ensures))
+      (taken_asks_none c.args.now c.args.self.now.plan c.next.new.self
+      (subst (λ next. HasTaken c.args.now next c.args.self.now.plan c.next.new.self) c.in-None.is
+      c.in_ok-step.ensures)));
 }

@@ -9,6 +9,7 @@ use Rattle.engine_planner.specs.Causes.{planned_causes}
 use Rattle.simplex_engine.proofs.Provenance.{comes_later, comes_same, hand_alone}
 use Rattle.simplex_engine.proofs.NoMissingCertificates.{forgets_no_lack}
 use Rattle.engine_planner.specs.FetchRequests.{asks}
+use Rattle.engine_planner.proofs.AskedFetches.{asks_none_still}
 use Rattle.engine_planner.proofs.AskedSteps.{keeps_asking}
 use Rattle.simplex_engine.specs.Provenance.{is_final}
 use Rattle.simplex_engine.proofs.engine.Engine.work.Goals as goal
@@ -27,6 +28,7 @@ returns g c = record {
       (among_all (ap planned_causes c.begin.ensures)))
       (keeps_asking (λ kind view. is_final c.args.self.now.core.member.facts view)
       (ap (λ plan. plan.repair.resolver) c.begin.ensures)
-      (λ kind view asked un. ap (λ plan. asks plan kind view) c.begin.ensures ∙ asked)))
+      (λ kind view asked un. ap (λ plan. asks plan kind view) c.begin.ensures ∙ asked)
+      (asks_none_still (ap (λ plan. plan.repair.fetches) c.begin.ensures))))
       due_work.risen due_work.works provenance);
 }
