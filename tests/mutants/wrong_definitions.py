@@ -64,11 +64,12 @@ EXAMPLES = {
         "laws::calls_were_received_before", "laws::nullifies_once_due", "laws::work_was_given", "laws::engines_run_on_offers", "laws::polls_end")),
     "laws_hosts": Examples((), ("agreement",)),
     "laws_host_steps": Examples((), ("steps",)),
+    "laws_rounds": Examples((), ("laws_rounds::rounds",)),
 }
-VOTER, RECORD, MEMBER, RESOLVER, LAWS, HISTORIES, PROGRESS, CHAINS, ENGINE, HOSTS, STEPS = (
+VOTER, RECORD, MEMBER, RESOLVER, LAWS, HISTORIES, PROGRESS, CHAINS, ENGINE, HOSTS, STEPS, ROUNDS = (
     (name,) for name in (
         "laws_voter", "simplex_record", "simplex_member", "simplex_resolver", "laws_safety", "laws_history", "laws_progress", "laws_chains", "laws_engine",
-        "laws_hosts", "laws_host_steps"))
+        "laws_hosts", "laws_host_steps", "laws_rounds"))
 
 
 class Wrong(NamedTuple):
@@ -552,6 +553,23 @@ WRONG_DEFINITIONS = (
     Wrong(
         "other hosts change in a step", "laws_host_steps/specs/HostSteps.antt",
         (("(j ≡ i → ⊥) → slice_get later j ≡ slice_get hosts j", "(j ≡ i → ⊥) → Unit {0}"),), STEPS,
+    ),
+    Wrong(
+        "a delivered certificate may be declined", "laws_rounds/specs/Deliveries.antt",
+        (("pub taken : IsAnswered true passed old new", "pub taken : IsAnswered false passed old new"),), ROUNDS,
+    ),
+    Wrong(
+        "an engine takes up its work again after a failure", "laws_rounds/specs/Deliveries.antt",
+        (("pub stays : has_failed old.core ≡ true → new ≡ old", "pub stays : Unit {0}"),), ROUNDS,
+    ),
+    Wrong(
+        "a finalization counts in each epoch", "laws_rounds/specs/Finality.antt",
+        (("HasFinalized (Finalized c) x = c.proposal.round.epoch ≡ x.settings.epoch → c.proposal.round.view ≤ x.finalized",
+          "HasFinalized (Finalized c) x = c.proposal.round.view ≤ x.finalized"),), ROUNDS,
+    ),
+    Wrong(
+        "in a round what was sent reaches the process that was the last one before", "laws_rounds/specs/Rounds.antt",
+        (("IsLastProcess later j last → IsDelivered", "IsLastProcess hosts j last → IsDelivered"),), ROUNDS,
     ),
 )
 

@@ -365,7 +365,7 @@ module _ {S L D K G C : Type 0} (same : D → D → Bool) (elect : Elect L) (byt
         some_same : {x y : Host S L D K G C} → Some x ≡ Some y → x ≡ y
         some_same is = cc
 
-    have : HaveCarriedMore hosts later
+    pub have : HaveCarriedMore hosts later
     have = record { as_many = step.as_many; each = at_both }
 
     abbrev HonestLater : ℕ → List (Process S L D K G C) → Type 0

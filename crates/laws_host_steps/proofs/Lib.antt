@@ -1,1 +1,1 @@
-mod HostSteps
+pub mod HostSteps

@@ -1,0 +1,10 @@
+mod TrackedViews
+mod LifetimeCalls
+mod DeliveredInputs
+mod RoundSteps
+mod LastProcesses
+mod Spread
+mod TurnedAway
+mod FinalizedViews
+mod NullifiedViews
+mod NotarizedViews

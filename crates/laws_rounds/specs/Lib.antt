@@ -1,0 +1,3 @@
+pub mod Deliveries
+pub mod Rounds
+pub mod Finality
