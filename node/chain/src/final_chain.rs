@@ -58,8 +58,8 @@ pub struct FinalChain<B> {
     tail: Tail,
     /// The last finalized view.
     target: View,
-    /// The final block on each, by the digests of both.
-    children: HashMap<Digest, Digest>,
+    /// The final block on each, with its view, by that one's digest.
+    children: HashMap<Digest, (View, Digest)>,
     /// Final blocks that peers sent in ranges.
     fetched: HashMap<Digest, B>,
     fetched_bytes: usize,
@@ -171,8 +171,8 @@ impl<B: Linked + Clone> FinalChain<B> {
                 return Ok(());
             };
             self.holes.remove(&view);
-            match self.children.insert(parent.1, payload) {
-                Some(same) if same == payload => return Ok(()),
+            match self.children.insert(parent.1, (view, payload)) {
+                Some((_, same)) if same == payload => return Ok(()),
                 Some(_) => {
                     return Err(Fork(format!(
                         "two final blocks are on the block of view {}: the chain forks",
@@ -185,14 +185,17 @@ impl<B: Linked + Clone> FinalChain<B> {
         Ok(())
     }
 
-    /// The blocks behind the last one that was taken, in order, as far as none is missing. They are returned once.
+    /// The blocks behind the last one that was taken, in order, as far as none is missing. They are returned once. A block that the store
+    /// has forgotten meanwhile is missing again.
     pub fn take(&mut self, store: &impl Store<B>) -> Vec<Entry<B>> {
         let mut taken = Vec::new();
-        while let Some(payload) = self.children.remove(&self.tail.payload) {
+        while let Some((view, payload)) = self.children.get(&self.tail.payload).copied() {
             let fetched = self.fetched.remove(&payload).inspect(|it| self.fetched_bytes -= it.size());
             let Some(block) = fetched.or_else(|| store.block(&payload).cloned()) else {
+                self.holes.insert(view, payload);
                 break;
             };
+            self.children.remove(&self.tail.payload);
             self.tail = Tail {
                 height: self.tail.height + 1,
                 view: block.view(),

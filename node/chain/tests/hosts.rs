@@ -40,6 +40,8 @@ enum Event {
     Range(Index, Index),
     /// The application takes what is ready.
     Deliver,
+    /// The host needs room: one block in seven is kept no more, whatever waits for it.
+    Forget(u8),
     /// The process ends after the application took some blocks, the disk loses one block in seven, and another process begins.
     Restart { taken: usize, lost: u8 },
 }
@@ -52,6 +54,7 @@ fn event() -> impl Strategy<Value = Event> {
         3 => index().prop_map(Event::Final),
         1 => (index(), index()).prop_map(|(one, other)| Event::Range(one, other)),
         2 => Just(Event::Deliver),
+        1 => (0..7u8).prop_map(Event::Forget),
         1 => (0..3usize, 0..7u8).prop_map(|(taken, lost)| Event::Restart { taken, lost }),
     ]
 }
@@ -126,6 +129,10 @@ impl Host {
         Ok(self.chain.arrived(block, &self.store)?)
     }
 
+    fn forget(&mut self, lost: u8) {
+        self.store.retain(|digest, _| digest.bytes()[7] % 7 != lost);
+    }
+
     fn happens(&mut self, event: &Event, chain: &[Block], branches: &[Block]) -> TestCaseResult {
         // A window that moves up: what is final, and what comes, is about there.
         let reach = (self.delivered.len() + 12).min(chain.len());
@@ -139,9 +146,13 @@ impl Host {
                 Ok(self.chain.add(certificate(&range[0]), range, &self.store)?)
             }
             Event::Deliver => self.deliver(usize::MAX),
+            Event::Forget(lost) => {
+                self.forget(*lost);
+                Ok(())
+            }
             Event::Restart { taken, lost } => {
                 self.deliver(*taken)?;
-                self.store.retain(|digest, _| digest.bytes()[7] % 7 != *lost);
+                self.forget(*lost);
                 self.begin_again()
             }
         }
@@ -150,6 +161,7 @@ impl Host {
     /// Gives the host what it names, until nothing is missing.
     fn heal(&mut self, chain: &[Block]) -> TestCaseResult {
         self.finalized(chain.last().expect("a chain"))?;
+        self.deliver(usize::MAX)?;
         let mut asked = 0;
         while let Some((view, digest)) = self.chain.hole() {
             let block = chain.iter().find(|it| it.digest == digest);

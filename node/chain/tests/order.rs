@@ -46,6 +46,25 @@ fn a_hole_is_named_and_filled_by_a_block_or_by_ranges_in_any_order() {
     assert_eq!((it.hole(), it.fetched_bytes(), it.tail().height), (None, 0, 7));
 }
 
+/// A host that lags and has no more room drops final blocks that were walked: they wait for those below them, and peers have them.
+#[test]
+fn a_block_that_the_store_has_forgotten_meanwhile_is_missing_again() {
+    let made = chain(&[1, 2, 3, 4, 5]);
+    let (mut store, mut it) = (store_of(&made[1..4]), FinalChain::new(GENESIS));
+    it.finalize(&proposal(&made[3]), None, &store).expect("no fork");
+    assert_eq!(it.hole(), Some((made[0].view, made[0].digest)));
+    store.retain(|_, block| block.view.get() == 2);
+    let mut views = Vec::new();
+    for (got, lacking) in [(0, Some(2)), (2, Some(3)), (3, None)] {
+        it.add(certificate(&made[got]), vec![made[got].clone()], &store).expect("no fork");
+        views.extend(heights(&it.take(&store)).iter().map(|it| it.1));
+        assert_eq!(it.hole(), lacking.map(|at: usize| (made[at].view, made[at].digest)));
+    }
+    it.add(certificate(&made[4]), vec![made[4].clone()], &store).expect("no fork");
+    views.extend(heights(&it.take(&store)).iter().map(|it| it.1));
+    assert_eq!((views, it.hole()), (vec![1, 2, 3, 4, 5], None));
+}
+
 #[test]
 fn two_final_blocks_on_one_parent_are_a_fork() {
     let made = chain(&[1, 2, 4]);
