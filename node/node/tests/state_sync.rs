@@ -13,6 +13,7 @@ use simplex_view_state::{Context, Digest, Participant, Proposal, Subject, View};
 use simplex_wire::{Block, Manifest, Message, PIECE, Range};
 use std::fs;
 use std::path::PathBuf;
+use std::process::Command;
 use std::time::{Duration, Instant};
 
 /// Within what time something has to be seen, on a machine that does much else.
@@ -41,6 +42,9 @@ fn network(name: &str) -> Network {
         let small = |it: &mut Settings| {
             it.archive.segment_bytes = 10_000;
             it.archive.most_bytes = Some(30_000);
+            // (such an archive is passed in seconds: a process that a busy machine lets wait so long would vote no more, and the others
+            // need its votes while node 3 is away)
+            it.state_sync = Some(1_000_000);
         };
         network.set(index, small).expect("settings");
     }
@@ -51,6 +55,16 @@ fn log(network: &Network, index: u32) -> String {
     fs::read_to_string(network.log(index)).unwrap_or_default()
 }
 
+/// The last lines of all nodes.
+fn logs(network: &Network) -> String {
+    let last = |index| {
+        let log = log(network, index);
+        let lines: Vec<&str> = log.lines().rev().take(8).collect();
+        format!("node {index}:\n{}", lines.into_iter().rev().collect::<Vec<_>>().join("\n"))
+    };
+    (0..4).map(last).collect::<Vec<_>>().join("\n")
+}
+
 fn count(network: &Network, index: u32, name: &str) -> u64 {
     network.metric(index, name).expect("it answers")
 }
@@ -59,7 +73,7 @@ fn count(network: &Network, index: u32, name: &str) -> u64 {
 fn others_prune(network: &Network) {
     let height = network.chains().expect("chains")[3].len() as u64;
     let is_pruned = network.wait_until(&[0, 1, 2], "archive_first", height + 80, LONG);
-    assert!(is_pruned, "{}", log(network, 0));
+    assert!(is_pruned, "the blocks up to {} are not pruned: {}", height + 80, logs(network));
 }
 
 /// Node 3 has the state of its peers, and all blocks after it.
@@ -148,6 +162,35 @@ fn a_member_behind_all_archives_takes_a_snapshot_and_keeps_its_journal() {
         aside.len() == 1 && fs::read_dir(&aside[0]).expect("a folder").count() > 0,
         "{aside:?}"
     );
+    ends_well(network);
+}
+
+fn signal(network: &Network, index: u32, name: &str) {
+    let process = network.process(index).expect("a process").to_string();
+    assert!(Command::new("kill").args([name, &process]).status().expect("a process").success());
+}
+
+/// A process stands still until the others have pruned what it lacks; then another member ends, so that nothing is final without the votes of
+/// the first one. It takes a snapshot of a network that stands still, and votes again.
+#[test]
+fn a_member_that_is_needed_and_lacks_pruned_blocks_takes_a_snapshot_and_votes() {
+    let mut network = network("needed-state");
+    network.begin_all().expect("processes");
+    assert!(network.wait_until(&[0, 1, 2, 3], "height", 10, SOON), "{}", logs(&network));
+    signal(&network, 2, "-STOP");
+    let height = network.chains().expect("chains")[2].len() as u64;
+    assert!(
+        network.wait_until(&[0, 1, 3], "archive_first", height + 80, LONG),
+        "{}",
+        logs(&network)
+    );
+    network.kill(3).expect("a process");
+    signal(&network, 2, "-CONT");
+    let height = count(&network, 0, "height");
+    assert!(network.wait_until(&[0, 1, 2], "height", height + 20, SOON), "{}", logs(&network));
+    assert!(count(&network, 2, "state_syncs") > 0, "{}", log(&network, 2));
+    network.begin(3).expect("a process");
+    catches_up(&network);
     ends_well(network);
 }
 
