@@ -27,7 +27,7 @@ from lib.program import ROOT
 
 NODE = ROOT / "node"
 SKIPPED = 77
-LEAST_TESTS = 344
+LEAST_TESTS = 345
 # The libraries that the container of `node/Containerfile` has.
 IN_CONTAINER = {"libssl", "libcrypto", "libgcc_s", "libc", "libm", "libdl", "libpthread"}
 # The words of the network that `./demo` runs.
@@ -140,8 +140,10 @@ WRONG_BODIES = (
     ("any snapshot may be bound", "ledger/snapshots.rs", "Some((digest, _)) => Some(*digest == bond.digest),", "Some(_) => Some(true),"),
     ("blocks are pruned that a snapshot's successors need", "application/requests.rs", "self.bound.iter().filter_map(|it| it.2).min()", "self.bound.iter().filter_map(|it| it.2).max()"),
     ("what takes the place of a file overwrites it", "set_aside.rs", ".find(|it| fs::symlink_metadata(it).is_err())", ".next()"),
-    ("nobody says which block all others have pruned", "replica/finality.rs", "let is_nowhere = others > 0 && pruned == others;",
-     "let is_nowhere = others > 0 && pruned > others;"),
+    ("nobody says which block all others have pruned", "replica/finality.rs", "let height = if is_nowhere { tail.height + 1 } else { 0 };",
+     "let (height, is_nowhere) = (0, is_nowhere && pruned > others);"),
+    ("a member that is down hides which block the others have pruned", "replica/finality.rs",
+     " || (stands > LACKING && is_pruned(pruned, others, others / 3));", ";"),
     ("an application that lost blocks is not given them again", "start.rs", "    replay(&mut archive, application)?;\n", ""),
     ("a certificate of too few votes is taken", "../../keys/src/public.rs", "signed.len() == self.quorum()", "signed.len() + 1 >= self.quorum()"),
     ("a damaged journal is taken for a torn one", "../../journal/src/format.rs", "if at == HEAD || was_synced(bytes, at) || !is_torn(bytes, at) {", "if at == HEAD {"),

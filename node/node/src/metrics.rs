@@ -102,7 +102,7 @@ counters! {
     height: "gauge",
     /// Views between the last block that the archive has on the disk and the last finalized view.
     lag_views: "gauge",
-    /// The height of a final block that no other member has any more; 0 where there is none.
+    /// The height of a final block that no member who replies has any more; 0 where there is none.
     missing_height: "gauge",
     /// Bytes of the archive of final blocks.
     archive_bytes: "gauge",

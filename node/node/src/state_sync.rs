@@ -169,7 +169,12 @@ impl StateSync {
 /// Whether a node that lacks so many final views takes a snapshot: `above` is its setting, and `pruned` of the others, of which at most
 /// `faulty` lie, have pruned the next block.
 pub fn is_wanted(above: Option<u64>, lacking: u64, pruned: usize, others: usize, faulty: usize) -> bool {
-    above.is_some_and(|above| lacking > above || (others > 0 && pruned >= (others - faulty.min(others)).max(1)))
+    above.is_some_and(|above| lacking > above || is_pruned(pruned, others, faulty))
+}
+
+/// Whether so many of the others have pruned a block that the rest may all be down, or lie, as at most `faulty` of them are.
+pub fn is_pruned(pruned: usize, others: usize, faulty: usize) -> bool {
+    others > 0 && pruned >= (others - faulty.min(others)).max(1)
 }
 
 /// Whom a fetch asks for what: a piece of this index.

@@ -114,10 +114,9 @@ fn long_blocks_come_at_a_steady_rate() {
     ends_well(network);
 }
 
-/// The members have pruned what node 3 lacks.
-#[test]
-fn a_block_that_nobody_has_is_an_error_that_names_its_height() {
-    let mut network = network("pruned", 4);
+/// The members have pruned what node 3 lacks, whose process has ended: so many blocks it has.
+fn pruned(name: &str) -> (Network, u64) {
+    let mut network = network(name, 4);
     for index in 0..4 {
         let small = |it: &mut simplex_node::settings::Settings| {
             it.archive.segment_bytes = 20_000;
@@ -134,22 +133,40 @@ fn a_block_that_nobody_has_is_an_error_that_names_its_height() {
         "{}",
         log(&network, 0)
     );
-    network.begin(3).expect("a process");
+    (network, height)
+}
+
+/// Node 3 has so many blocks, and says that it lacks the next one.
+fn says_what_it_lacks(network: &Network, height: u64) {
     let is_told = network.wait_until(&[3], "missing_height", height + 1, SOON);
-    let said = log(&network, 3);
-    assert!(
-        is_told,
-        "{} in place of {height} and 1: {said}",
-        count(&network, 3, "missing_height")
-    );
+    let said = log(network, 3);
+    let missing = count(network, 3, "missing_height");
+    assert!(is_told, "{missing} in place of {height} and 1: {said}");
     let line = said
         .lines()
-        .find(|it| it.contains("no other member has the final block"))
+        .find(|it| it.contains("no other member that replies has the final block"))
         .expect("a line");
     // (the archive may have had a block more than the application)
-    let missing = count(&network, 3, "missing_height");
     assert!(line.contains(&format!("height={missing}")) && line.contains("ERROR"), "{line}");
-    assert!(network.wait_for(&[3], network.highest(&[0]) + 5, SOON), "it votes on: {said}");
+}
+
+#[test]
+fn a_block_that_nobody_has_is_an_error_that_names_its_height() {
+    let (mut network, height) = pruned("pruned");
+    network.begin(3).expect("a process");
+    says_what_it_lacks(&network, height);
+    let last = network.highest(&[0]);
+    assert!(network.wait_for(&[3], last + 5, SOON), "it votes on: {}", log(&network, 3));
+    ends_well(network);
+}
+
+/// Without the votes of node 3 nothing is final then: whoever looks has to find why.
+#[test]
+fn a_member_that_is_down_hides_no_error_of_a_block_that_the_others_have_pruned() {
+    let (mut network, height) = pruned("pruned-down");
+    network.kill(2).expect("a process");
+    network.begin(3).expect("a process");
+    says_what_it_lacks(&network, height);
     ends_well(network);
 }
 

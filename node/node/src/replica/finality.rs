@@ -4,6 +4,7 @@
 use super::Replica;
 use crate::chain::{Entry, FinalChain, Tail};
 use crate::settings::Outcome;
+use crate::state_sync::is_pruned;
 use simplex_chain::CatchUp;
 use simplex_view_state::{CertificateKind, Participant, Proposal, Subject, View};
 use simplex_wire::{Message, Range};
@@ -24,6 +25,8 @@ const LOGGED: Duration = Duration::from_secs(5);
 const LACK_LOGGED: Duration = Duration::from_secs(60);
 /// After how long without a block all that was asked for is asked for again.
 const STALLED: Duration = Duration::from_secs(15);
+/// After how long without a block it is said that nobody who replies has the next one: another member may come back, or lies.
+const LACKING: Duration = Duration::from_secs(5);
 
 /// How far the node is behind, and what was told of it.
 #[derive(Debug)]
@@ -32,6 +35,8 @@ pub(super) struct Lag {
     since: Option<(Instant, View)>,
     /// When the chain grew last.
     grew: Instant,
+    /// When all was asked for again.
+    asked_anew: Instant,
     logged: Option<Instant>,
     lack_logged: Option<Instant>,
     is_told: bool,
@@ -42,6 +47,7 @@ impl Lag {
         Lag {
             since: None,
             grew: Instant::now(),
+            asked_anew: Instant::now(),
             logged: None,
             lack_logged: None,
             is_told: false,
@@ -140,8 +146,8 @@ impl Replica {
             self.parts.horizon.want_ranges(Default::default());
             return;
         }
-        if self.lag.grew.elapsed() > STALLED {
-            self.lag.grew = Instant::now();
+        if self.lag.grew.max(self.lag.asked_anew).elapsed() > STALLED {
+            self.lag.asked_anew = Instant::now();
             self.catch_up.begin_anew();
         }
         let is_full = self.chain.fetched_bytes() + self.parts.keeper.waiting() > MOST_WAITING;
@@ -180,20 +186,22 @@ impl Replica {
         }
     }
 
-    /// Says which block nobody has, and what to do.
+    /// Says which block nobody has, and what to do. A member that is down, or lies, does not say that it has pruned it: where so many did that
+    /// the rest may all be such members, they are waited for a while.
     fn note_lack(&mut self) {
         let tail = self.chain.tail();
         let others = self.heard.len() - 1;
         let pruned = self.catch_up.pruned_by(tail.view);
-        let is_nowhere = others > 0 && pruned == others;
+        let stands = self.lag.since.map_or(Duration::ZERO, |it| it.0.max(self.lag.grew).elapsed());
+        let is_nowhere = (others > 0 && pruned == others) || (stands > LACKING && is_pruned(pruned, others, others / 3));
         let height = if is_nowhere { tail.height + 1 } else { 0 };
         self.parts.counters.missing_height.store(height, Relaxed);
         if is_nowhere && self.parts.settings.state_sync.is_none() && is_due(&mut self.lag.lack_logged, LACK_LOGGED) {
             error!(
                 height,
                 after_view = tail.view.get(),
-                "no other member has the final block of this height any more: set `state_sync` and begin this node again, so that it takes \
-                 the application's state of another one; and give the members a larger `most_bytes` in `[archive]`"
+                "no other member that replies has the final block of this height any more: set `state_sync` and begin this node again, so \
+                 that it takes the application's state of another one; and give the members a larger `most_bytes` in `[archive]`"
             );
         }
     }
