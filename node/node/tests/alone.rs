@@ -315,6 +315,30 @@ fn final_blocks_that_are_lacking_are_taken_in_a_range_where_they_are_those_that_
 }
 
 #[test]
+fn a_peer_is_served_the_final_blocks_that_it_asks_for() {
+    let mut others = Others::around_a_node("serves-range");
+    let blocks = chain(others.genesis, 1..4, 256);
+    let certificate = others.certificate(&[1, 2, 3], Subject::Finalize(blocks[2].1));
+    others.send(1, &Message::Certificate(certificate.clone()));
+    let (first, after) = asked_range(&others);
+    let falling: Vec<Block> = blocks.iter().rev().map(|(block, _)| block.clone()).collect();
+    let range = Range {
+        after,
+        certificate,
+        blocks: falling.clone(),
+    };
+    others.send(first as usize, &Message::Range(range));
+    others.comes_to("height", 3);
+    others.send(3, &Message::AskRange(View::new(1), View::new(3)));
+    let is_served = |member, message: &Message| match message {
+        Message::Range(it) => member == 3 && it.after == View::new(1) && it.blocks == falling[..2],
+        _ => false,
+    };
+    assert!(others.hears(SOON, is_served), "it does not send blocks 2 and 3");
+    others.end();
+}
+
+#[test]
 fn a_final_block_that_is_lacking_is_taken_by_its_digest_too() {
     let mut others = Others::around_a_node("digest");
     let blocks = chain(others.genesis, 1..4, 256);
