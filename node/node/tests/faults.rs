@@ -12,6 +12,7 @@ use simplex_node::network::{Network, Plan, folder_of};
 use simplex_node::settings::Protocol;
 use simplex_node::trace;
 use simplex_node::trace::Line;
+use simplex_wire::LONGEST_BLOCK;
 use std::fs;
 use std::path::Path;
 use std::process::{Command, Stdio};
@@ -151,8 +152,15 @@ fn a_leader_that_proposes_twice_is_seen_by_each_honest_node() {
 /// Node 3's application builds blocks that are too long to be sent: they are not proposed, and it says why.
 #[test]
 fn a_block_that_no_peer_would_take_is_an_error_of_who_built_it() {
-    let mut network = Network::new(plan("oversized", 4)).expect("keys and settings");
-    network.set(3, |it| it.trial.block_bytes = Some(2 << 20)).expect("settings");
+    let mut oversized = plan("oversized", 4);
+    // (a build for trying hashes for a second until it has such a block, and a build that is late is cancelled)
+    oversized.protocol.leader_timeout_ms = 4000;
+    oversized.protocol.certification_timeout_ms = 5000;
+    oversized.protocol.inactivity_ms = 8000;
+    let mut network = Network::new(oversized).expect("keys and settings");
+    network
+        .set(3, |it| it.trial.block_bytes = Some(LONGEST_BLOCK + 1))
+        .expect("settings");
     network.begin_all().expect("processes");
     assert!(network.wait_until(&[3], "oversized_blocks", 2, START), "{}", logs(&network));
     goes_on(&network, &[0, 1, 2]);
