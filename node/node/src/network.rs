@@ -158,10 +158,16 @@ impl Network {
         crate::init(&Settings::read(&self.config(index))?)
     }
 
-    fn begin_by(&mut self, index: u32, mut command: Command) -> Outcome {
+    /// Makes the folder of a node that never began.
+    fn prepare(&self, index: u32) -> Outcome {
         if self.lives[index as usize] == 0 && !self.data(index).exists() {
             self.init(index)?;
         }
+        Ok(())
+    }
+
+    fn begin_by(&mut self, index: u32, mut command: Command) -> Outcome {
+        self.prepare(index)?;
         let log: File = OpenOptions::new().create(true).append(true).open(self.log(index))?;
         let child = command.stdin(Stdio::null()).stdout(log.try_clone()?).stderr(log).spawn()?;
         self.children[index as usize] = Some(child);
@@ -174,8 +180,10 @@ impl Network {
         self.plan.folder.join(format!("{index}.log"))
     }
 
-    /// Begins all nodes.
+    /// Begins all nodes, about at once: their folders, which wait for the disk, are made before the first one runs. Else the last one may
+    /// begin behind all that the others keep.
     pub fn begin_all(&mut self) -> Outcome {
+        (0..self.plan.nodes).try_for_each(|index| self.prepare(index))?;
         (0..self.plan.nodes).try_for_each(|index| self.begin(index))
     }
 
