@@ -105,7 +105,7 @@ WRONG_BODIES = (
     ("the last delivered block is delivered again", "../../chain/src/final_chain.rs", "            self.drop_taken();\n        }\n        taken",
      "            self.drop_taken();\n            taken.extend(taken.last().cloned());\n        }\n        taken"),
     ("children are delivered before their parents", "../../chain/src/final_chain.rs", "taken.push(Entry {", "taken.insert(0, Entry {"),
-    ("two final blocks on one parent are taken", "../../chain/src/final_chain.rs", "Some(same) if same == payload => return Ok(()),", "Some(_) => return Ok(()),"),
+    ("two final blocks on one parent are taken", "../../chain/src/final_chain.rs", "Some((_, same)) if same == payload => return Ok(()),", "Some(_) => return Ok(()),"),
     ("fetched blocks of no chain are kept", "../../chain/src/final_chain.rs", "self.drop_taken();", ""),
     ("a segment that was begun loses the blocks before it", "archive.rs", "for number in self.numbers().into_iter().rev() {\n            let mut found = None;",
      "for number in self.numbers().into_iter().rev().take(1) {\n            let mut found = None;"),
