@@ -422,7 +422,7 @@ WRONG_DEFINITIONS = (
         (("if nat_le moment now then Expiry ∷ [] else []", "Expiry ∷ []"),), ENGINE,
     ),
     Wrong(
-        "a resolver hears once more of a certificate that is known", "engine_planner/specs/FetchRequests.antt",
+        "a resolver receives a known certificate once more", "engine_planner/specs/FetchRequests.antt",
         (("(reply.Added is_new _) asked = if is_new then views_received bytes asked else []", "(reply.Added is_new _) asked = views_received bytes asked"),), ENGINE,
     ),
     Wrong(
