@@ -65,11 +65,12 @@ EXAMPLES = {
     "laws_hosts": Examples((), ("agreement",)),
     "laws_host_steps": Examples((), ("steps",)),
     "laws_rounds": Examples((), ("laws_rounds::rounds",)),
+    "laws_finals": Examples((), ("laws_finals::finals",)),
 }
-VOTER, RECORD, MEMBER, RESOLVER, LAWS, HISTORIES, PROGRESS, CHAINS, ENGINE, HOSTS, STEPS, ROUNDS = (
+VOTER, RECORD, MEMBER, RESOLVER, LAWS, HISTORIES, PROGRESS, CHAINS, ENGINE, HOSTS, STEPS, ROUNDS, FINALS = (
     (name,) for name in (
         "laws_voter", "simplex_record", "simplex_member", "simplex_resolver", "laws_safety", "laws_history", "laws_progress", "laws_chains", "laws_engine",
-        "laws_hosts", "laws_host_steps", "laws_rounds"))
+        "laws_hosts", "laws_host_steps", "laws_rounds", "laws_finals"))
 
 
 class Wrong(NamedTuple):
@@ -570,6 +571,26 @@ WRONG_DEFINITIONS = (
     Wrong(
         "in a round what was sent reaches the process that was the last one before", "laws_rounds/specs/Rounds.antt",
         (("IsLastProcess later j last → IsDelivered", "IsLastProcess hosts j last → IsDelivered"),), ROUNDS,
+    ),
+    Wrong(
+        "a host stops with another record in its journal", "laws_finals/specs/HostLifetimes.antt",
+        (("pub entries : entries_of bytes_of (journal_of (before ++ process.carried)).entries ≡ life.left.entries", "pub entries : Unit {0}"),), FINALS,
+    ),
+    Wrong(
+        "a host carries out a vote that its member did not sign", "laws_finals/specs/HostLifetimes.antt",
+        (("→ Contains (earlier ++ trace_in life) (Signs vote.signer vote.subject)", "→ Unit {0}"),), FINALS,
+    ),
+    Wrong(
+        "a member accepts in a lifetime what can't exist", "laws_finals/specs/HostLifetimes.antt",
+        (("Contains (trace_in life) (Accepts certificate) → MayExist certificate", "Contains (trace_in life) (Accepts certificate) → Unit {0}"),), FINALS,
+    ),
+    Wrong(
+        "one honest host witnesses a handoff", "laws_finals/specs/HostStarts.antt",
+        (("count_by is_faulty_host hosts + 2 ≤ quorum", "count_by is_faulty_host hosts + 1 ≤ quorum"),), FINALS,
+    ),
+    Wrong(
+        "hosts start in different epochs", "laws_finals/specs/HostStarts.antt",
+        (("(start.settings.epoch ≡ epoch)", "(epoch ≡ epoch)"),), FINALS,
     ),
 )
 
