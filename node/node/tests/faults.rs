@@ -153,7 +153,7 @@ fn a_leader_that_proposes_twice_is_seen_by_each_honest_node() {
 #[test]
 fn a_block_that_no_peer_would_take_is_an_error_of_who_built_it() {
     let mut oversized = plan("oversized", 4);
-    // (a build for trying hashes for a second until it has such a block, and a build that is late is cancelled)
+    // (a debug build needs a second to hash such a block, and the engine cancels a block that comes too late)
     oversized.protocol.leader_timeout_ms = 4000;
     oversized.protocol.certification_timeout_ms = 5000;
     oversized.protocol.inactivity_ms = 8000;
