@@ -1,7 +1,7 @@
 #!/usr/bin/env python3
-"""That a wrong definition is refused: each is put in place on a copy, and the worked scripts and networks are computed from it.
+"""Tests that a wrong definition is refused: each is put in place on a copy, and the worked scripts and networks are computed from it.
 
-A contract is an equation with a definition, so code and definition that are wrong alike agree. What stands against that are
+A contract is an equation with a definition, so code and definition that are wrong alike agree. Against that there are
 the examples: what was written down, computed from the definitions, and networks step by step. Here no code is proved: a copy
 of each crate with examples gets a function whose proof imports them, and this alone is checked, with the crates below as
 source. A minute each, on one processor.
@@ -65,12 +65,13 @@ EXAMPLES = {
     "laws_hosts": Examples((), ("agreement",)),
     "laws_host_steps": Examples((), ("steps",)),
     "laws_rounds": Examples((), ("laws_rounds::rounds",)),
+    "laws_meetings": Examples((), ("laws_meetings::meetings",)),
     "laws_finals": Examples((), ("laws_finals::finals",)),
 }
-VOTER, RECORD, MEMBER, RESOLVER, LAWS, HISTORIES, PROGRESS, CHAINS, ENGINE, HOSTS, STEPS, ROUNDS, FINALS = (
+VOTER, RECORD, MEMBER, RESOLVER, LAWS, HISTORIES, PROGRESS, CHAINS, ENGINE, HOSTS, STEPS, ROUNDS, MEETINGS, FINALS = (
     (name,) for name in (
         "laws_voter", "simplex_record", "simplex_member", "simplex_resolver", "laws_safety", "laws_history", "laws_progress", "laws_chains", "laws_engine",
-        "laws_hosts", "laws_host_steps", "laws_rounds", "laws_finals"))
+        "laws_hosts", "laws_host_steps", "laws_rounds", "laws_meetings", "laws_finals"))
 
 
 class Wrong(NamedTuple):
@@ -571,6 +572,46 @@ WRONG_DEFINITIONS = (
     Wrong(
         "in a round what was sent reaches the process that was the last one before", "laws_rounds/specs/Rounds.antt",
         (("IsLastProcess later j last → IsDelivered", "IsLastProcess hosts j last → IsDelivered"),), ROUNDS,
+    ),
+    Wrong(
+        "an engine may lose the work that is ahead", "laws_meetings/specs/EngineRuns.antt",
+        (("pub ahead : AreAmong (work_ahead old) (work_returned call ++ work_ahead new)", "pub ahead : Unit {0}"),), MEETINGS,
+    ),
+    Wrong(
+        "an engine may begin settled", "laws_meetings/specs/EngineRuns.antt",
+        (("pub unsettled : IsUnsettled engine", "pub unsettled : Unit {0}"),), MEETINGS,
+    ),
+    Wrong(
+        "at rest certificates of views below the last finalized one were sent", "laws_meetings/specs/Broadcasts.antt",
+        (("(kind : KindOfCertificate) (view : ℕ) → last.finalized ≤ view →", "(kind : KindOfCertificate) (view : ℕ) → 0 ≤ view →"),), MEETINGS,
+    ),
+    Wrong(
+        "at rest certificates were sent that the process began with", "laws_meetings/specs/Broadcasts.antt",
+        (("→ has_had kind first view ≡ false → IsSent", "→ (first ≡ first) → IsSent"),), MEETINGS,
+    ),
+    Wrong(
+        "a nullification leads to the next view within its term", "laws_meetings/specs/Meetings.antt",
+        (("next_view Nullification x view = next_term_start x.terms.term_length view", "next_view Nullification x view = view + 1"),), MEETINGS,
+    ),
+    Wrong(
+        "members of different epochs follow each other", "laws_meetings/specs/Meetings.antt",
+        (("→ last.settings.epoch ≡ state.settings.epoch", "→ last.settings.epoch ≡ last.settings.epoch"),), MEETINGS,
+    ),
+    Wrong(
+        "hosts meet that have not sent what their processes began with", "laws_meetings/specs/Meetings.antt",
+        (("→ HasSentCertificate bytes_of hosts i kind (round_number earlier view)", "→ Unit {0}"),), MEETINGS,
+    ),
+    Wrong(
+        "a certificate counts as sent by one of another view", "laws_meetings/specs/Meetings.antt",
+        (("IsSent bytes_of (carried_by processes) kind round", "((other : Round) × IsSent bytes_of (carried_by processes) kind other)"),), MEETINGS,
+    ),
+    Wrong(
+        "a member waits for a verdict that it has given", "laws_meetings/specs/Meetings.antt",
+        (("→ has_certified state view ≡ false → Follows", "→ has_certified state view ≡ true → Follows"),), MEETINGS,
+    ),
+    Wrong(
+        "members meet whose verdicts differ", "laws_meetings/specs/Meetings.antt",
+        (("      → has_certified state view ≡ true", "      → tracks Notarization state view ≡ true"),), MEETINGS,
     ),
     Wrong(
         "a host stops with another record in its journal", "laws_finals/specs/HostLifetimes.antt",

@@ -1,8 +1,8 @@
 mod TrackedViews
-mod LifetimeCalls
+pub mod LifetimeCalls
 mod DeliveredInputs
 mod RoundSteps
-mod LastProcesses
+pub mod LastProcesses
 mod Spread
 mod TurnedAway
 mod FinalizedViews

@@ -12,7 +12,8 @@ use simplex_member::member::Stored;
 use simplex_types::types::assembly::Assembly;
 use simplex_types::types::{Digest, Elector, Fault};
 
-/// Passes an input at a moment in milliseconds, by `Engine::handle`.
+/// Passes an input at a moment in milliseconds, by `Engine::handle`, and returns its result. The contract of
+/// `Engine::handle` says when that is true; the clauses here do not.
 ///
 /// - `answered`: the member takes or declines a certificate that the engine admits.
 ///

@@ -1,4 +1,4 @@
-//! What is true after rounds. A function does nothing: its contract is the law.
+//! The laws of rounds. A function does nothing: its contract is the law.
 
 ghost use Rattle.laws_rounds.specs.Rounds.{RoundsKeepNetworks};
 ghost use Rattle.laws_rounds.specs.Finality.{HasFinalized, HasLeft, HasNotarization, SpreadsInRounds};

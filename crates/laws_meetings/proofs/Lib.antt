@@ -1,0 +1,15 @@
+mod EventCertificates
+mod CallCertificates
+mod BroadcastWork
+mod RunCertificates
+mod ProcessesAtRest
+mod LedViews
+mod LedRuns
+mod SentByHosts
+mod HostCertificates
+mod FollowedViews
+mod CommonViews
+mod Fresh
+mod CallClauses
+mod LoneRounds
+mod TwoHosts

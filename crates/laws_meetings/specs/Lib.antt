@@ -1,0 +1,5 @@
+pub mod TrackedCertificates
+pub mod EngineRuns
+pub mod Broadcasts
+pub mod Meetings
+pub mod RoundInstances
