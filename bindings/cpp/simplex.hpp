@@ -99,6 +99,12 @@ struct Round {
     View view = 0;
 };
 
+/* The bytes that each text to sign begins with: a digest of the network's name, its epoch and its members' keys, say. In two networks with one
+ * namespace the signatures of one count in the other. */
+struct Namespace {
+    std::array<std::uint8_t, 32> bytes{};
+};
+
 struct Proposal {
     Round round;
     View parent = 0;
@@ -110,8 +116,10 @@ struct Subject {
     Kind kind;
     Proposal proposal;
 
-    /* Returns the text that a vote on it signs. Throws Error where memory runs out. */
-    Bytes text() const;
+    /* Returns the text that a vote on it signs in a network: the namespace, and then encoded(). Throws Error where memory runs out. */
+    Bytes text(const Namespace &network_namespace) const;
+    /* Returns its bytes, with which the encoding of a certificate begins. Throws Error where memory runs out. */
+    Bytes encoded() const;
 };
 
 struct Vote {
@@ -166,6 +174,7 @@ struct Finalized {
 
 /* How a member is set up. All members of an epoch have the same, except for the signer and the floor. */
 struct Config {
+    Namespace network_namespace;              /* each text to sign begins with it */
     std::uint32_t members = 0;
     std::optional<Participant> signer;
     std::uint64_t epoch = 0;
@@ -184,7 +193,8 @@ struct Config {
 
     Config() = default;
     /* Members that lead round-robin, one view each, from genesis, with the usual times. */
-    Config(std::uint32_t members, std::optional<Participant> signer, std::uint64_t epoch, const Digest &genesis);
+    Config(const Namespace &network_namespace, std::uint32_t members, std::optional<Participant> signer, std::uint64_t epoch,
+           const Digest &genesis);
 };
 
 struct Options {
@@ -256,7 +266,7 @@ public:
     /* Resumes an engine from its journal and what was stored beside it last. Throws Error where these or the settings are refused. */
     static Engine resume(const Config &config, const Options &options, Millis now, const Stored &stored, const Bytes &journal);
 
-    /* Passes an input. Returns whether it was of use: an ignored one changes nothing. Throws Error. */
+    /* Passes an input. Returns false if it was ignored, which changes nothing. Throws Error. */
     bool handle(const Input &input, Millis now);
     /* Returns the next output to carry out; nothing where there is none until another input or the moment state().wake. Throws Error. */
     [[nodiscard]] std::optional<Output> poll(Millis now);

@@ -116,6 +116,7 @@ std::optional<Output> output_of(const simplex_output &it, Read bytes) {
 
 inline simplex_settings settings_of(const Config &it) {
     simplex_settings made{};
+    std::copy(it.network_namespace.bytes.begin(), it.network_namespace.bytes.end(), made.namespace_bytes);
     made.members = it.members;
     made.signer = it.signer.value_or(SIMPLEX_NOBODY);
     if (it.signer == SIMPLEX_NOBODY) throw Error(SIMPLEX_NO_SUCH_MEMBER);
@@ -172,7 +173,7 @@ inline std::optional<Withheld> withheld_of(const simplex_withheld &it) {
     return static_cast<Withheld>(it.reason);
 }
 
-/* The certificate in bytes that are served: the text of its votes, 17 bytes of a nullification and else 57, and its own bytes after it. */
+/* The certificate in bytes that are served: those of its subject, 17 of a nullification and else 57, and its own bytes after them. */
 inline Certificate served_of(const Bytes &all) {
     const bool is_nullification = all.at(0) == 1;
     Subject subject{is_nullification ? Kind::Nullification : all[0] == 0 ? Kind::Notarization : Kind::Finalization, {}};
@@ -188,11 +189,16 @@ inline Certificate served_of(const Bytes &all) {
 
 }  // namespace detail
 
-inline Bytes Subject::text() const {
+inline Bytes Subject::text(const Namespace &network_namespace) const {
     const simplex_proposal flat = detail::flat(proposal);
-    const simplex_text text = simplex_subject(static_cast<std::uint32_t>(kind), &flat);
+    const simplex_text text = simplex_subject(network_namespace.bytes.data(), static_cast<std::uint32_t>(kind), &flat);
     detail::require(text.status);
     return Bytes(text.bytes, text.bytes + text.count);
+}
+
+inline Bytes Subject::encoded() const {
+    const Bytes all = text(Namespace{});
+    return Bytes(all.begin() + sizeof(Namespace), all.end());
 }
 
 inline std::optional<std::vector<Signature>> Certificate::signatures() const {
@@ -224,8 +230,9 @@ inline std::optional<Stored> Stored::from_bytes(const std::array<std::uint8_t, 3
     return Stored{{number(0), number(1), number(2), number(3), bytes[32], 0}};
 }
 
-inline Config::Config(std::uint32_t members_, std::optional<Participant> signer_, std::uint64_t epoch_, const Digest &genesis)
-    : members(members_), signer(signer_), epoch(epoch_), floor(genesis) {
+inline Config::Config(const Namespace &network_namespace_, std::uint32_t members_, std::optional<Participant> signer_, std::uint64_t epoch_,
+                      const Digest &genesis)
+    : network_namespace(network_namespace_), members(members_), signer(signer_), epoch(epoch_), floor(genesis) {
     for (Participant member = 0; member < members; member++) leaders.push_back(member);
 }
 

@@ -114,7 +114,7 @@ func (it *Engine) Close() {
 	runtime.SetFinalizer(it, nil)
 }
 
-// Handle passes an input. It returns whether the input was of use: an ignored one changes nothing.
+// Handle passes an input. It returns false if the input was ignored, which changes nothing.
 func (it *Engine) Handle(input Input, now Millis) (bool, error) {
 	flat, bytes := input.flatInput()
 	taken := C.simplex_engine_handle(it.at, &flat, bytesAt(bytes), C.size_t(len(bytes)), C.uint64_t(now))

@@ -9,7 +9,7 @@ import (
 
 func settings() Config {
 	me := Participant(1)
-	return NewConfig(4, &me, 1, Digest{})
+	return NewConfig(Namespace{7, 1}, 4, &me, 1, Digest{})
 }
 
 func started(t *testing.T, config Config) *Engine {
@@ -61,10 +61,10 @@ func TestSettingsAreRefusedByTheirStatus(t *testing.T) {
 	_, err := Start(other, DefaultOptions(), 0)
 	expect(t, err, OtherTable)
 	me := Participant(4)
-	_, err = Start(NewConfig(4, &me, 1, Digest{}), DefaultOptions(), 0)
+	_, err = Start(NewConfig(Namespace{7, 1}, 4, &me, 1, Digest{}), DefaultOptions(), 0)
 	expect(t, err, NoSuchMember)
 	me = ^Participant(0)
-	_, err = Start(NewConfig(4, &me, 1, Digest{}), DefaultOptions(), 0)
+	_, err = Start(NewConfig(Namespace{7, 1}, 4, &me, 1, Digest{}), DefaultOptions(), 0)
 	expect(t, err, NoSuchMember)
 	if !strings.Contains(OtherTable.Error(), "table of leaders") {
 		t.Fatal(OtherTable.Error())
@@ -85,7 +85,7 @@ func TestAJournalIsRefusedByItsStatus(t *testing.T) {
 	_, err = Resume(settings(), DefaultOptions(), 0, stored.Stored, other)
 	expect(t, err, Damaged)
 	me := Participant(2)
-	_, err = Resume(NewConfig(4, &me, 1, Digest{}), DefaultOptions(), 0, stored.Stored, stored.Bytes)
+	_, err = Resume(NewConfig(Namespace{7, 1}, 4, &me, 1, Digest{}), DefaultOptions(), 0, stored.Stored, stored.Bytes)
 	expect(t, err, ForeignSigner)
 }
 
@@ -139,8 +139,44 @@ func TestSignaturesAreRead(t *testing.T) {
 			t.Fatal(other)
 		}
 	}
-	if text, err := good.Subject.Text(); err != nil || len(text) != 17 || text[0] != 1 {
-		t.Fatal(text, err)
+	if encoded, err := good.Subject.Encoded(); err != nil || len(encoded) != 17 || encoded[0] != 1 {
+		t.Fatal(encoded, err)
+	}
+}
+
+func TestATextBeginsWithItsNamespace(t *testing.T) {
+	subject := Subject{Nullification, Proposal{Round: Round{1, 2}}}
+	encoded, err := subject.Encoded()
+	if err != nil {
+		t.Fatal(err)
+	}
+	for _, namespace := range []Namespace{{7, 1}, {7, 2}} {
+		text, err := subject.Text(namespace)
+		if err != nil || !bytes.Equal(text, append(namespace[:], encoded...)) {
+			t.Fatal(text, err)
+		}
+		config := settings()
+		config.Namespace = namespace
+		if order := orderAfterTimeout(t, started(t, config)); !bytes.HasPrefix(order.Text, namespace[:]) {
+			t.Fatal(order.Text)
+		}
+	}
+}
+
+// orderAfterTimeout returns the vote that an engine orders once view 1 has timed out.
+func orderAfterTimeout(t *testing.T, engine *Engine) *SignOutput {
+	t.Helper()
+	if _, err := engine.Handle(GivenUp{View: 1, Reason: Inactivity}, 0); err != nil {
+		t.Fatal(err)
+	}
+	for {
+		output, err := engine.Poll(0)
+		if err != nil || output == nil {
+			t.Fatal(output, err)
+		}
+		if order, isOrder := output.(SignOutput); isOrder {
+			return &order
+		}
 	}
 }
 

@@ -6,7 +6,7 @@ import "C"
 // Status is why a call failed: a simplex_status of simplex.h. It is an error.
 type Status uint32
 
-// The statuses that a host tells apart. Status.Error has the text of each other one.
+// The statuses that a host distinguishes. Status.Error has the text of each other one.
 const (
 	OutOfMemory   Status = C.SIMPLEX_OUT_OF_MEMORY
 	Failed        Status = C.SIMPLEX_FAILED

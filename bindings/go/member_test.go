@@ -6,7 +6,7 @@ import (
 	"testing"
 )
 
-func memberSettings(me Participant) Config { return NewConfig(4, &me, 1, Digest{}) }
+func memberSettings(me Participant) Config { return NewConfig(Namespace{7, 1}, 4, &me, 1, Digest{}) }
 
 func block(view View) Proposal {
 	return Proposal{Round: Round{1, view}, Parent: view - 1, Payload: Digest{7}}
@@ -35,7 +35,7 @@ func withAnOwnVote(t *testing.T) *Member {
 		t.Fatal("the block is not accepted")
 	}
 	vote := must[*VoteOrder](t)(member.Construct(Notarization, 1))
-	if vote == nil || vote.Signer != 0 || vote.IsRepeat || !bytes.Equal(vote.Text, must[[]byte](t)(vote.Subject.Text())) {
+	if vote == nil || vote.Signer != 0 || vote.IsRepeat || !bytes.Equal(vote.Text, must[[]byte](t)(vote.Subject.Text(Namespace{7, 1}))) {
 		t.Fatal(vote)
 	}
 	return member

@@ -8,6 +8,10 @@ import "encoding/binary"
 // Digest is the digest of a payload.
 type Digest [32]byte
 
+// Namespace is the bytes that each text to sign begins with: a digest of the network's name, its epoch and its members' keys, say. In two
+// networks with one namespace the signatures of one count in the other.
+type Namespace [32]byte
+
 // View is the number of a view.
 type View = uint64
 
@@ -125,14 +129,23 @@ type Context struct {
 	ParentPayload Digest
 }
 
-// Text returns the text that a vote on the subject signs.
-func (it Subject) Text() ([]byte, error) {
-	proposal := it.Proposal.flat()
-	text := C.simplex_subject(C.uint32_t(it.Kind), &proposal)
+// Text returns the text that a vote on the subject signs in a network: the namespace, and then the subject's bytes.
+func (it Subject) Text(namespace Namespace) ([]byte, error) {
+	flat, proposal := namespace.flat(), it.Proposal.flat()
+	text := C.simplex_subject(&flat[0], C.uint32_t(it.Kind), &proposal)
 	if err := errorOf(text.status); err != nil {
 		return nil, err
 	}
 	return bytesOf(text.bytes[:text.count]), nil
+}
+
+// Encoded returns the subject's bytes, with which the encoding of a certificate begins.
+func (it Subject) Encoded() ([]byte, error) {
+	text, err := it.Text(Namespace{})
+	if err != nil {
+		return nil, err
+	}
+	return text[len(Namespace{}):], nil
 }
 
 // Signatures returns the signatures by rising index, where the bytes are as an engine makes them of votes; else false.
@@ -163,6 +176,8 @@ func (it Digest) flat() (made [32]C.uint8_t) {
 	}
 	return made
 }
+
+func (it Namespace) flat() [32]C.uint8_t { return Digest(it).flat() }
 
 func (it Proposal) flat() C.struct_simplex_proposal {
 	return C.struct_simplex_proposal{round: it.Round.flat(), parent: C.uint64_t(it.Parent), payload: it.Payload.flat()}

@@ -7,6 +7,7 @@ import "encoding/binary"
 
 // Config is how a member is set up. All members of an epoch have the same, except for the signer and the floor.
 type Config struct {
+	Namespace       Namespace // the network's: each text to sign begins with it
 	Members         uint32
 	Signer          *Participant // nil for a member that only follows
 	Epoch           uint64
@@ -27,13 +28,13 @@ type Config struct {
 }
 
 // NewConfig returns the settings of members that lead round-robin, one view each, from genesis, with the usual times.
-func NewConfig(members uint32, signer *Participant, epoch uint64, genesis Digest) Config {
+func NewConfig(namespace Namespace, members uint32, signer *Participant, epoch uint64, genesis Digest) Config {
 	leaders := make([]Participant, members)
 	for member := range leaders {
 		leaders[member] = Participant(member)
 	}
 	return Config{
-		Members: members, Signer: signer, Epoch: epoch, Leaders: leaders, TermLength: 1, Genesis: genesis,
+		Namespace: namespace, Members: members, Signer: signer, Epoch: epoch, Leaders: leaders, TermLength: 1, Genesis: genesis,
 		LeaderTimeout: 1000, CertificationTimeout: 2000, TimeoutRetry: 500, ViewRetention: 10, SkipTimeout: 3000,
 	}
 }
@@ -92,7 +93,7 @@ func (it Config) flat() (C.struct_simplex_settings, error) {
 		epoch: C.uint64_t(it.Epoch), view_retention: C.uint64_t(it.ViewRetention), leader_timeout: C.uint64_t(it.LeaderTimeout),
 		certification_timeout: C.uint64_t(it.CertificationTimeout), timeout_retry: C.uint64_t(it.TimeoutRetry),
 		skip_timeout: C.uint64_t(it.SkipTimeout), skip_budget: C.uint64_t(it.SkipBudget),
-		floor: Proposal{Payload: it.Genesis}.flat(),
+		floor: Proposal{Payload: it.Genesis}.flat(), namespace_bytes: it.Namespace.flat(),
 	}
 	if it.Signer != nil {
 		if *it.Signer == C.SIMPLEX_NOBODY {

@@ -18,7 +18,7 @@ fn main() {
         );
         exit(1);
     };
-    let folder = archive.parent().expect("a file stands in a folder");
+    let folder = archive.parent().expect("a file is in a folder");
     let name = archive
         .file_name()
         .and_then(|name| name.to_str())

@@ -1,5 +1,5 @@
 #!/usr/bin/env python3
-"""That the library answers C and Rust as the program answers lines.
+"""Compares the replies of the library, called from C and Rust, with those of the program, called by lines.
 
 The scripts of the repository's tests that ask a voter, and random ones, are served by `viewstate`, by `bindings/c/examples/script.c` and
 by the example of the Rust package, once with restarts in place and once with each restart of nothing by a resume from the journal's bytes:
@@ -106,7 +106,7 @@ def resolver_script(seed, length=RANDOM_LINES):
 
 
 def engine_script(network, seed, length=ENGINE_LINES):
-    """Lines for an engine: inputs round a view that rises, most of them of use, polls, and questions."""
+    """Lines for an engine: inputs round a view that rises, most of them not ignored, polls, and questions."""
     members, me, term, _ = (int(word) for word in network)
     drawn, now, base, lines = random.Random(seed), 0, 1, []
     for _ in range(length):
@@ -251,7 +251,7 @@ def try_lives(room, archive):
 
 
 def try_out_of_memory(room, archive):
-    """What an engine does of which one request for memory is refused, for each request in turn."""
+    """Runs an engine of which one request for memory is refused, for each request."""
     program = compiled(BINDINGS / "c/examples/out_of_memory.c", BINDINGS / "c/include", archive, room / "out_of_memory")
     ended = subprocess.run([program, "5"], stdout=subprocess.PIPE, check=False)
     if ended.returncode:
@@ -341,10 +341,10 @@ def try_all(given, room, pool):
     faults += [*differences, *lost, *others, *untold, *more, *unfit, *package_faults(target, archive)]
     for name, command in wrong_callers(room, archive):
         if not compare(path, {name: command}, pool)[1]:
-            faults.append(f"{name} with two kinds swapped is not told from the right one")
+            faults.append(f"{name} with two kinds swapped is not distinguished from the right one")
     for name, caller in wrong_engines(room, archive):
         if not compare_engines(engine, caller, pool)[1]:
-            faults.append(f"an engine with two kinds swapped in {name} is not told from the right one")
+            faults.append(f"an engine with two kinds swapped in {name} is not distinguished from the right one")
     return seen + compacted + resolved + told + lived + refused, faults
 
 
@@ -352,7 +352,7 @@ def main():
     parser = argparse.ArgumentParser(description=__doc__, formatter_class=argparse.RawDescriptionHelpFormatter)
     program.add_option(parser)
     parser.add_argument("--archive", type=Path, help="the library, if it is built already")
-    parser.add_argument("--engine-lines", type=Path, help="the program that tells an engine lines, if it is built already")
+    parser.add_argument("--engine-lines", type=Path, help="the program that calls an engine by lines, if it is built already")
     parser.add_argument("--again", action="store_true", help="the archive was built unproved: another build has to have the same bytes")
     parser.add_argument("--jobs", type=int, default=2, help="how many scripts go side by side")
     given = parser.parse_args()

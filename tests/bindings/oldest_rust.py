@@ -61,7 +61,7 @@ def listed_version():
 
 
 def unpack(wanted, room):
-    """Unpacks the packages, and those that they depend on and the machine lacks, into `root`."""
+    """Unpacks the packages, and those that they depend on and the machine does not have, into `root`."""
     (room / "archives/partial").mkdir(parents=True)
     names = [f"{name}={wanted}" for name in (COMPILER, *BESIDE)]
     options = ["-o", f"Dir::Cache::Archives={room}/archives", "-o", "Debug::NoLocking=1"]

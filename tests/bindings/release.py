@@ -1,5 +1,5 @@
 #!/usr/bin/env python3
-"""That `bindings/release` makes a folder that stands alone, and the same bytes each time.
+"""Tests that `bindings/release` makes a folder that needs nothing else, and the same bytes each time.
 
 Two releases of one archive, made in two places with other masks for modes, have the same files, modes and times. The sums are right, and a
 changed file is found by them. What was proved names the archive and what it says of itself. From the folder alone, moved elsewhere, the C
@@ -34,7 +34,7 @@ WRONG_BODIES = (
     (SCRIPT, "files = sorted(path for path in out.rglob(\"*\") if path.is_file())", "files = sorted(path for path in out.glob(\"*\") if path.is_file())"),
     (SCRIPT, 'COPIED = ("Makefile", "c",', 'COPIED = ("Makefile",'),
     ("bindings/c/include/simplex.h", "/** What simplex_version returns", "/* What simplex_version returns"),
-    ("bindings/packaging/debian/libsimplex4.install", "libsimplex.so.4", "libsimplex.so"),
+    ("bindings/packaging/debian/libsimplex5.install", "libsimplex.so.5", "libsimplex.so"),
     ("bindings/packaging/debian/rules", "LIBDIR=/usr/lib/$(DEB_HOST_MULTIARCH)", "LIBDIR=/usr/lib"),
 )
 
@@ -99,7 +99,7 @@ def proof_faults(folder, archive):
     if proof["is_proved"] != is_proved or ("NOT PROVED" in (folder / "PROOF.txt").read_text()) == is_proved:
         yield "the statement does not say whether the archive is proved"
     if len(proof["theorems"]) < 9 or not proof["trusted"] or proof["gate"] is not None:
-        yield "the statement lacks theorems or trust, or names a gate that nobody gave"
+        yield "the statement has no theorems or no trust, or names a gate that nobody gave"
 
 
 def refusal_faults(tree, archive, room):
@@ -176,14 +176,14 @@ def debian_faults(folder, room):
     asked = subprocess.run(["pkg-config", "--cflags", "--libs", "simplex"], capture_output=True, text=True, env=surroundings)
     host, example = room / "debian/host", folder / "c/examples/lives.c"
     compiled = subprocess.run(["cc", "-std=c11", example, *asked.stdout.split(), "-o", host], capture_output=True, text=True)
-    libraries = [path.parent for path in root.rglob("libsimplex.so.4")]
+    libraries = [path.parent for path in root.rglob("libsimplex.so.5")]
     is_triplet = any("linux-gnu" in path.name for path in libraries)
     if compiled.returncode or not is_triplet:
         yield f"no host of Debian's packages: {asked.stderr}{compiled.stderr[-500:]}"
     elif subprocess.run([host, "50"], env={"LD_LIBRARY_PATH": str(libraries[0])}, capture_output=True).returncode:
         yield "a host of Debian's packages fails"
-    elif not list(root.rglob("doc/libsimplex4/PROOF.txt*")):
-        yield "libsimplex4 has no PROOF.txt"
+    elif not list(root.rglob("doc/libsimplex5/PROOF.txt*")):
+        yield "libsimplex5 has no PROOF.txt"
 
 
 def faults(tree, archive, room):

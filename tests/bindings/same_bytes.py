@@ -1,5 +1,5 @@
 #!/usr/bin/env python3
-"""That two proved builds of the library are the same bytes, wherever they are made.
+"""Tests that two proved builds of the library are the same bytes, wherever they are made.
 
 The sources are copied to two paths, and `bindings/build` proves and compiles the library in each. The first build uses what was proved on
 this machine before; the second begins from nothing, by a kit at another path, which finds no earlier work. No copy has a commit.

@@ -277,6 +277,7 @@ static struct lifetime begin(char **words) {
     it->certification_timeout = 2000;
     it->timeout_retry = 500;
     it->skip_timeout = 3000;
+    it->namespace_bytes[0] = 1;
     made.leaders = or_end(calloc(it->members + 1, sizeof *made.leaders));
     for (uint32_t i = 0; i < it->members; i++) made.leaders[i] = i;
     require(simplex_engine_start(it, made.leaders, it->members, NULL, 0, &OPTIONS, 0, &made.engine));

@@ -1,6 +1,6 @@
 /*
- * Begins and lets go so many members, with resolvers and engines, and hands in what is refused: settings, numbers, null handles, journals that are cut,
- * changed or of random bytes. It ends with status 0 where each answer is the right one; run it under valgrind to see that nothing is lost.
+ * Begins and frees so many members, with resolvers and engines, and passes what is refused: settings, numbers, null handles, journals that are cut,
+ * changed or of random bytes. It ends with status 0 where each result is the right one; run it under valgrind to see that nothing is lost.
  *
  *     lives COUNT
  */
@@ -15,7 +15,8 @@ static const uint32_t LEADERS[4] = {0, 1, 2, 3};
 /* Its last entry is no member's index. */
 static const uint32_t BEYOND[4] = {0, 1, 2, 4};
 static const struct simplex_settings SETTINGS = {.members = 4, .signer = 0, .term_length = 1, .epoch = 1, .view_retention = 10,
-    .leader_timeout = 1000, .certification_timeout = 2000, .timeout_retry = 500, .skip_timeout = 3000};
+    .leader_timeout = 1000, .certification_timeout = 2000, .timeout_retry = 500, .skip_timeout = 3000,
+    .namespace_bytes = {7, 1}};
 static uint8_t journal[1 << 20];
 static uint32_t seed = 1;
 static long begun, let_go, engines;
@@ -60,7 +61,17 @@ static size_t shown(simplex_member *at, uint32_t which, uint8_t *to) {
     }
 }
 
-/* Some views of a life: a proposal of its own or of another, votes, certificates. */
+/* Tests that this text to notarize is that of the settings' network and begins with its namespace, and that of another network with its own. */
+static void is_in_namespace(const uint8_t *text, size_t len, const struct simplex_proposal *proposal) {
+    const uint8_t other[32] = {7, 2};
+    struct simplex_text here = simplex_subject(SETTINGS.namespace_bytes, SIMPLEX_NOTARIZE, proposal);
+    struct simplex_text there = simplex_subject(other, SIMPLEX_NOTARIZE, proposal);
+    IS(!here.status && here.count == 89 && len == 89 && !memcmp(text, here.bytes, 89));
+    IS(!memcmp(text, SETTINGS.namespace_bytes, sizeof SETTINGS.namespace_bytes));
+    IS(!there.status && there.count == 89 && !memcmp(there.bytes, other, sizeof other) && !memcmp(there.bytes + 32, here.bytes + 32, 57));
+}
+
+/* Some views of a lifetime: a proposal of its own or of another, votes, certificates. */
 static void lives(simplex_member *at, uint64_t views) {
     for (uint64_t view = 1; view <= views; view++) {
         struct simplex_proposal proposal = {.round = {1, view}, .parent = view - 1, .payload = {(uint8_t)view}};
@@ -77,9 +88,8 @@ static void lives(simplex_member *at, uint64_t views) {
         IS(!r.status && r.flag);
         r = called(at, (struct simplex_call){.kind = SIMPLEX_CONSTRUCT_NOTARIZE, .view = view});
         IS(!r.status && r.has && r.member == 0);
-        uint8_t text[64];
-        struct simplex_text wanted = simplex_subject(SIMPLEX_NOTARIZE, &r.proposal);
-        IS(shown(at, SIMPLEX_OF_REPLY, text) == 57 && !wanted.status && wanted.count == 57 && !memcmp(text, wanted.bytes, 57));
+        uint8_t text[96];
+        is_in_namespace(text, shown(at, SIMPLEX_OF_REPLY, text), &r.proposal);
         IS(!called(at, (struct simplex_call){.kind = SIMPLEX_ADD_NOTARIZATION, .proposal = proposal}).status);
         r = called(at, (struct simplex_call){.kind = SIMPLEX_CERTIFY_CANDIDATES});
         IS(!r.status && r.count == 1 && simplex_member_item(at, SIMPLEX_PROPOSALS, 0).proposal.round.view == view);
@@ -190,7 +200,7 @@ static struct simplex_taken told(simplex_engine *at, struct simplex_input input,
     return simplex_engine_handle(at, &input, bytes, len, 0);
 }
 
-/* Numbers that are none of an input: nothing is told. */
+/* Numbers that are none of an input: nothing is passed. */
 static void tells_nothing(simplex_engine *at) {
     struct simplex_engine_status before = simplex_engine_status(at);
     IS(told(at, (struct simplex_input){.kind = 0}, 0).status == SIMPLEX_NO_CALL);
@@ -204,7 +214,7 @@ static void tells_nothing(simplex_engine *at) {
     IS(after.ignored == before.ignored + 1 && after.wake == before.wake && after.fetches == before.fetches);
 }
 
-/* An engine goes on from the journal, as a member does; not from one that is cut, or of random bytes. */
+/* An engine continues from the journal, as a member does; not from one that is cut, or of random bytes. */
 static void goes_on(const struct simplex_stored *stored, size_t len, simplex_engine **next) {
     uint8_t random[300];
     simplex_member *member = 0;
@@ -220,7 +230,7 @@ static void goes_on(const struct simplex_stored *stored, size_t len, simplex_eng
     lets_go(&member);
 }
 
-/* An engine that leads its first view: a block is built, and its vote is ordered behind what stores it. Another goes on from its
+/* An engine that leads its first view: a block is built, and its vote is ordered behind what stores it. Another continues from its
  * journal. */
 static void engine(void) {
     static const struct simplex_options at_once = {.retry = 0, .on_its_way = 25, .long_record = 2048};
@@ -244,10 +254,9 @@ static void engine(void) {
             IS(it.subject.member == 0 && told(at, built, 0).is_of_use);
         }
         if (it.kind == SIMPLEX_VOTE) {
-            uint8_t text[64];
-            struct simplex_text wanted = simplex_subject(it.subject.kind, &it.subject.proposal);
-            IS(stored.entries && it.subject.kind == SIMPLEX_NOTARIZATION && it.subject.member == 0 && read_out(at, 0, text) == 57);
-            IS(wanted.count == 57 && !memcmp(text, wanted.bytes, 57) && ++order == 1);
+            uint8_t text[96];
+            IS(stored.entries && it.subject.kind == SIMPLEX_NOTARIZATION && it.subject.member == 0 && ++order == 1);
+            is_in_namespace(text, read_out(at, 0, text), &it.subject.proposal);
         }
     }
     IS(order == 1 && simplex_engine_withheld(at, SIMPLEX_NOTARIZE, 1).reason == SIMPLEX_WITHHELD_ALREADY_VOTED);
@@ -289,7 +298,7 @@ static void ends(size_t len, uint32_t ending, uint64_t entries, size_t bytes) {
     IS(scan.ending == ending && scan.entries == entries && scan.bytes == bytes);
 }
 
-/* Each bit of an entry in the middle turned over is told as damage, and the last one cut anywhere as a cut. */
+/* Each bit of an entry in the middle turned over is found as damage, and the last one cut anywhere as a cut. */
 static void bits_and_cuts(size_t len) {
     size_t starts[64], count = 0;
     for (size_t at = 0; at < len; starts[count++] = at, at += 40 + ((size_t)journal[at + 2] << 8 | journal[at + 3])) IS(count < 64);
@@ -304,7 +313,7 @@ static void bits_and_cuts(size_t len) {
     ends(len, SIMPLEX_WHOLE, count, len);
 }
 
-/* A resolver from a journal, and what it is told. */
+/* A resolver from a journal, and what it receives. */
 static void resolves(size_t len) {
     simplex_resolver *at = 0;
     static const uint8_t certificate[2000] = {5};

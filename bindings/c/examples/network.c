@@ -31,6 +31,9 @@ struct block {
     uint8_t parent[DIGEST], digest[DIGEST];
 };
 
+/* What each text to sign begins with: a digest of a real network's name, epoch and members. */
+static const uint8_t NAMESPACE[32] = "network.c, epoch 1, test keys";
+
 enum message_kind { BLOCK, ASK_BLOCK, VOTE, CERTIFICATE, FETCH };
 
 struct message {
@@ -43,7 +46,7 @@ struct message {
     uint64_t view;
 };
 
-/* A member: its engine while its process lives, its disk, its blocks, and the chain that it delivered. */
+/* A member: its engine while its process runs, its disk, its blocks, and the chain that it delivered. */
 struct node {
     uint32_t me, members;
     simplex_engine *engine;
@@ -100,7 +103,7 @@ static const uint64_t FIRST_HASH = 0xcbf29ce484222325;
 
 /* A member's signature on the text of a subject. */
 static void put_signature(uint8_t *at, uint32_t signer, const struct simplex_subject *subject) {
-    struct simplex_text text = simplex_subject(subject->kind, &subject->proposal);
+    struct simplex_text text = simplex_subject(NAMESPACE, subject->kind, &subject->proposal);
     require(text.status);
     uint8_t index[4];
     put_number(index, signer, sizeof index);
@@ -191,8 +194,9 @@ static void deliver(struct node *it) {
  * reporting it. */
 static void begin(struct node *it) {
     const uint32_t leaders[MOST_MEMBERS] = {0, 1, 2, 3};
-    const struct simplex_settings settings = {.members = it->members, .signer = it->me, .term_length = 1, .epoch = EPOCH, .view_retention = 10,
+    struct simplex_settings settings = {.members = it->members, .signer = it->me, .term_length = 1, .epoch = EPOCH, .view_retention = 10,
         .leader_timeout = 1000, .certification_timeout = 2000, .timeout_retry = 500, .skip_timeout = 3000};
+    memcpy(settings.namespace_bytes, NAMESPACE, sizeof NAMESPACE);
     const struct simplex_options options = {.retry = 250, .on_its_way = 25, .long_record = 2048};
     require(it->is_stored ? simplex_engine_resume(&settings, leaders, it->members, NULL, 0, &options, network.now, &it->stored, it->journal.at,
                                                   it->journal.count, &it->engine)
@@ -237,7 +241,7 @@ static void serve(const struct node *it, const struct message *ask) {
     const struct simplex_served served = simplex_engine_serve(it->engine, ask->view);
     require(served.status);
     if (!served.has) return;
-    /* The text of the certificate's votes, 17 bytes of a nullification and else 57, and the certificate after it. */
+    /* The bytes of the certificate's subject, 17 of a nullification and else 57, and the certificate after them. */
     struct bytes all = bytes_of(it, SIMPLEX_SHOWN_OF_ENGINE);
     const bool is_nullification = all.at[0] == 1;
     const size_t length = is_nullification ? 17 : 57;

@@ -1,7 +1,7 @@
 /*
  * An engine that is alone finalizes some views while one request for memory is refused: the first one that the library makes, in another run
  * the second, and so on until a run makes so many no more. A call whose request is refused says so, or did without. Where it has failed the
- * engine answers SIMPLEX_FAILED, and another goes on from what was stored; it contradicts no vote before, and finalizes the views. A vote
+ * engine returns SIMPLEX_FAILED, and another continues from what was stored; it contradicts no vote before, and finalizes the views. A vote
  * that was stored and not counted is lost, and its view is nullified once its time is over.
  *
  *     out_of_memory VIEWS
@@ -69,7 +69,7 @@ static size_t read_out(simplex_engine *at, uint8_t *to) {
 
 /* A vote contradicts none before it, and stands in the journal. */
 static void votes(simplex_engine *at, const struct simplex_output *it) {
-    uint8_t text[64];
+    uint8_t text[96];
     size_t len = read_out(at, text), from = 0;
     while (from + len <= journal_len && memcmp(journal + from, text, len)) from++;
     IS(len == it->bytes && from + len <= journal_len);
@@ -79,7 +79,7 @@ static void votes(simplex_engine *at, const struct simplex_output *it) {
     *before = it->subject.proposal;
 }
 
-/* The input that answers an output; its kind is 0 where there is none. */
+/* The input that replies to an output; its kind is 0 where there is none. */
 static struct simplex_input answer_to(const struct simplex_output *it) {
     struct simplex_input input = {.success = 1, .view = it->subject.proposal.round.view, .subject = it->subject};
     switch (it->kind) {
@@ -96,7 +96,7 @@ static struct simplex_input answer_to(const struct simplex_output *it) {
     return input;
 }
 
-/* Carries an output out; whether the engine lives. */
+/* Carries an output out. Returns whether the engine has not failed. */
 static int carries_out(simplex_engine *at, const struct simplex_output *it) {
     static const uint8_t signature[64] = {9};
     if (it->kind == SIMPLEX_STORE || it->kind == SIMPLEX_REPLACE) {

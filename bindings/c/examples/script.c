@@ -5,7 +5,7 @@
  *
  * With resume each `restart 0 NOW` is done as another process would: from the bytes that were stored. With compact the engine keeps a journal,
  * which grows after each line; each `prune` prunes the record too and puts what is left in place of the journal, and before each
- * `restart-pruned` the member goes on from the journal. How many entries were taken away is told behind the last line, to standard error.
+ * `restart-pruned` the member continues from the journal. How many entries were removed is written after the last line, to standard error.
  *
  * It serves some lines more than the program, about what a member knows: `known V`, `withheld KIND V`, `shown KIND V` (a certificate),
  * `entries COUNT` and `scan CUT` (the journal without its last bytes).
@@ -34,7 +34,7 @@ static const char *REFUSED[] = {"1 OutOfOrder", "2 OtherEpoch", "3 ZeroView", "4
     "11 FinalizeWithoutVerdict", "12 TimeOverflow", "14 RetentionGrown"};
 
 static struct simplex_settings settings = {.term_length = 1, .epoch = EPOCH, .view_retention = 10, .leader_timeout = 1000,
-    .certification_timeout = 2000, .timeout_retry = 500, .skip_timeout = 3000};
+    .certification_timeout = 2000, .timeout_retry = 500, .skip_timeout = 3000, .namespace_bytes = {1}};
 static uint32_t leaders[1000];
 static simplex_member *member;
 
@@ -201,7 +201,7 @@ static uint32_t go_on(uint64_t now) {
     return SIMPLEX_OK;
 }
 
-/* As another process would: the record out as bytes, a member made of the bytes, and the first one let go. */
+/* As another process would: the record out as bytes, a member made of the bytes, and the first one freed. */
 static void resume(uint64_t now) {
     struct simplex_entries entries = simplex_member_entries(member, 0);
     if (entries.status) ends("entries", entries.status);

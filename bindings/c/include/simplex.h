@@ -10,6 +10,7 @@
  *
  *   Proved of the functions below                          | The host must
  *   -------------------------------------------------------+--------------------------------------------------------------------
+ *   a text to sign begins with the settings' namespace     | choose a namespace that no other network of its keys has
  *   a call asks the core exactly what its numbers say, and | verify a certificate before it passes one, and pass proposals
  *   the reply is exactly the core's                        | of their view's leader only
  *   a member's call orders a vote exactly where its rule   | sign an ordered text with the key of the member in the reply, and
@@ -50,7 +51,7 @@ extern "C" {
 #endif
 
 /** What simplex_version returns for this header: test it once, before anything else. */
-#define SIMPLEX_VERSION 4u
+#define SIMPLEX_VERSION 5u
 
 /** No member. */
 #define SIMPLEX_NOBODY UINT32_MAX
@@ -320,8 +321,11 @@ struct simplex_settings {
     uint64_t skip_timeout;      /**< after how long a leader counts as inactive; 0: no view is skipped for it */
     uint64_t skip_budget;       /**< how many unfinalized terms may be skipped; 0: as many as there are members */
     struct simplex_proposal floor; /**< what is finalized; of genesis the payload alone */
+    /** The bytes that each text to sign begins with, the same for all members: a digest of the network's name, its epoch and its members'
+     * keys, say. In two networks with one namespace the signatures of one count in the other. */
+    uint8_t namespace_bytes[32];
 };
-SIMPLEX_SIZE(struct simplex_settings, 152);
+SIMPLEX_SIZE(struct simplex_settings, 184);
 
 /** What is stored beside a journal. */
 struct simplex_stored {
@@ -341,7 +345,7 @@ struct simplex_restart {
     uint32_t reserved;
     struct simplex_settings settings;
 };
-SIMPLEX_SIZE(struct simplex_restart, 176);
+SIMPLEX_SIZE(struct simplex_restart, 208);
 
 struct simplex_entries {
     uint32_t status; /**< SIMPLEX_OK, SIMPLEX_OUT_OF_MEMORY or SIMPLEX_ENTRY_TOO_LONG */
@@ -402,13 +406,13 @@ struct simplex_chunk {
 };
 SIMPLEX_SIZE(struct simplex_chunk, 1040);
 
-/** A text: the first count bytes count. */
+/** A text to sign, which begins with a namespace: the first count bytes count. */
 struct simplex_text {
     uint32_t status; /**< SIMPLEX_OK, SIMPLEX_OUT_OF_MEMORY, or SIMPLEX_NO_CALL where no vote has the kind */
     uint32_t count;
-    uint8_t bytes[64];
+    uint8_t bytes[96];
 };
-SIMPLEX_SIZE(struct simplex_text, 72);
+SIMPLEX_SIZE(struct simplex_text, 104);
 
 struct simplex_scan {
     uint64_t entries; /**< how many whole frames the bytes begin with */
@@ -617,7 +621,7 @@ uint32_t simplex_version(void);
 const char *simplex_build_info(void);
 
 /**
- * Begins an engine whose member never voted, by settings, a table of leaders (each term's leader in turn), the bytes of the floor's
+ * Begins an engine whose member never voted, by settings, a table of leaders (each term's leader, round-robin), the bytes of the floor's
  * certificate (none for genesis) and options, at a moment. A member that voted must resume by simplex_engine_resume, or it could vote
  * twice in a view.
  *
@@ -670,7 +674,7 @@ struct simplex_served simplex_engine_serve(simplex_engine *at, uint64_t view);
 void simplex_engine_free(simplex_engine *at);
 
 /**
- * Begins a member that never voted, by settings, a table of leaders (each term's leader in turn) and the bytes of the floor's certificate
+ * Begins a member that never voted, by settings, a table of leaders (each term's leader, round-robin) and the bytes of the floor's certificate
  * (none for genesis), at a moment. A member that voted must resume by simplex_member_resume, or it could vote twice in a view.
  *
  * Returns SIMPLEX_OK and writes the handle to *out; else the status says why there is none, and *out is as it was. Store
@@ -684,23 +688,19 @@ uint32_t simplex_member_start(const struct simplex_settings *settings, const uin
  * last. The settings are those of the lifetime that begins, with the floor that was passed last.
  *
  * Returns SIMPLEX_OK and writes the handle to *out; else the status says why there is none, and *out is as it was: SIMPLEX_DAMAGED or SIMPLEX_NO_ENTRY if the
- * bytes are no journal (simplex_scan tells where), SIMPLEX_ENTRIES_LOST where there are fewer entries than stored.entries or
+ * bytes are no journal (simplex_scan says where), SIMPLEX_ENTRIES_LOST where there are fewer entries than stored.entries or
  * stored.closed, and the errors of settings and records.
  */
 uint32_t simplex_member_resume(const struct simplex_settings *settings, const uint32_t *leaders, size_t leaders_len,
                                const uint8_t *certificate, size_t certificate_len, uint64_t now, const struct simplex_stored *stored,
                                const uint8_t *journal, size_t journal_len, simplex_member **out);
 
-/**
- * Makes a call. The reply stays until the next one. Only the first three kinds read certificate.
- */
+/** Makes a call. The reply stays until the next one. Only the first three kinds read certificate. */
 struct simplex_reply simplex_member_call(simplex_member *at, const struct simplex_call *call, const uint8_t *certificate,
                                          size_t certificate_len);
 
-/**
- * A part of the bytes of the last reply (SIMPLEX_OF_REPLY) or of those that were shown last (SIMPLEX_SHOWN), from the byte from on: at most
- * 1024, and none where there are no more.
- */
+/** A part of the bytes of the last reply (SIMPLEX_OF_REPLY) or of those that were shown last (SIMPLEX_SHOWN), from the byte from on: at most
+ * 1024, and none where there are no more. */
 struct simplex_chunk simplex_member_bytes(simplex_member *at, uint32_t which, uint64_t from);
 
 /** An item of the last reply's lists, a simplex_items; none where the reply has no such list, or no such item. */
@@ -709,19 +709,15 @@ struct simplex_item simplex_member_item(simplex_member *at, uint32_t which, uint
 /** Shows a view's certificate, a simplex_certificate_kind, where the view is tracked. Its bytes are SIMPLEX_SHOWN. */
 struct simplex_found simplex_member_certificate(simplex_member *at, uint32_t kind, uint64_t view);
 
-/**
- * Shows the entries of the record after the first count, as bytes to append to the journal, with what to store beside it. Also of a
- * member that has failed. The bytes are SIMPLEX_SHOWN.
- */
+/** Shows the entries of the record after the first count, as bytes to append to the journal, with what to store beside it. Also of a
+ * member that has failed. The bytes are SIMPLEX_SHOWN. */
 struct simplex_entries simplex_member_entries(simplex_member *at, uint64_t count);
 
-/**
- * Prunes the record within the lifetime, after SIMPLEX_PRUNE: drops what lies far below the last finalized view, as a restart that prunes
+/** Prunes the record within the lifetime, after SIMPLEX_PRUNE: drops what lies far below the last finalized view, as a restart that prunes
  * would, but for views that are still tracked. Shows all that is left, to be stored in place of the journal with its stored, in one step;
  * from then on simplex_member_entries counts from the shorter record. The lifetime continues. Also of a member that has failed. The bytes
  * are SIMPLEX_SHOWN. After SIMPLEX_OUT_OF_MEMORY and SIMPLEX_ENTRY_TOO_LONG the record is pruned and not shown: ask for
- * simplex_member_entries(.., 0).
- */
+ * simplex_member_entries(.., 0). */
 struct simplex_entries simplex_member_prune_record(simplex_member *at);
 
 /** What the member knows, and what it knows of a view. */
@@ -731,28 +727,25 @@ struct simplex_view simplex_member_view(simplex_member *at, uint64_t view);
  * SIMPLEX_NOT_WITHHELD. It changes nothing. */
 struct simplex_withheld simplex_member_withheld(simplex_member *at, uint32_t kind, uint64_t view);
 
-/**
- * Ends the member's lifetime, also one that has failed, and begins another from its record. Returns SIMPLEX_OK; else why not: where settings or
+/** Ends the member's lifetime, also one that has failed, and begins another from its record. Returns SIMPLEX_OK; else why not: where settings or
  * SIMPLEX_RETENTION_GROWN are refused nothing has changed, and after each other error the record is cut as asked and the member has
- * failed. Store simplex_member_entries(.., 0) in place of the journal then, with its stored, in one step.
- */
+ * failed. Store simplex_member_entries(.., 0) in place of the journal then, with its stored, in one step. */
 uint32_t simplex_member_restart(simplex_member *at, const struct simplex_restart *restart, const uint32_t *leaders, size_t leaders_len,
                                 const uint8_t *certificate, size_t certificate_len);
 
 /** Frees a member; does nothing where the handle is null. The handle must not be used again. */
 void simplex_member_free(simplex_member *at);
 
-/** Returns the text that a vote of a simplex_vote_kind signs: verify other members' votes on it. A nullify reads the round alone. */
-struct simplex_text simplex_subject(uint32_t kind, const struct simplex_proposal *proposal);
+/** Returns the text that a vote of a simplex_vote_kind signs: verify other members' votes on it. It is the namespace of the settings, and after
+ * it the subject's bytes: 17 of a nullify, which reads the round alone, and else 57. */
+struct simplex_text simplex_subject(const uint8_t namespace_bytes[32], uint32_t kind, const struct simplex_proposal *proposal);
 
 /** Returns how many bytes of a journal are whole frames, and how it ends after them. */
 struct simplex_scan simplex_scan(const uint8_t *journal, size_t journal_len);
 
-/**
- * Starts a resolver from a member's journal, the bytes that simplex_member_entries(.., 0) shows, with its first fetches open. term_length is
+/** Starts a resolver from a member's journal, the bytes that simplex_member_entries(.., 0) shows, with its first fetches open. term_length is
  * that of the member's settings. Returns SIMPLEX_OK and writes the handle to *out; else why there is none, and *out is as it was. From then
- * on its outstanding fetches are exactly those of what it received.
- */
+ * on its outstanding fetches are exactly those of what it received. */
 uint32_t simplex_resolver_start(uint32_t term_length, const uint8_t *journal, size_t journal_len, simplex_resolver **out);
 
 /** Passes a certificate that the member newly added, or a verdict. The effects stay until the next one. */
@@ -765,8 +758,8 @@ struct simplex_effect simplex_resolver_effect(simplex_resolver *at, uint64_t ind
 /** What it knows of a view. */
 struct simplex_settled simplex_resolver_settled(simplex_resolver *at, uint64_t view);
 
-/** Shows what to serve to a peer for a view: the encoding of a certificate, a simplex_text of its kind (as simplex_subject has it) and
- * after it the certificate's bytes. */
+/** Shows what to serve to a peer for a view: the encoding of a certificate, its subject's bytes (those of simplex_subject after the
+ * namespace) and after them the certificate's bytes. */
 struct simplex_served simplex_resolver_produce(simplex_resolver *at, uint64_t view);
 
 /** Shows the views with an outstanding fetch, rising, in eight bytes each, big-endian. simplex_outstanding_views reads them. */

@@ -14,6 +14,7 @@ using namespace simplex;
 using Numbers = std::vector<std::uint64_t>;
 
 constexpr std::uint64_t EPOCH = 1;
+constexpr Namespace NAMESPACE{{1}};
 
 /* How many bytes there are, and their FNV-1a hash. */
 template <class Range>
@@ -179,7 +180,7 @@ private:
     std::string served(View view) const {
         const auto found = engine_.serve(view);
         if (!found) return "none";
-        Bytes all = found->subject.text();
+        Bytes all = found->subject.encoded();
         all.insert(all.end(), found->bytes.begin(), found->bytes.end());
         return "served " + sum_of(all);
     }
@@ -193,7 +194,7 @@ Config config_of(char **words) {
     const auto number = [words](int place) { return std::stoul(words[place]); };
     const auto members = static_cast<std::uint32_t>(number(1));
     const auto me = static_cast<Participant>(number(2));
-    Config config(members, me < members ? std::optional<Participant>(me) : std::nullopt, EPOCH, Digest{});
+    Config config(NAMESPACE, members, me < members ? std::optional<Participant>(me) : std::nullopt, EPOCH, Digest{});
     config.term_length = static_cast<std::uint32_t>(number(3));
     config.optimistic_views = number(4);
     return config;

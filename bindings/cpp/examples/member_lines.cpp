@@ -16,6 +16,7 @@ using namespace simplex;
 using Words = std::vector<std::string>;
 
 constexpr std::uint64_t EPOCH = 1;
+constexpr Namespace NAMESPACE{{1}};
 
 const char *const TIMEOUTS[] = {"Retry", "Inactivity", "LeaderNullify", "LeaderTimeout", "CertificationTimeout", "StallTimeout",
                                 "MissingProposal", "IgnoredProposal", "InvalidProposal", "FailedCertification"};
@@ -170,7 +171,7 @@ private:
             if (word != VOTES[static_cast<std::size_t>(kind)]) continue;
             const auto vote = member_.construct(kind, number(it[1]));
             if (!vote) return "none";
-            if (vote->text != vote->subject.text()) throw std::logic_error("a vote does not sign its subject's text");
+            if (vote->text != vote->subject.text(NAMESPACE)) throw std::logic_error("a vote does not sign its subject's text");
             if (kind == Kind::Nullification) return "nullify " + text(vote->subject.proposal.round.view) + " " + text(vote->is_repeat);
             return proposal_text(word.c_str(), vote->subject.proposal);
         }
@@ -346,7 +347,7 @@ private:
     std::string served(View view) {
         const auto found = resolver_.produce(view);
         if (!found) return "none";
-        Bytes all = found->subject.text();
+        Bytes all = found->subject.encoded();
         all.insert(all.end(), found->bytes.begin(), found->bytes.end());
         return "served " + sum_of(all);
     }
@@ -357,7 +358,7 @@ private:
 Config config_of(const Words &words) {
     const auto members = static_cast<std::uint32_t>(number(words[1]));
     const auto me = words[2] == "-" ? std::nullopt : std::optional<Participant>(static_cast<Participant>(number(words[2])));
-    Config config(members, me, EPOCH, Digest{});
+    Config config(NAMESPACE, members, me, EPOCH, Digest{});
     config.term_length = static_cast<std::uint32_t>(number(words[3]));
     config.optimistic_views = number(words[4]);
     return config;

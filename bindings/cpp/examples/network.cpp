@@ -20,7 +20,7 @@ Overloaded(Bodies...) -> Overloaded<Bodies...>;
 
 /* The last finalization is read from the record: a lifetime that ended may have stored it without reporting it. */
 void Node::begin(Millis now, Queue &out) {
-    const Config config(members_, me_, EPOCH, GENESIS);
+    const Config config(NAMESPACE, members_, me_, EPOCH, GENESIS);
     if (disk.stored) {
         engine = Engine::resume(config, {}, now, Stored::from_bytes(*disk.stored).value(), disk.journal);
     } else {
@@ -34,7 +34,7 @@ void Node::begin(Millis now, Queue &out) {
 bool Node::is_good(const Certificate &certificate) const {
     const auto signatures = certificate.signatures();
     if (!signatures || signatures->size() < members_ - (members_ - 1) / 3) return false;
-    const Bytes text = certificate.subject.text();
+    const Bytes text = certificate.subject.text(NAMESPACE);
     return std::all_of(signatures->begin(), signatures->end(), [&](const Signature &it) {
         return it.signer < members_ && it.bytes == signature(it.signer, text);
     });
@@ -49,7 +49,7 @@ std::optional<Certificate> Node::served(const output::Fetch &fetch) const {
 }
 
 void Node::receive_vote(Participant from, const Vote &vote, Millis now) {
-    if (vote.signature != signature(vote.signer, vote.subject.text()) || vote.subject.proposal.round.epoch != EPOCH) return;
+    if (vote.signature != signature(vote.signer, vote.subject.text(NAMESPACE)) || vote.subject.proposal.round.epoch != EPOCH) return;
     if (vote.subject.kind == Kind::Notarization) engine->handle(input::Proposal{from, vote.subject.proposal}, now);
     engine->handle(vote, now);
 }

@@ -18,6 +18,8 @@ namespace network {
 using namespace simplex;
 
 constexpr std::uint64_t EPOCH = 1;
+/* A real network draws it from its name, its epoch and its members' keys. */
+constexpr Namespace NAMESPACE{{1}};
 constexpr Digest GENESIS{};
 /* How many outputs an engine carries out before messages and time get a turn: a member alone is never out of outputs. */
 constexpr int MOST_OUTPUTS = 1000;
@@ -82,7 +84,7 @@ struct Disk {
     std::optional<std::array<std::uint8_t, 33>> stored;
 };
 
-/* A member: its engine while its process lives, its disk, its blocks, and the chain that it delivered. */
+/* A member: its engine while its process runs, its disk, its blocks, and the chain that it delivered. */
 class Node {
 public:
     Node(Participant me, std::uint32_t members) : me_(me), members_(members) {}

@@ -29,7 +29,9 @@ void expect_error(std::uint32_t status, const char *what, const std::function<vo
     expect(false, what);
 }
 
-Config config() { return Config(4, 1, 1, Digest{}); }
+constexpr Namespace NAMESPACE{{7, 1}};
+
+Config config() { return Config(NAMESPACE, 4, 1, 1, Digest{}); }
 
 /* What the first output of an engine stores. */
 Entries first_entries(Engine &engine) {
@@ -66,8 +68,8 @@ void settings_are_refused_by_their_status() {
         it.leaders.pop_back();
         Engine::start(it, {}, 0);
     });
-    expect_error(SIMPLEX_NO_SUCH_MEMBER, "a signer that is no member", [] { Engine::start(Config(4, 4, 1, Digest{}), {}, 0); });
-    expect_error(SIMPLEX_NO_SUCH_MEMBER, "the number of nobody as a signer", [] { Engine::start(Config(4, SIMPLEX_NOBODY, 1, Digest{}), {}, 0); });
+    expect_error(SIMPLEX_NO_SUCH_MEMBER, "a signer that is no member", [] { Engine::start(Config(NAMESPACE, 4, 4, 1, Digest{}), {}, 0); });
+    expect_error(SIMPLEX_NO_SUCH_MEMBER, "the number of nobody as a signer", [] { Engine::start(Config(NAMESPACE, 4, SIMPLEX_NOBODY, 1, Digest{}), {}, 0); });
     expect_error(SIMPLEX_FETCH_RETRY_ZERO, "a fetch that is asked again at once", [] { Engine::start(config(), {0, 25, 2048}, 0); });
 }
 
@@ -82,7 +84,7 @@ void a_journal_is_refused_by_its_status() {
         Engine::resume(config(), {}, 0, stored.stored, other);
     });
     expect_error(SIMPLEX_FOREIGN_SIGNER, "another member's journal", [&] {
-        Engine::resume(Config(4, 2, 1, Digest{}), {}, 0, stored.stored, stored.bytes);
+        Engine::resume(Config(NAMESPACE, 4, 2, 1, Digest{}), {}, 0, stored.stored, stored.bytes);
     });
 }
 
@@ -125,7 +127,30 @@ void signatures_are_read() {
     Certificate twice = good;
     twice.bytes.insert(twice.bytes.end(), good.bytes.begin(), good.bytes.end());
     expect(!twice.signatures(), "one signer twice");
-    expect(subject.text().size() == 17 && subject.text()[0] == 1, "the text of a vote to nullify");
+    expect(subject.encoded().size() == 17 && subject.encoded()[0] == 1, "the bytes of a nullification's subject");
+}
+
+void a_text_begins_with_its_namespace() {
+    const Subject subject{Kind::Nullification, {{1, 2}, 0, {}}};
+    for (const Namespace &it : {NAMESPACE, Namespace{{7, 2}}}) {
+        Bytes expected(it.bytes.begin(), it.bytes.end());
+        const Bytes encoded = subject.encoded();
+        expected.insert(expected.end(), encoded.begin(), encoded.end());
+        expect(subject.text(it) == expected, "the namespace, and then the subject");
+    }
+    for (const std::uint8_t last : {1, 2}) {
+        Config it = config();
+        it.network_namespace = Namespace{{7, last}};
+        Engine engine = Engine::start(it, {}, 0);
+        engine.handle(input::GivenUp{1, TimeoutReason::Inactivity}, 0);
+        bool has_voted = false;
+        for (auto output = engine.poll(0); output; output = engine.poll(0)) {
+            const auto *order = std::get_if<output::Sign>(&*output);
+            has_voted = has_voted || order;
+            expect(!order || order->text == order->subject.text(it.network_namespace), "an order in the settings' network");
+        }
+        expect(has_voted, "a vote is ordered");
+    }
 }
 
 }  // namespace
@@ -141,6 +166,7 @@ int main() {
         {"a moved engine has no handle", a_moved_engine_has_no_handle},
         {"refused inputs change nothing", refused_inputs_change_nothing},
         {"signatures are read", signatures_are_read},
+        {"a text begins with its namespace", a_text_begins_with_its_namespace},
     };
     for (const auto &[name, body] : tests) {
         body();

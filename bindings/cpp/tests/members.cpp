@@ -29,7 +29,9 @@ void expect_error(std::uint32_t status, const char *what, const std::function<vo
     expect(false, what);
 }
 
-Config config(Participant me = 0) { return Config(4, me, 1, Digest{}); }
+constexpr Namespace NAMESPACE{{7, 1}};
+
+Config config(Participant me = 0) { return Config(NAMESPACE, 4, me, 1, Digest{}); }
 
 Proposal proposal(View view) { return {{1, view}, view - 1, {7}}; }
 
@@ -40,7 +42,7 @@ Member with_a_vote() {
     expect(request && !request->is_handoff && request->context.round.view == 1, "member 0 leads view 1");
     expect(member.proposed(1, proposal(1).payload, 5), "the block is accepted");
     const auto vote = member.construct(Kind::Notarization, 1);
-    expect(vote && vote->signer == 0 && vote->text == vote->subject.text() && !vote->is_repeat, "its vote");
+    expect(vote && vote->signer == 0 && vote->text == vote->subject.text(NAMESPACE) && !vote->is_repeat, "its vote");
     return member;
 }
 

@@ -14,6 +14,7 @@ from simplex_view_state import (
 )
 
 EPOCH = 1
+NAMESPACE = bytes([1, *[0] * 31])
 OPTIONS = Options(long_record=40)
 VOTES = {Kind.NOTARIZATION: "notarize", Kind.NULLIFICATION: "nullify", Kind.FINALIZATION: "finalize"}
 CERTIFICATES = {Kind.NOTARIZATION: "notarization", Kind.NULLIFICATION: "nullification", Kind.FINALIZATION: "finalization"}
@@ -29,7 +30,7 @@ def sum_of(data: bytes) -> str:
 
 
 def payload(number: int) -> bytes:
-    """Returns the payload that stands for a number: its bytes at the end."""
+    """Returns the payload of a number: its bytes at the end."""
     return number.to_bytes(32, "big")
 
 
@@ -173,7 +174,7 @@ class Lifetime:
 
     def served(self, view: int) -> str:
         found = self.engine.serve(view)
-        return f"served {sum_of(found.subject.text() + found.bytes)}" if found else "none"
+        return f"served {sum_of(found.subject.encoded() + found.bytes)}" if found else "none"
 
 
 def main() -> None:
@@ -181,7 +182,7 @@ def main() -> None:
         sys.exit(__doc__)
     members, me, terms, optimistic = (int(it) for it in sys.argv[1:])
     signer = me if me < members else None
-    lifetime = Lifetime(Config(members, signer, EPOCH, term_length=terms, optimistic_views=optimistic))
+    lifetime = Lifetime(Config(NAMESPACE, members, signer, EPOCH, term_length=terms, optimistic_views=optimistic))
     for line in sys.stdin:
         print(lifetime.reply(line))
 

@@ -16,6 +16,7 @@ from simplex_view_state import (
 )
 
 EPOCH = 1
+NAMESPACE = bytes([1, *[0] * 31])
 VOTES = {"notarize": Kind.NOTARIZATION, "nullify": Kind.NULLIFICATION, "finalize": Kind.FINALIZATION}
 CERTIFICATES = {"notarization": Kind.NOTARIZATION, "nullification": Kind.NULLIFICATION, "finalization": Kind.FINALIZATION}
 WORDS = {kind: word for word, kind in CERTIFICATES.items()}
@@ -36,7 +37,7 @@ def sum_of(data: bytes) -> str:
 
 
 def number_of(payload: bytes) -> int:
-    """Returns the number that a payload stands for: its last eight bytes."""
+    """Returns the number of a payload: its last eight bytes."""
     return int.from_bytes(payload[24:], "big")
 
 
@@ -119,7 +120,7 @@ class Voter:
         it = self.member.construct(VOTES[word], view)
         if it is None:
             return "none"
-        assert it.text == it.subject.text(), "a vote signs its subject's text"
+        assert it.text == it.subject.text(NAMESPACE), "a vote signs its subject's text"
         return f"nullify {it.subject.proposal.round.view} {word_of(it.is_repeat)}" if word == "nullify" else proposal_text(word, it.subject.proposal)
 
     def reply_propose(self) -> str:
@@ -269,7 +270,7 @@ class Asked:
 
     def served(self, view: int) -> str:
         found = self.resolver.produce(view)
-        return f"served {sum_of(found.subject.text() + found.bytes)}" if found else "none"
+        return f"served {sum_of(found.subject.encoded() + found.bytes)}" if found else "none"
 
 
 def effect_text(it: Effect) -> str:
@@ -286,7 +287,7 @@ def main(words: List[str]) -> None:
     elif len(words) in (5, 6) and words[0] == "voter":
         members, terms, optimistic = (int(words[place]) for place in (1, 3, 4))
         signer = None if words[2] == "-" else int(words[2])
-        config = Config(members, signer, EPOCH, term_length=terms, optimistic_views=optimistic)
+        config = Config(NAMESPACE, members, signer, EPOCH, term_length=terms, optimistic_views=optimistic)
         served = Voter(config, (*words, "")[5])
     else:
         sys.exit(__doc__)

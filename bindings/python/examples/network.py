@@ -18,6 +18,8 @@ from simplex_view_state import (
 )
 
 EPOCH = 1
+# What each text to sign begins with: a digest of a real network's name, epoch and members.
+NAMESPACE = bytes([1]) * 32
 GENESIS = bytes(32)
 # How many outputs an engine carries out before messages and time get a turn: a member alone is never out of outputs.
 MOST_OUTPUTS = 1000
@@ -81,7 +83,7 @@ class Node:
 
     def begin(self, now: int) -> None:
         """The last finalization is read from the record: a lifetime that ended may have stored it without reporting it."""
-        config = Config(self.members, self.me, EPOCH, GENESIS)
+        config = Config(NAMESPACE, self.members, self.me, EPOCH, GENESIS)
         if self.disk.stored is None:
             self.engine = Engine.start(config, Options(), now)
         else:
@@ -109,14 +111,14 @@ class Node:
                 self.out.append((self.me, sender, found))
 
     def receive_vote(self, sender: int, vote: Vote, now: int) -> None:
-        if vote.signature != signature(vote.signer, vote.subject.text()) or vote.subject.proposal.round.epoch != EPOCH:
+        if vote.signature != signature(vote.signer, vote.subject.text(NAMESPACE)) or vote.subject.proposal.round.epoch != EPOCH:
             return
         if vote.subject.kind == Kind.NOTARIZATION:
             self.engine.handle(inputs.ProposalFrom(sender, vote.subject.proposal), now)
         self.engine.handle(vote, now)
 
     def is_good(self, certificate: Certificate) -> bool:
-        signatures, text = certificate.signatures() or [], certificate.subject.text()
+        signatures, text = certificate.signatures() or [], certificate.subject.text(NAMESPACE)
         is_signed = all(signer < self.members and it == signature(signer, text) for signer, it in signatures)
         return is_signed and len(signatures) >= self.members - (self.members - 1) // 3
 

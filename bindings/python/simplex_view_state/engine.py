@@ -63,7 +63,7 @@ class Engine:
             self._at = ffi.NULL
 
     def handle(self, given: Input, now: int) -> bool:
-        """Passes an input. Returns whether it was of use: an ignored one changes nothing. Raises `SimplexError`."""
+        """Passes an input. Returns False if it was ignored, which changes nothing. Raises `SimplexError`."""
         flat, data = flat_input(given)
         taken = lib.simplex_engine_handle(self._at, ffi.new("struct simplex_input *", flat), data, len(data), now)
         require(taken.status)

@@ -11,6 +11,7 @@ from .errors import require
 
 DIGEST_SIZE = 32
 NO_DIGEST = bytes(DIGEST_SIZE)
+NAMESPACE_SIZE = 32
 
 
 class Kind(IntEnum):
@@ -90,11 +91,16 @@ class Subject:
     kind: Kind
     proposal: Proposal
 
-    def text(self) -> bytes:
-        """Returns the text that a vote on it signs."""
-        text = lib.simplex_subject(self.kind, ffi.new("struct simplex_proposal *", flat_proposal(self.proposal)))
+    def text(self, namespace: bytes) -> bytes:
+        """Returns the text that a vote on it signs in a network: the namespace, and then its bytes."""
+        proposal = ffi.new("struct simplex_proposal *", flat_proposal(self.proposal))
+        text = lib.simplex_subject(namespace_bytes(namespace), self.kind, proposal)
         require(text.status)
         return bytes(ffi.buffer(text.bytes, text.count))
+
+    def encoded(self) -> bytes:
+        """Returns its bytes, with which the encoding of a certificate begins."""
+        return self.text(bytes(NAMESPACE_SIZE))[NAMESPACE_SIZE:]
 
 
 @dataclass(frozen=True)
@@ -141,6 +147,13 @@ def digest(payload: bytes) -> bytes:
     if len(payload) != DIGEST_SIZE:
         raise ValueError(f"a digest has {DIGEST_SIZE} bytes, and not {len(payload)}")
     return payload
+
+
+def namespace_bytes(namespace: bytes) -> bytes:
+    """A namespace, whose length is tested."""
+    if len(namespace) != NAMESPACE_SIZE:
+        raise ValueError(f"a namespace has {NAMESPACE_SIZE} bytes, and not {len(namespace)}")
+    return namespace
 
 
 def flat_round(it: Round) -> dict:

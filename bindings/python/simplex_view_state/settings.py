@@ -8,7 +8,7 @@ from typing import Optional, Tuple, Union
 
 from ._library import ffi, lib
 from .errors import SimplexError, Status
-from .messages import NO_DIGEST, Certificate, Proposal, flat_proposal
+from .messages import NO_DIGEST, Certificate, Proposal, flat_proposal, namespace_bytes
 
 _STORED = struct.Struct(">QQQQ?")
 
@@ -17,6 +17,9 @@ _STORED = struct.Struct(">QQQQ?")
 class Config:
     """How a member is set up. All members of an epoch have the same, except for the signer and the floor."""
 
+    # The bytes that each text to sign begins with: a digest of the network's name, its epoch and its members' keys, say. In two networks with
+    # one namespace the signatures of one count in the other.
+    namespace: bytes
     members: int
     signer: Optional[int]
     epoch: int
@@ -54,6 +57,7 @@ class Config:
             "stall_timeout": self.stall_timeout or 0,
             "is_finalized": int(finalized is not None),
             "floor": flat_proposal(floor),
+            "namespace_bytes": list(namespace_bytes(self.namespace)),
         }
 
     def table(self) -> Tuple[int, ...]:

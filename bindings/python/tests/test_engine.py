@@ -4,10 +4,11 @@ import unittest
 from dataclasses import replace
 
 from simplex_view_state import (
-    Certificate, Config, Engine, Entries, Kind, Options, Proposal, Round, SimplexError, Status, Stored, Subject, Vote, build_info, inputs, outputs,
+    Certificate, Config, Engine, Entries, Kind, Options, Proposal, Round, SimplexError, Status, Stored, Subject, TimeoutReason, Vote, build_info, inputs, outputs,
 )
 
-CONFIG = Config(members=4, signer=1, epoch=1)
+NAMESPACE = bytes([7]) * 32
+CONFIG = Config(namespace=NAMESPACE, members=4, signer=1, epoch=1)
 
 
 def with_a_vote(engine):
@@ -77,7 +78,22 @@ class Engines(unittest.TestCase):
         self.assertEqual(good.signatures(), [(2, bytes([99]))])
         for other in (good.bytes[:-1], good.bytes[:5], good.bytes * 2):
             self.assertIsNone(Certificate(good.subject, other).signatures())
-        self.assertEqual((len(good.subject.text()), good.subject.text()[0]), (17, 1))
+        self.assertEqual((len(good.subject.encoded()), good.subject.encoded()[0]), (17, 1))
+
+    def test_a_text_begins_with_its_namespace(self):
+        subject = Subject(Kind.NULLIFICATION, Proposal(Round(1, 2)))
+        for namespace in (NAMESPACE, bytes([8]) * 32):
+            self.assertEqual(subject.text(namespace), namespace + subject.encoded())
+            engine = Engine.start(replace(CONFIG, namespace=namespace), Options(), 0)
+            engine.handle(inputs.GivenUp(1, TimeoutReason.INACTIVITY), 0)
+            orders = [it for it in iter(lambda: engine.poll(0), None) if isinstance(it, outputs.Sign)]
+            self.assertEqual([it.text for it in orders], [it.subject.text(namespace) for it in orders])
+            self.assertTrue(orders)
+        for short in (b"", bytes(31), bytes(33)):
+            with self.assertRaises(ValueError):
+                subject.text(short)
+            with self.assertRaises(ValueError):
+                Engine.start(replace(CONFIG, namespace=short), Options(), 0)
 
     def test_the_library_says_what_it_is(self):
         self.assertRegex(build_info(), r"^(un)?proved; commit ")

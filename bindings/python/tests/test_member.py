@@ -8,7 +8,8 @@ from simplex_view_state import (
     Withheld, scan,
 )
 
-CONFIG = Config(members=4, signer=0, epoch=1)
+NAMESPACE = bytes([7]) * 32
+CONFIG = Config(namespace=NAMESPACE, members=4, signer=0, epoch=1)
 
 
 def block(view):
@@ -22,7 +23,7 @@ def with_a_vote():
     assert request is not None and not request.is_handoff and request.context.round.view == 1
     assert member.proposed(1, block(1).payload, 5)
     vote = member.construct(Kind.NOTARIZATION, 1)
-    assert vote is not None and (vote.signer, vote.text, vote.is_repeat) == (0, vote.subject.text(), False)
+    assert vote is not None and (vote.signer, vote.text, vote.is_repeat) == (0, vote.subject.text(NAMESPACE), False)
     return member
 
 

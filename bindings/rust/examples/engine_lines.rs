@@ -1,10 +1,10 @@
-//! Serves lines as the repository's `tests/programs/engine_lines` does in Rattle, whose answers these have to be: see there for the lines.
+//! Serves lines as the repository's `tests/programs/engine_lines` does in Rattle, whose replies these have to be: see there for the lines.
 //!
 //!     cargo run --example engine_lines -- N ME T OPTIMISTIC
 
 use simplex_view_state::{
-    Certificate, CertificateKind, Config, Context, Digest, Engine, Entries, EntryCount, Epoch, FetchKind, Input, Moment, Options, Output,
-    Participant, Proposal, Round, Skip, Subject, Terms, TimeoutReason, View, ViewDelta, Vote, VoteKind,
+    Certificate, CertificateKind, Config, Context, Digest, Engine, Entries, EntryCount, Epoch, FetchKind, Input, Moment, Namespace,
+    Options, Output, Participant, Proposal, Round, Skip, Subject, Terms, TimeoutReason, View, ViewDelta, Vote, VoteKind,
 };
 use std::error::Error;
 use std::fmt::Write as _;
@@ -15,6 +15,11 @@ use std::{env, io};
 type Outcome<T = ()> = Result<T, Box<dyn Error>>;
 
 const EPOCH: Epoch = Epoch::new(1);
+const NAMESPACE: Namespace = {
+    let mut bytes = [0; 32];
+    bytes[0] = 1;
+    Namespace::new(bytes)
+};
 
 const REASONS: [TimeoutReason; 10] = [
     TimeoutReason::Retry,
@@ -44,7 +49,7 @@ fn main() -> Outcome {
 
 fn config(members: u32, me: u32, terms: u32, optimistic: u64) -> Outcome<Config> {
     let signer = (me < members).then(|| Participant::new(me));
-    let mut config = Config::new(members.try_into()?, signer, EPOCH, Digest::default());
+    let mut config = Config::new(NAMESPACE, members.try_into()?, signer, EPOCH, Digest::default());
     config.terms = Terms {
         length: terms.try_into()?,
         optimistic_views: ViewDelta::new(optimistic),
@@ -188,7 +193,7 @@ impl Life {
     }
 }
 
-/// The input that a line stands for, and the moment.
+/// The input of a line, and the moment.
 fn input(word: &str, numbers: &[u64]) -> Outcome<(Input, u64)> {
     let (now, numbers) = numbers.split_last().ok_or("a line of no moment")?;
     let input = match (word, numbers) {
@@ -252,7 +257,7 @@ fn proposal(view: u64, parent: u64, number: u64) -> Proposal {
     }
 }
 
-/// The payload that stands for a number: its bytes at the end.
+/// The payload of a number: its bytes at the end.
 fn payload(number: u64) -> Digest {
     let mut bytes = [0; 32];
     bytes[24..].copy_from_slice(&number.to_be_bytes());
@@ -342,7 +347,7 @@ fn write_vote(text: &mut String, vote: &Vote) -> Outcome {
     Ok(write!(text, " {} {}", vote.signer, sum_of(&vote.signature))?)
 }
 
-/// What a vote or a certificate is on, behind the word of its kind of three.
+/// Returns what a vote or a certificate is on, behind the word of its kind of three.
 fn write_subject(text: &mut String, words: &str, subject: &Subject) -> Outcome {
     let word = |place| words.split(' ').nth(place).unwrap_or_default();
     match subject {

@@ -3,22 +3,31 @@
 //!     cargo run --example first_script                                     crates/viewstate/stdin, as member 0 of 4
 //!     cargo run --example first_script -- voter N ME T OPTIMISTIC          the lines of standard input
 //!     cargo run --example first_script -- voter N ME T OPTIMISTIC resume   each `restart 0 NOW` by a resume from the journal's bytes
-//!     cargo run --example first_script -- voter N ME T OPTIMISTIC compact  with a journal, in whose place each `prune` puts what is left of the
-//!                                                                          record, and from which the member resumes before a `restart-pruned`
+//! cargo run --example first_script -- voter N ME T OPTIMISTIC compact  with a journal, in whose place each `prune` puts what is left of
+//! the
+//! record, and from which the member resumes before a `restart-pruned`
 //!
-//! It serves some lines more than the program, about what a member knows: `known V`, `withheld KIND V`, `shown KIND V` (a certificate), `entries
-//! COUNT` and `scan CUT` (the journal without its last bytes).
+//! It serves some lines more than the program, about what a member knows: `known V`, `withheld KIND V`, `shown KIND V` (a certificate),
+//! `entries COUNT` and `scan CUT` (the journal without its last bytes).
 
 use simplex_view_state::{
     Added, Candidates, Certificate, CertificateKind, Config, Context, Cut, Digest, Ending, Entries, EntriesError, EntryCount, Epoch,
-    Finalization, Member, MissingCertificate, Moment, Notarization, Nullification, OpenError, Participant, Proposal, ProposalRequest,
-    RecoverError, Refusal, Round, Terms, TimeoutReason, Token, Verify, View, ViewDelta, VoteKind, scan,
+    Finalization, Member, MissingCertificate, Moment, Namespace, Notarization, Nullification, OpenError, Participant, Proposal,
+    ProposalRequest, RecoverError, Refusal, Round, Terms, TimeoutReason, Token, Verify, View, ViewDelta, VoteKind, scan,
 };
 use std::error::Error;
 use std::io::{BufRead, BufReader, Write};
 use std::{env, fs, io};
 
+/// The reply to a line, or why the member refused the call.
+type Replied = Result<String, Refusal>;
+
 const EPOCH: Epoch = Epoch::new(1);
+const NAMESPACE: Namespace = {
+    let mut bytes = [0; 32];
+    bytes[0] = 1;
+    Namespace::new(bytes)
+};
 
 /// A certificate of this example: one byte that no one reads.
 const CERTIFICATE: [u8; 1] = [1];
@@ -59,7 +68,7 @@ pub fn config(members: &str, me: &str, terms: &str, optimistic: &str) -> Result<
         "-" => None,
         index => Some(Participant::new(index.parse()?)),
     };
-    let mut config = Config::new(members.parse()?, signer, EPOCH, payload(0));
+    let mut config = Config::new(NAMESPACE, members.parse()?, signer, EPOCH, payload(0));
     config.terms = Terms {
         length: terms.parse()?,
         optimistic_views: ViewDelta::new(optimistic.parse()?),
@@ -76,7 +85,7 @@ pub struct Voter {
     journal: Option<Journal>,
 }
 
-/// What the engine has stored, and how many entries were taken away of it.
+/// The stored journal of the engine, and how many entries were removed from it.
 struct Journal {
     kept: Entries,
     taken: u64,
@@ -101,7 +110,7 @@ impl Journal {
 }
 
 impl Voter {
-    /// One in its first life, with a way to restart it, if one is named.
+    /// A member in its first lifetime, with a way to restart it, if one is named.
     pub fn start(config: Config, way: Option<&str>) -> Result<Voter, Box<dyn Error>> {
         let mut member = Member::start(&config, Moment::from_millis(0))?;
         let journal = match way {
@@ -151,10 +160,20 @@ impl Voter {
         }
     }
 
-    /// Makes the call that a line stands for.
-    fn call(&mut self, words: &[&str]) -> Result<Result<String, Refusal>, Box<dyn Error>> {
+    /// Makes the call of a line.
+    fn call(&mut self, words: &[&str]) -> Result<Replied, Box<dyn Error>> {
+        for kind in [Self::pass, Self::propose, Self::judge, Self::vote] {
+            if let Some(replied) = kind(self, words)? {
+                return Ok(replied);
+            }
+        }
+        Err(format!("not a call: {}", words.join(" ")).into())
+    }
+
+    /// Passes a certificate, a timeout or a view that is left.
+    fn pass(&mut self, words: &[&str]) -> Result<Option<Replied>, Box<dyn Error>> {
         let member = &mut self.member;
-        Ok(match *words {
+        Ok(Some(match *words {
             ["notarization", v, p, d] => member
                 .add_notarization(&Notarization {
                     proposal: proposal(v, p, d)?,
@@ -179,12 +198,22 @@ impl Voter {
                     moment(now)?,
                 )
                 .map(|is_new| format!("added {is_new}")),
+            ["trigger", v, why, now] => member.trigger_timeout(view(v)?, reason(why)?, moment(now)?).map(|_| "ok".into()),
+            ["timeout", now] => member
+                .next_timeout(moment(now)?)
+                .map(|timeout| format!("timeout {} {}", timeout.moment.as_millis(), timeout.reason)),
+            ["prune"] => member
+                .prune()
+                .map(|views| views.iter().fold("pruned".to_string(), |text, view| format!("{text} {view}"))),
+            _ => return Ok(None),
+        }))
+    }
+
+    /// Proposes, and takes what others propose.
+    fn propose(&mut self, words: &[&str]) -> Result<Option<Replied>, Box<dyn Error>> {
+        let member = &mut self.member;
+        Ok(Some(match *words {
             ["proposal", v, p, d] => member.set_proposal(&proposal(v, p, d)?).map(|taken| taken.to_string()),
-            ["verify"] => member.try_verify().map(work),
-            ["verified", v] => member.verified(view(v)?).map(|taken| taken.to_string()),
-            ["rejected", v, now] => member
-                .verification_failed(view(v)?, TimeoutReason::InvalidProposal, moment(now)?)
-                .map(|()| "ok".into()),
             ["propose"] => member.try_propose().map(request),
             ["proposed", v, d, now] => member
                 .proposed(view(v)?, payload(number(d)?), moment(now)?)
@@ -194,11 +223,32 @@ impl Voter {
                 .pending_handoff_abandonment(view(v)?)
                 .map(|reason| reason.map_or("none".into(), |reason| reason.to_string())),
             ["release", v] => member.release_proposal_request(view(v)?).map(|_| "ok".into()),
+            _ => return Ok(None),
+        }))
+    }
+
+    /// Verifies and certifies.
+    fn judge(&mut self, words: &[&str]) -> Result<Option<Replied>, Box<dyn Error>> {
+        let member = &mut self.member;
+        Ok(Some(match *words {
+            ["verify"] => member.try_verify().map(work),
+            ["verified", v] => member.verified(view(v)?).map(|taken| taken.to_string()),
+            ["rejected", v, now] => member
+                .verification_failed(view(v)?, TimeoutReason::InvalidProposal, moment(now)?)
+                .map(|()| "ok".into()),
             ["candidates"] => member.certify_candidates().map(candidates),
             ["token", v, k] => member.set_certify_handle(view(v)?, Token::new(number(k)?)).map(|()| "ok".into()),
             ["verdict", v, success, now] => member
                 .certified(view(v)?, success.parse()?, moment(now)?)
                 .map(|it| it.map_or("none".into(), |it| format!("certified {}", it.proposal.view()))),
+            _ => return Ok(None),
+        }))
+    }
+
+    /// Votes, and takes the certificates that all are sent.
+    fn vote(&mut self, words: &[&str]) -> Result<Option<Replied>, Box<dyn Error>> {
+        let member = &mut self.member;
+        Ok(Some(match *words {
             ["notarize", v] => member
                 .construct_notarize(view(v)?)
                 .map(|vote| vote.map_or("none".into(), |vote| proposed("notarize", &vote.proposal))),
@@ -212,18 +262,11 @@ impl Voter {
             ["broadcast", "nullification", v] => member.broadcast_nullification(view(v)?).map(certificate),
             ["broadcast", "finalization", v] => member.broadcast_finalization(view(v)?).map(certificate),
             ["best"] => member.get_best_certificate().map(certificate),
-            ["trigger", v, why, now] => member.trigger_timeout(view(v)?, reason(why)?, moment(now)?).map(|_| "ok".into()),
-            ["timeout", now] => member
-                .next_timeout(moment(now)?)
-                .map(|timeout| format!("timeout {} {}", timeout.moment.as_millis(), timeout.reason)),
-            ["prune"] => member
-                .prune()
-                .map(|views| views.iter().fold("pruned".to_string(), |text, view| format!("{text} {view}"))),
-            _ => return Err(format!("not a call: {}", words.join(" ")).into()),
-        })
+            _ => return Ok(None),
+        }))
     }
 
-    /// Begins another life from the record: in place, or as another process would, from the bytes that were stored.
+    /// Begins another lifetime from the record: in place, or as another process would, from the bytes that were stored.
     fn restart(&mut self, drop: u64, prune: bool, now: Moment) -> Result<String, Box<dyn Error>> {
         if self.resumes && drop == 0 && !prune {
             let journal = self.member.entries_since(EntryCount::ZERO)?;
@@ -444,7 +487,7 @@ fn proposal(v: &str, p: &str, d: &str) -> Result<Proposal, Box<dyn Error>> {
     })
 }
 
-/// The payload that stands for a number of the program: its bytes at the end.
+/// The payload of a number of the program: its bytes at the end.
 fn payload(number: u64) -> Digest {
     let mut bytes = [0; 32];
     bytes[24..].copy_from_slice(&number.to_be_bytes());

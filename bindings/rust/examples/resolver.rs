@@ -1,5 +1,5 @@
 //! Serves the resolver's lines of the repository's program `viewstate` (docs/PROGRAM.md) through this package, and prints the program's
-//! replies. The first line is `replayed`, since a resolver starts here with its replay ended; `produce` tells only whether there is
+//! replies. The first line is `replayed`, since a resolver starts here with its replay ended; `produce` prints only whether there is
 //! something to serve, since the program's payloads are shorter. It serves two lines more than the program: `served V`, the bytes that are
 //! served, and `fetches`, how many are outstanding.
 //!
@@ -32,17 +32,11 @@ fn main() -> Result<(), Box<dyn Error>> {
 
 fn reply_to(resolver: &mut Resolver, line: &str) -> Result<String, Box<dyn Error>> {
     let words: Vec<&str> = line.split(' ').collect();
-    let told = match words[..] {
+    let updated = match words[..] {
         ["replayed"] => Ok(Vec::new()),
         ["notarization", v] => resolver.updated(&Certificate::Notarization(notarization(v)?)),
-        ["nullification", v] => resolver.updated(&Certificate::Nullification(Nullification {
-            round: round(v)?,
-            certificate: CERTIFICATE.to_vec(),
-        })),
-        ["finalization", v] => resolver.updated(&Certificate::Finalization(Finalization {
-            proposal: notarization(v)?.proposal,
-            certificate: CERTIFICATE.to_vec(),
-        })),
+        ["nullification", v] => resolver.updated(&Certificate::Nullification(nullification(v)?)),
+        ["finalization", v] => resolver.updated(&Certificate::Finalization(finalization(v)?)),
         ["certified", v, success] => resolver.certified(&notarization(v)?, success.parse()?),
         ["settled", v, "notarization"] => return Ok(resolver.is_settled(view(v)?, MissingCertificate::Notarization).to_string()),
         ["settled", v, _] => return Ok(resolver.is_settled(view(v)?, MissingCertificate::Nullification).to_string()),
@@ -65,7 +59,7 @@ fn reply_to(resolver: &mut Resolver, line: &str) -> Result<String, Box<dyn Error
         ["produce", v] => return Ok(if resolver.produce(view(v)?)?.is_some() { "some" } else { "none" }.into()),
         _ => return Err(format!("not a call: {line}").into()),
     };
-    Ok(match told {
+    Ok(match updated {
         Ok(effects) if effects.is_empty() => "-".into(),
         Ok(effects) => effects.iter().map(text).collect::<Vec<_>>().join("; "),
         Err(Refusal::ViewTooLarge) => "fault 3 ViewTooLarge".into(),
@@ -123,6 +117,19 @@ fn notarization(word: &str) -> Result<Notarization, Box<dyn Error>> {
     };
     Ok(Notarization {
         proposal,
+        certificate: CERTIFICATE.to_vec(),
+    })
+}
+fn nullification(word: &str) -> Result<Nullification, Box<dyn Error>> {
+    Ok(Nullification {
+        round: round(word)?,
+        certificate: CERTIFICATE.to_vec(),
+    })
+}
+
+fn finalization(word: &str) -> Result<Finalization, Box<dyn Error>> {
+    Ok(Finalization {
+        proposal: notarization(word)?.proposal,
         certificate: CERTIFICATE.to_vec(),
     })
 }

@@ -1,4 +1,4 @@
-//! What the library that is linked says of itself.
+//! The origin of the library that is linked.
 
 use crate::ffi;
 use std::ffi::CStr;

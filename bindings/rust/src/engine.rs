@@ -250,9 +250,9 @@ impl Engine {
     /// [`EngineError::Failed`].
     ///
     /// ```
-    /// use simplex_view_state::{Config, Digest, Engine, Epoch, Moment, Options, Participant, View, VoteKind, Withheld};
+    /// use simplex_view_state::{Config, Digest, Engine, Epoch, Moment, Namespace, Options, Participant, View, VoteKind, Withheld};
     ///
-    /// let config = Config::new(4.try_into()?, Some(Participant::new(3)), Epoch::new(1), Digest::default());
+    /// let config = Config::new(Namespace::new([1; 32]), 4.try_into()?, Some(Participant::new(3)), Epoch::new(1), Digest::default());
     /// let engine = Engine::start(&config, &Options::default(), Moment::from_millis(0))?;
     /// assert_eq!(engine.withheld(VoteKind::Notarize, View::new(1))?, Some(Withheld::NoProposal));
     /// assert_eq!(engine.withheld(VoteKind::Nullify, View::new(1))?, None);

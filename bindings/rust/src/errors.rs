@@ -53,8 +53,8 @@ impl fmt::Display for Refusal {
 
 impl Error for Refusal {}
 
-/// Why an engine returns no reply. After an error of [`Engine::handle`](crate::Engine::handle) or [`Engine::poll`](crate::Engine::poll) the engine
-/// has failed, except after `NotAllowed` and `NotMade`: resume another from what was stored.
+/// Why an engine returns no reply. After an error of [`Engine::handle`](crate::Engine::handle) or [`Engine::poll`](crate::Engine::poll) the
+/// engine has failed, except after `NotAllowed` and `NotMade`: resume another from what was stored.
 #[derive(Clone, Copy, PartialEq, Eq, Hash, Debug)]
 #[non_exhaustive]
 pub enum EngineError {
@@ -100,8 +100,10 @@ impl fmt::Display for EngineError {
             EngineError::ViewTooLarge => "a view is above 2^63 - 1",
             EngineError::TimeOverflow => "a deadline is above 2^64 - 1 milliseconds",
             EngineError::EntryTooLong => "an entry has 2^32 bytes or more",
-            EngineError::NotAllowed => "this engine cannot be told so, and nothing was told",
-            EngineError::NotMade => "there was no memory for the input's bytes, and nothing was told",
+            EngineError::NotAllowed => {
+                "this engine's leaders are drawn from certificates: pass it certificates and no votes; nothing has changed"
+            }
+            EngineError::NotMade => "out of memory for the bytes that were passed; nothing has changed",
         })
     }
 }
@@ -222,7 +224,7 @@ impl fmt::Display for RecoverError {
             RecoverError::ContradictingVotes => "two votes of one kind in a view are for two proposals",
             RecoverError::FinalizeWithoutVerdict => "a vote to finalize has no true verdict before it",
             RecoverError::TimeOverflow => "a deadline is above 2^64 - 1 milliseconds",
-            RecoverError::RetentionGrown => "the record was pruned, and more views are to be kept than in an earlier life",
+            RecoverError::RetentionGrown => "the record was pruned, and the settings retain more views than an earlier lifetime did",
         })
     }
 }

@@ -3,8 +3,8 @@
 use std::ffi::c_char;
 use std::marker::PhantomData;
 
-/// What `simplex_version` answers for the structs below.
-pub(crate) const VERSION: u32 = 4;
+/// The result of `simplex_version` for the structs below.
+pub(crate) const VERSION: u32 = 5;
 
 /// The kinds of certificates. Votes of a kind make the certificate of the same number.
 pub(crate) const NOTARIZATION: u32 = 1;
@@ -121,6 +121,7 @@ pub(crate) struct Settings {
     pub(crate) skip_timeout: u64,
     pub(crate) skip_budget: u64,
     pub(crate) floor: Proposal,
+    pub(crate) namespace: [u8; 32],
 }
 
 #[repr(C)]
@@ -213,7 +214,7 @@ pub(crate) struct Chunk {
 pub(crate) struct Text {
     pub(crate) status: u32,
     pub(crate) count: u32,
-    pub(crate) bytes: [u8; 64],
+    pub(crate) bytes: [u8; 96],
 }
 
 #[repr(C)]
@@ -376,10 +377,10 @@ pub(crate) struct Opaque {
     _not_shared: PhantomData<*mut u8>,
 }
 
-const _: () = assert!(size_of::<Call>() == 112 && size_of::<Reply>() == 176 && size_of::<Settings>() == 152);
-const _: () = assert!(size_of::<Restart>() == 176 && size_of::<Entries>() == 56 && size_of::<View>() == 128);
+const _: () = assert!(size_of::<Call>() == 112 && size_of::<Reply>() == 176 && size_of::<Settings>() == 184);
+const _: () = assert!(size_of::<Restart>() == 208 && size_of::<Entries>() == 56 && size_of::<View>() == 128);
 const _: () = assert!(size_of::<Found>() == 72 && size_of::<Item>() == 88 && size_of::<Chunk>() == 1040);
-const _: () = assert!(size_of::<Text>() == 72 && size_of::<Scan>() == 24 && size_of::<Stored>() == 40);
+const _: () = assert!(size_of::<Text>() == 104 && size_of::<Scan>() == 24 && size_of::<Stored>() == 40);
 const _: () = assert!(size_of::<Told>() == 64 && size_of::<Effects>() == 24 && size_of::<Effect>() == 40);
 const _: () = assert!(size_of::<Settled>() == 32 && size_of::<Served>() == 24 && size_of::<Outstanding>() == 24);
 const _: () = assert!(size_of::<Subject>() == 64 && size_of::<Options>() == 24 && size_of::<Input>() == 144);
@@ -426,7 +427,7 @@ unsafe extern "C" {
         certificate_len: usize,
     ) -> u32;
     pub(crate) fn simplex_member_free(at: *mut Opaque);
-    pub(crate) safe fn simplex_subject(kind: u32, proposal: &Proposal) -> Text;
+    pub(crate) safe fn simplex_subject(namespace: &[u8; 32], kind: u32, proposal: &Proposal) -> Text;
     pub(crate) fn simplex_scan(journal: *const u8, journal_len: usize) -> Scan;
     pub(crate) fn simplex_resolver_start(term_length: u32, journal: *const u8, journal_len: usize, out: &mut *mut OpaqueResolver) -> u32;
     pub(crate) fn simplex_resolver_told(at: *mut OpaqueResolver, told: &Told, certificate: *const u8, certificate_len: usize) -> Effects;

@@ -1,13 +1,15 @@
-//! What a host stores of a member: its journal, and the bytes beside it.
+//! A member's journal on the host's disk, and the bytes beside it.
 
 use crate::ffi;
 
 /// New entries of a member's record, as bytes, and what to store beside the journal with them.
 #[derive(Clone, PartialEq, Eq, Debug)]
 pub struct Entries {
-    /// The bytes to append: frames, one after another, each a length and its complement in four bytes each, the entry, and its SHA-256 digest.
+    /// The bytes to append: frames, one after another, each a length and its complement in four bytes each, the entry, and its SHA-256
+    /// digest.
     pub bytes: Vec<u8>,
-    /// What to store beside the journal; `stored.entries` is what the next [`Member::entries_since`](crate::Member::entries_since) takes.
+    /// The numbers to store beside the journal; `stored.entries` is what the next [`Member::entries_since`](crate::Member::entries_since)
+    /// takes.
     pub stored: Stored,
 }
 
@@ -30,14 +32,15 @@ impl EntryCount {
     }
 }
 
-/// What a host stores beside a journal, as 33 bytes, and passes with it to a resume ([`Engine::resume`](crate::Engine::resume),
+/// The numbers that a host stores beside a journal, as 33 bytes, and passes with it to a resume ([`Engine::resume`](crate::Engine::resume),
 /// [`Member::resume`](crate::Member::resume)).
 ///
 /// ```
 /// use simplex_view_state::Stored;
 ///
-/// # let stored = simplex_view_state::Member::start(&simplex_view_state::Config::new(4.try_into()?, None,
-/// #     simplex_view_state::Epoch::new(1), Default::default()), Default::default())?.stored();
+/// # use simplex_view_state::{Config, Digest, Epoch, Member, Moment, Namespace};
+/// # let config = Config::new(Namespace::new([1; 32]), 4.try_into()?, None, Epoch::new(1), Digest::default());
+/// # let stored = Member::start(&config, Moment::default())?.stored();
 /// assert_eq!(Stored::from_bytes(&stored.to_bytes()), Some(stored));
 /// # Ok::<(), Box<dyn std::error::Error>>(())
 /// ```
@@ -107,7 +110,7 @@ impl Stored {
     }
 }
 
-/// What [`scan`] finds in the bytes of a journal.
+/// The whole entries that [`scan`] finds in the bytes of a journal.
 #[derive(Clone, Copy, PartialEq, Eq, Hash, Debug)]
 pub struct Scan {
     /// The number of whole entries at its start.

@@ -7,10 +7,11 @@
 //! A member alone, whose application finds each block good:
 //!
 //! ```
-//! use simplex_view_state::{Config, Digest, Engine, Epoch, Input, Moment, Options, Output, Participant, View};
+//! use simplex_view_state::{Config, Digest, Engine, Epoch, Input, Moment, Namespace, Options, Output, Participant, View};
 //!
 //! const MOST_OUTPUTS: usize = 100;                                      // of a turn
-//! let config = Config::new(1.try_into()?, Some(Participant::new(0)), Epoch::new(1), Digest::default());
+//! let network = Namespace::new([1; 32]);                                // begins each signed text: a digest of your network's name, say
+//! let config = Config::new(network, 1.try_into()?, Some(Participant::new(0)), Epoch::new(1), Digest::default());
 //! let mut now = Moment::from_millis(0);                                 // of a clock that does not fall
 //! let mut engine = Engine::start(&config, &Options::default(), now)?;   // or Engine::resume, with what was stored
 //! let (mut journal, mut finalized, mut inputs) = (Vec::new(), View::GENESIS, Vec::new());
@@ -44,10 +45,10 @@
 //! vote is an order to sign a text once the new entries of the record are stored. `docs/EMBEDDING.md` of the repository has both loops.
 //!
 //! ```
-//! use simplex_view_state::{Config, Digest, Epoch, Member, Moment, Nullification, Participant, Round, TimeoutReason, View};
+//! use simplex_view_state::{Config, Digest, Epoch, Member, Moment, Namespace, Nullification, Participant, Round, TimeoutReason, View};
 //!
 //! let epoch = Epoch::new(1);
-//! let config = Config::new(4.try_into()?, Some(Participant::new(3)), epoch, Digest::default());
+//! let config = Config::new(Namespace::new([1; 32]), 4.try_into()?, Some(Participant::new(3)), epoch, Digest::default());
 //! let mut member = Member::start(&config, Moment::from_millis(0))?;
 //!
 //! let timeout = member.next_timeout(Moment::from_millis(0))?;
@@ -87,7 +88,7 @@ pub use messages::{
     Added, Candidates, Certificate, CertificateFetch, CertificateKind, Context, Finalization, Finalize, MissingCertificate, Notarization,
     Notarize, Nullification, Nullify, Proposal, ProposalRequest, Subject, Verify, Vote,
 };
-pub use numbers::{Digest, Epoch, Moment, ParseDigestError, Participant, Round, Token, View, ViewDelta};
+pub use numbers::{Digest, Epoch, Moment, Namespace, ParseDigestError, Participant, Round, Token, View, ViewDelta};
 pub use reasons::{HandoffAbandonedReason, TimeoutReason};
 pub use resolver::{Effect, FetchReason, Resolver};
 pub use settings::{Config, Floor, Leaders, Skip, Terms};

@@ -46,12 +46,12 @@ mod kind {
     pub(super) const PRUNE: u32 = 24;
 }
 
-/// What a restart removes from the record before the new lifetime begins.
+/// The entries that a restart removes from the record before the new lifetime begins.
 #[derive(Clone, Copy, PartialEq, Eq, Hash, Debug, Default)]
 pub struct Cut {
     /// At most this number of the last entries, but never a vote or an entry before one.
     pub last: EntryCount,
-    /// Whether it removes all entries further below the highest finalized view than the last lifetime's retention.
+    /// True if it removes all entries further below the highest finalized view than the last lifetime's retention.
     pub prune: bool,
 }
 
@@ -94,9 +94,9 @@ pub struct Timeout {
 /// the vote. A member may be passed from thread to thread; one thread at a time calls it.
 ///
 /// ```
-/// use simplex_view_state::{Config, Digest, Epoch, Member, Moment, Participant, ProposalRequest, View};
+/// use simplex_view_state::{Config, Digest, Epoch, Member, Moment, Namespace, Participant, ProposalRequest, View};
 ///
-/// let config = Config::new(4.try_into()?, Some(Participant::new(0)), Epoch::new(1), Digest::default());
+/// let config = Config::new(Namespace::new([1; 32]), 4.try_into()?, Some(Participant::new(0)), Epoch::new(1), Digest::default());
 /// let mut member = Member::start(&config, Moment::from_millis(0))?;
 /// let request = member.try_propose()?.expect("member 0 leads the first view");
 /// assert!(matches!(request, ProposalRequest::Propose(_)));
@@ -604,9 +604,9 @@ impl Member {
     /// [`EntriesError`]: the record is pruned but not returned. Ask for [`Member::entries_since`] of [`EntryCount::ZERO`].
     ///
     /// ```
-    /// use simplex_view_state::{Config, Digest, EntryCount, Epoch, Finalization, Member, Moment, Participant, Proposal, Round, View};
+    /// use simplex_view_state::{Config, Digest, EntryCount, Epoch, Finalization, Member, Moment, Namespace, Participant, Proposal, Round, View};
     ///
-    /// let config = Config::new(4.try_into()?, Some(Participant::new(0)), Epoch::new(1), Digest::default());
+    /// let config = Config::new(Namespace::new([1; 32]), 4.try_into()?, Some(Participant::new(0)), Epoch::new(1), Digest::default());
     /// let mut member = Member::start(&config, Moment::from_millis(0))?;
     /// for view in 1..50 {
     ///     let round = Round { epoch: Epoch::new(1), view: View::new(view) };

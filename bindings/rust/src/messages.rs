@@ -1,7 +1,7 @@
 //! Proposals, votes and certificates.
 
 use crate::ffi;
-use crate::numbers::{Digest, Epoch, Participant, Round, View};
+use crate::numbers::{Digest, Epoch, Namespace, Participant, Round, View};
 
 /// A block that a leader proposes: its round, its parent's view, and its payload's digest.
 #[derive(Clone, Copy, PartialEq, Eq, Hash, Debug, Default)]
@@ -53,7 +53,7 @@ impl Round {
     }
 }
 
-/// What a vote is about.
+/// The subject of a vote.
 #[derive(Clone, Copy, PartialEq, Eq, Hash, Debug)]
 pub enum Subject {
     /// The proposal may be built on.
@@ -73,23 +73,36 @@ impl Subject {
         }
     }
 
-    /// Returns the text that a vote on it signs; verify other members' votes on this text. A member's own votes come with their text:
-    /// [`Notarize::text`].
+    /// Returns the text that a vote on it signs in a network: the namespace, and then [`Subject::encode`]. Verify other members' votes on this
+    /// text. A member's own votes come with their text: [`Notarize::text`].
+    ///
+    /// ```
+    /// use simplex_view_state::{Namespace, Proposal, Subject};
+    ///
+    /// let text = Subject::Notarize(Proposal::default()).text(&Namespace::new([7; 32]));
+    /// assert_eq!((text.len(), &text[..33]), (89, &[[7; 32].as_slice(), &[0]].concat()[..]));
+    /// ```
+    pub fn text(&self, namespace: &Namespace) -> Vec<u8> {
+        let (kind, proposal) = self.flat();
+        let text = ffi::simplex_subject(namespace.bytes(), kind, &proposal);
+        assert_eq!(text.status, 0, "there is memory for a text of 89 bytes");
+        text.bytes[..text.count as usize].to_vec()
+    }
+
+    /// Returns its bytes, which name no network: with them the encoding of a certificate begins.
     ///
     /// ```
     /// use simplex_view_state::{Proposal, Subject};
     ///
-    /// let text = Subject::Notarize(Proposal::default()).encode();
-    /// assert_eq!((text.len(), text[0]), (57, 0));
+    /// let bytes = Subject::Notarize(Proposal::default()).encode();
+    /// assert_eq!((bytes.len(), bytes[0]), (57, 0));
     /// ```
     pub fn encode(&self) -> Vec<u8> {
-        let (kind, proposal) = self.flat();
-        let text = ffi::simplex_subject(kind, &proposal);
-        assert_eq!(text.status, 0, "there is memory for a text of 57 bytes");
-        text.bytes[..text.count as usize].to_vec()
+        let none = Namespace::new([0; 32]);
+        self.text(&none).split_off(none.bytes().len())
     }
 
-    /// Reads a subject's text at the front of bytes. Returns the subject and the bytes after it; `None` if there is no such text.
+    /// Reads the bytes of a subject at the front of others. Returns the subject and the bytes after it; `None` if no subject is there.
     ///
     /// ```
     /// use simplex_view_state::{Round, Subject};
@@ -160,7 +173,7 @@ fn number_in_front(bytes: &[u8]) -> Option<(u64, &[u8])> {
 /// A member's vote, signed.
 #[derive(Clone, PartialEq, Eq, Hash, Debug)]
 pub struct Vote {
-    /// What it is about.
+    /// Its subject.
     pub subject: Subject,
     /// The member that signed it.
     pub signer: Participant,
@@ -169,7 +182,8 @@ pub struct Vote {
 }
 
 impl Vote {
-    /// What a vote to notarize proposes. If its signer leads the view, pass it as an [`Input::Proposal`](crate::Input::Proposal) too.
+    /// Returns what a vote to notarize proposes. If its signer leads the view, pass it as an [`Input::Proposal`](crate::Input::Proposal)
+    /// too.
     pub const fn proposal(&self) -> Option<Proposal> {
         match self.subject {
             Subject::Notarize(proposal) => Some(proposal),
@@ -183,8 +197,8 @@ impl Vote {
 pub struct Notarization {
     /// The proposal.
     pub proposal: Proposal,
-    /// The host's certificate, which the host made and verified: bytes that the library stores and never reads, except for their first four if
-    /// certificates name leaders ([`Leaders::Drawn`](crate::Leaders::Drawn)).
+    /// The host's certificate, which the host made and verified: bytes that the library stores and never reads, except for their first four
+    /// if certificates name leaders ([`Leaders::Drawn`](crate::Leaders::Drawn)).
     pub certificate: Vec<u8>,
 }
 
@@ -323,7 +337,7 @@ pub struct Notarize {
     pub proposal: Proposal,
     /// Who signs.
     pub signer: Participant,
-    /// The text to sign: `Subject::Notarize(proposal).encode()`.
+    /// The text to sign: `Subject::Notarize(proposal).text(&namespace)`, with the namespace of the settings.
     pub text: Vec<u8>,
 }
 
@@ -335,9 +349,9 @@ pub struct Nullify {
     pub round: Round,
     /// Who signs.
     pub signer: Participant,
-    /// The text to sign: `Subject::Nullify(round).encode()`.
+    /// The text to sign: `Subject::Nullify(round).text(&namespace)`, with the namespace of the settings.
     pub text: Vec<u8>,
-    /// Whether the vote was ordered before, so that it is in the record already.
+    /// True if the vote was ordered before, so that it is in the record already.
     pub is_repeat: bool,
 }
 
@@ -349,11 +363,11 @@ pub struct Finalize {
     pub proposal: Proposal,
     /// Who signs.
     pub signer: Participant,
-    /// The text to sign: `Subject::Finalize(proposal).encode()`.
+    /// The text to sign: `Subject::Finalize(proposal).text(&namespace)`, with the namespace of the settings.
     pub text: Vec<u8>,
 }
 
-/// What a proposal is built on, or verified against.
+/// The context in which a proposal is built or verified.
 #[derive(Clone, Copy, PartialEq, Eq, Hash, Debug)]
 pub struct Context {
     /// Its round.
@@ -423,7 +437,7 @@ impl MissingCertificate {
     }
 }
 
-/// What to verify next.
+/// The next proposal to verify.
 #[derive(Clone, Copy, PartialEq, Eq, Hash, Debug)]
 pub enum Verify {
     /// The application must verify the proposal.
@@ -446,13 +460,13 @@ pub enum Verify {
 /// The result of a certificate that was passed.
 #[derive(Clone, Copy, PartialEq, Eq, Hash, Debug)]
 pub struct Added {
-    /// Whether the certificate is new.
+    /// True if the certificate is new.
     pub is_new: bool,
     /// The view's leader, if the certificates show that it proposed twice.
     pub equivocator: Option<Participant>,
 }
 
-/// What to certify.
+/// The proposals to certify.
 #[derive(Clone, PartialEq, Eq, Hash, Debug, Default)]
 pub struct Candidates {
     /// The proposals whose certification is to begin.

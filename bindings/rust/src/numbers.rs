@@ -1,4 +1,4 @@
-//! Views, epochs, members, digests and moments.
+//! Views, epochs, members, namespaces, digests and moments.
 
 use crate::journal::EntryCount;
 use std::fmt;
@@ -103,6 +103,52 @@ impl Participant {
     /// Returns its index.
     pub const fn get(self) -> u32 {
         self.0
+    }
+}
+
+/// The namespace of a network: each text that its members sign begins with these bytes.
+///
+/// In two networks with one namespace the signatures of one count in the other, so choose a digest of all that distinguishes the network:
+/// its name, its epoch and its members' public keys, say. All members need the same one.
+#[derive(Clone, Copy, PartialEq, Eq, PartialOrd, Ord, Hash)]
+pub struct Namespace([u8; 32]);
+
+impl Namespace {
+    /// Makes the namespace of these bytes.
+    pub const fn new(bytes: [u8; 32]) -> Namespace {
+        Namespace(bytes)
+    }
+
+    /// Returns its bytes.
+    pub const fn bytes(&self) -> &[u8; 32] {
+        &self.0
+    }
+}
+
+impl From<Digest> for Namespace {
+    fn from(digest: Digest) -> Namespace {
+        Namespace(digest.0)
+    }
+}
+
+impl fmt::Display for Namespace {
+    fn fmt(&self, f: &mut fmt::Formatter<'_>) -> fmt::Result {
+        fmt::Display::fmt(&Digest(self.0), f)
+    }
+}
+
+impl FromStr for Namespace {
+    type Err = ParseDigestError;
+
+    /// Reads what `Display` writes; upper case too.
+    fn from_str(text: &str) -> Result<Namespace, ParseDigestError> {
+        text.parse().map(|Digest(bytes)| Namespace(bytes))
+    }
+}
+
+impl fmt::Debug for Namespace {
+    fn fmt(&self, f: &mut fmt::Formatter<'_>) -> fmt::Result {
+        fmt::Display::fmt(self, f)
     }
 }
 

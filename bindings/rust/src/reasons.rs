@@ -75,7 +75,7 @@ pub enum HandoffAbandonedReason {
     ViewNullify,
     /// The application returned nothing.
     ResponseClosed,
-    /// What was built could no longer be recorded.
+    /// The built block could no longer be recorded.
     IneligibleAtRecording,
 }
 

@@ -3,7 +3,7 @@
 use crate::errors::SettingsError;
 use crate::ffi;
 use crate::messages::{Finalization, Proposal};
-use crate::numbers::{Digest, Epoch, Participant, Round, ViewDelta};
+use crate::numbers::{Digest, Epoch, Namespace, Participant, Round, ViewDelta};
 use std::num::{NonZeroU32, NonZeroU64};
 use std::time::Duration;
 
@@ -13,6 +13,8 @@ use std::time::Duration;
 #[derive(Clone, PartialEq, Eq, Debug)]
 #[non_exhaustive]
 pub struct Config {
+    /// The namespace of the network, with which each text to sign begins.
+    pub namespace: Namespace,
     /// The number of members.
     pub members: NonZeroU32,
     /// The member that signs here; `None` for a member that only follows.
@@ -23,7 +25,7 @@ pub struct Config {
     pub leaders: Leaders,
     /// How views are divided into terms.
     pub terms: Terms,
-    /// What is final at the start.
+    /// The floor: the last final view at the start.
     pub floor: Floor,
     /// How long a view waits for its proposal.
     pub leader_timeout: Duration,
@@ -33,19 +35,19 @@ pub struct Config {
     pub timeout_retry: Duration,
     /// The number of views below the last finalized one that are retained.
     pub view_retention: ViewDelta,
-    /// Whether the views of inactive leaders are skipped.
+    /// True if the views of inactive leaders are skipped.
     pub skip: Option<Skip>,
 }
 
 /// The leaders.
 #[derive(Clone, PartialEq, Eq, Debug)]
 pub enum Leaders {
-    /// The table's members lead in its order, one term each, and then from its start again. It has as many entries as there are members, each
-    /// a member's index; a member that is in it twice leads twice. Other tables are refused.
+    /// The table's members lead in its order, one term each, and then from its start again. It has as many entries as there are members,
+    /// each a member's index; a member that is in it twice leads twice. Other tables are refused.
     Table(Vec<Participant>),
     /// The certificate that leads to a term names its leader: its first four bytes are the index, big-endian. An index of no member counts
-    /// modulo the number of members. The table names the leader of the first term, and after a certificate of fewer bytes: it has at least one
-    /// entry, each a member's index. All certificates that may lead to a view must name the same leader.
+    /// modulo the number of members. The table names the leader of the first term, and after a certificate of fewer bytes: it has at least
+    /// one entry, each a member's index. All certificates that may lead to a view must name the same leader.
     Drawn(Vec<Participant>),
 }
 
@@ -82,7 +84,7 @@ impl Terms {
     };
 }
 
-/// What is final when a member starts.
+/// The last final view when a member starts.
 #[derive(Clone, PartialEq, Eq, Debug)]
 pub enum Floor {
     /// Genesis, with its payload.
@@ -95,26 +97,27 @@ pub enum Floor {
 #[derive(Clone, Copy, PartialEq, Eq, Debug)]
 pub struct Skip {
     /// The time after which a leader counts as inactive. The host finds that out, and reports it by
-    /// [`Input::GivenUp`](crate::Input::GivenUp) or [`Member::trigger_timeout`](crate::Member::trigger_timeout); the library tests only that
-    /// it is above the other timeouts.
+    /// [`Input::GivenUp`](crate::Input::GivenUp) or [`Member::trigger_timeout`](crate::Member::trigger_timeout); the library tests only
+    /// that it is above the other timeouts.
     pub timeout: Duration,
     /// The number of unfinalized terms that may be skipped; `None` for the number of members.
     pub budget: Option<NonZeroU64>,
 }
 
 impl Config {
-    /// Settings of this number of members that lead round-robin, one view each, from genesis. The times are usual ones: 1 s for a proposal, 2 s
-    /// for its certification, 500 ms for a repeat. 10 views are retained, and views of inactive leaders are skipped after 3 s.
+    /// Settings of this number of members of a network that lead round-robin, one view each, from genesis. The times are usual ones: 1 s for a proposal,
+    /// 2 s for its certification, 500 ms for a repeat. 10 views are retained, and views of inactive leaders are skipped after 3 s.
     ///
     /// ```
-    /// use simplex_view_state::{Config, Digest, Epoch, Participant};
+    /// use simplex_view_state::{Config, Digest, Epoch, Namespace, Participant};
     ///
-    /// let members = 4.try_into().expect("not 0");
-    /// let config = Config::new(members, Some(Participant::new(0)), Epoch::new(1), Digest::default());
+    /// let (network, members) = (Namespace::new([1; 32]), 4.try_into().expect("not 0"));
+    /// let config = Config::new(network, members, Some(Participant::new(0)), Epoch::new(1), Digest::default());
     /// assert_eq!(config.view_retention.get(), 10);
     /// ```
-    pub fn new(members: NonZeroU32, signer: Option<Participant>, epoch: Epoch, genesis: Digest) -> Config {
+    pub fn new(namespace: Namespace, members: NonZeroU32, signer: Option<Participant>, epoch: Epoch, genesis: Digest) -> Config {
         Config {
+            namespace,
             members,
             signer,
             epoch,
@@ -155,6 +158,7 @@ impl Config {
             skip_timeout: self.skip.map_or(Ok(0), |skip| skip_millis(skip.timeout))?,
             skip_budget: self.skip.and_then(|skip| skip.budget).map_or(0, NonZeroU64::get),
             floor: floor.flat(),
+            namespace: *self.namespace.bytes(),
         };
         Ok(Flat {
             settings,

@@ -1,4 +1,4 @@
-//! What the linked library says of itself.
+//! The origin of the linked library.
 
 use simplex_view_state::build_info;
 

@@ -3,11 +3,11 @@
 #[path = "../examples/engine/network.rs"]
 mod network;
 
-use network::{Disk, Message, Network, Node, Sent, is_good, signature};
+use network::{Disk, Message, NAMESPACE, Network, Node, Sent, is_good, signature};
 use simplex_view_state::{
     Certificate, CertificateKind, Config, Context, Digest, Engine, EngineError, EntryCount, Epoch, FetchKind, Finalization, Input, Leaders,
-    Member, Moment, Notarization, Nullification, OpenError, Options, Output, Participant, Proposal, Round, SettingsError, Subject, Terms,
-    TimeoutReason, View, Vote,
+    Member, Moment, Namespace, Notarization, Nullification, OpenError, Options, Output, Participant, Proposal, Round, SettingsError,
+    Subject, Terms, TimeoutReason, View, Vote,
 };
 use std::error::Error;
 use std::thread;
@@ -26,7 +26,7 @@ const MEMBERS: u32 = 4;
 
 fn config(index: u32) -> Config {
     let members = MEMBERS.try_into().expect("not 0");
-    Config::new(members, Some(Participant::new(index)), Epoch::new(1), Digest::default())
+    Config::new(NAMESPACE, members, Some(Participant::new(index)), Epoch::new(1), Digest::default())
 }
 
 fn engine(index: u32) -> Result<Engine, OpenError> {
@@ -53,7 +53,7 @@ fn vote(index: u32, subject: Subject) -> Vote {
     Vote {
         subject,
         signer,
-        signature: signature(signer, &subject.encode()),
+        signature: signature(signer, &subject.text(&NAMESPACE)),
     }
 }
 
@@ -108,7 +108,7 @@ fn go_on(network: &mut Network, views: u64) -> Tested {
             return Ok(());
         }
     }
-    Err("nothing goes on".into())
+    Err("nothing is finalized any more".into())
 }
 
 #[test]
@@ -129,7 +129,7 @@ fn networks_that_lose_messages_and_members_agree_and_go_on() -> Tested {
             if crashed >= 12 && lowest_final(&network.nodes) >= 40 {
                 break;
             }
-            assert!(step < 40_000, "nothing goes on with seed {seed}");
+            assert!(step < 40_000, "nothing is finalized with seed {seed}");
         }
         agree(&network.nodes);
         assert_eq!(lives, 12);
@@ -150,10 +150,42 @@ fn a_lifetime_that_begins_delivers_what_the_one_before_stored() -> Tested {
     Ok(())
 }
 
+#[test]
+fn a_text_begins_with_the_namespace_of_the_settings() -> Tested {
+    let subject = Subject::Nullify(round(1));
+    for namespace in [NAMESPACE, Namespace::new([8; 32])] {
+        let text = [&namespace.bytes()[..], &subject.encode()].concat();
+        assert_eq!(subject.text(&namespace), text);
+        let settings = changed(config(1), |it| it.namespace = namespace);
+        let mut engine = Engine::start(&settings, &Options::default(), START)?;
+        engine.handle(
+            Input::GivenUp {
+                view: View::new(1),
+                reason: TimeoutReason::Inactivity,
+            },
+            START,
+        )?;
+        let orders = std::iter::from_fn(|| engine.poll(START).transpose());
+        let orders = orders.filter_map(|it| {
+            it.map(|it| if let Output::Vote(order) = it { Some(order) } else { None })
+                .transpose()
+        });
+        let orders = orders.collect::<Result<Vec<_>, _>>()?;
+        assert_eq!(orders.iter().map(|it| &it.text).collect::<Vec<_>>(), [&text]);
+    }
+    Ok(())
+}
+
 /// So a host has to end its turns by itself: see the loop of the example.
 #[test]
 fn a_member_alone_that_answers_at_once_is_never_out_of_outputs() -> Tested {
-    let config = Config::new(1.try_into()?, Some(Participant::new(0)), Epoch::new(1), Digest::default());
+    let config = Config::new(
+        NAMESPACE,
+        1.try_into()?,
+        Some(Participant::new(0)),
+        Epoch::new(1),
+        Digest::default(),
+    );
     let mut engine = Engine::start(&config, &Options::default(), START)?;
     for _ in 0..20_000 {
         let reply = match engine.poll(START)?.ok_or("it is out of outputs")? {
@@ -192,7 +224,7 @@ fn a_member_alone_lets_time_in() -> Tested {
 fn certificates_are_made_of_good_signatures_of_a_quorum() -> Tested {
     let mut network = Network::start(MEMBERS.try_into()?, 0, 1)?;
     go_on(&mut network, 5)?;
-    let engine = network.nodes[2].engine.as_ref().ok_or("it lives")?;
+    let engine = network.nodes[2].engine.as_ref().ok_or("it has failed")?;
     for view in 1..=5 {
         let found = engine
             .certificate(CertificateKind::Finalization, View::new(view))?
@@ -382,7 +414,7 @@ fn what_is_of_no_use_changes_nothing() -> Tested {
     outputs(&mut engine, START)?;
     let before = engine.views();
     for (place, input) in (1..).zip(useless()) {
-        assert!(!engine.handle(input.clone(), START)?, "{input:?} is of use");
+        assert!(!engine.handle(input.clone(), START)?, "{input:?} is taken");
         assert_eq!(engine.ignored(), place);
     }
     for view in [View::new(7), View::new(u64::MAX)] {
@@ -416,7 +448,7 @@ fn gives_up_what_others_certify() -> Result<Engine, Box<dyn Error>> {
     Ok(engine)
 }
 
-/// Whether the vote is among all outputs until there is none.
+/// Returns whether the vote is among all outputs until there is none.
 fn casts(engine: &mut Engine, subject: Subject) -> Result<bool, EngineError> {
     let given = outputs(engine, START)?;
     Ok(given.iter().any(|it| matches!(it, Output::Vote(vote) if vote.subject == subject)))
@@ -591,7 +623,7 @@ fn a_fetch_that_would_be_asked_again_at_once_is_refused() {
 fn an_engine_goes_from_thread_to_thread() -> Tested {
     let engine = engine(1)?;
     let views = thread::spawn(move || engine.views()).join().expect("it does not panic");
-    assert_eq!(views.ok_or("it lives")?.current, View::new(1));
+    assert_eq!(views.ok_or("it has failed")?.current, View::new(1));
     Ok(())
 }
 

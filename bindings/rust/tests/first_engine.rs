@@ -18,7 +18,7 @@ fn folder(name: &str) -> PathBuf {
     folder
 }
 
-/// Whether no two chains have different proposals of a view.
+/// Returns whether no two chains have different proposals of a view.
 fn agree(chains: &[Vec<Proposal>]) -> bool {
     let mut known = BTreeMap::new();
     chains

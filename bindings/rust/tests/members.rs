@@ -1,8 +1,9 @@
 //! Members through the package: their lifetimes, their journals, and what is refused.
 
 use simplex_view_state::{
-    Certificate, CertificateKind, Config, Cut, Digest, Ending, EntryCount, Epoch, Finalization, Floor, Member, Moment, Notarization,
-    OpenError, Participant, Proposal, RecoverError, Refusal, Round, SettingsError, Stored, Subject, TimeoutReason, View, ViewDelta, scan,
+    Certificate, CertificateKind, Config, Cut, Digest, Ending, EntryCount, Epoch, Finalization, Floor, Member, Moment, Namespace,
+    Notarization, OpenError, Participant, Proposal, RecoverError, Refusal, Round, SettingsError, Stored, Subject, TimeoutReason, View,
+    ViewDelta, scan,
 };
 use std::error::Error;
 use std::thread;
@@ -18,9 +19,11 @@ fn changed<T>(mut settings: T, change: impl FnOnce(&mut T)) -> T {
     settings
 }
 
+const NAMESPACE: Namespace = Namespace::new([7; 32]);
+
 fn config() -> Config {
     let members = 4.try_into().expect("not 0");
-    Config::new(members, Some(Participant::new(0)), Epoch::new(1), Digest::default())
+    Config::new(NAMESPACE, members, Some(Participant::new(0)), Epoch::new(1), Digest::default())
 }
 
 fn proposal(view: u64, parent: u64) -> Proposal {
@@ -47,7 +50,7 @@ fn member() -> Result<Member, Box<dyn Error>> {
     member.try_propose()?.ok_or("it leads")?;
     assert!(member.proposed(View::new(1), Digest::new([1; 32]), START)?);
     let vote = member.construct_notarize(View::new(1))?.ok_or("its own proposal")?;
-    assert_eq!(vote.text, Subject::Notarize(proposal(1, 0)).encode());
+    assert_eq!(vote.text, Subject::Notarize(proposal(1, 0)).text(&NAMESPACE));
     assert_eq!(vote.signer, Participant::new(0));
     member.add_finalization(&finalization(1, 0), START)?;
     Ok(member)
@@ -104,7 +107,7 @@ fn a_journal_that_is_cut_or_changed_is_refused() -> Tested {
 fn a_finalized_floor_is_recorded() -> Tested {
     let floor = changed(config(), |it| it.floor = Floor::Finalized(finalization(90, 80)));
     let mut member = Member::start(&floor, START)?;
-    let views = member.views().ok_or("it lives")?;
+    let views = member.views().ok_or("it has failed")?;
     assert_eq!((views.last_finalized, views.current), (View::new(90), View::new(91)));
     assert_eq!(member.entries_since(EntryCount::ZERO)?.stored.entries, EntryCount::new(1));
     Ok(())
@@ -171,6 +174,6 @@ fn a_certificate_of_another_epoch_is_not_allowed() -> Tested {
 fn a_member_goes_from_thread_to_thread() -> Tested {
     let member = member()?;
     let views = thread::spawn(move || member.views()).join().expect("it does not panic");
-    assert_eq!(views.ok_or("it lives")?.last_finalized, View::new(1));
+    assert_eq!(views.ok_or("it has failed")?.last_finalized, View::new(1));
     Ok(())
 }

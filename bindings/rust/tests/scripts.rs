@@ -14,7 +14,7 @@ const LEAST: usize = 80;
 
 const PAGES: &str = concat!(env!("CARGO_MANIFEST_DIR"), "/../../tests/scripts");
 
-/// What parts a line from its reply.
+/// The mark between a line and its reply.
 const REPLIED: &str = " => ";
 
 /// Stands for a reply that a script doesn't look at.

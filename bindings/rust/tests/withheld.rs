@@ -1,8 +1,8 @@
 //! Why a member withholds a vote: each reason once, and none exactly where the vote is returned.
 
 use simplex_view_state::{
-    Config, Digest, Engine, EngineError, Epoch, Finalization, Input, Member, Moment, Notarization, Nullification, Options, Participant,
-    Proposal, Refusal, Round, Terms, TimeoutReason, Verify, View, ViewDelta, VoteKind, Withheld,
+    Config, Digest, Engine, EngineError, Epoch, Finalization, Input, Member, Moment, Namespace, Notarization, Nullification, Options,
+    Participant, Proposal, Refusal, Round, Terms, TimeoutReason, Verify, View, ViewDelta, VoteKind, Withheld,
 };
 use std::collections::BTreeSet;
 use std::error::Error;
@@ -15,7 +15,13 @@ const KINDS: [VoteKind; 3] = [VoteKind::Notarize, VoteKind::Nullify, VoteKind::F
 /// Member 3 of four, which leads no view of the first three terms.
 fn config(length: u32, optimistic: u64) -> Config {
     let members = 4.try_into().expect("not 0");
-    let mut config = Config::new(members, Some(Participant::new(3)), Epoch::new(1), Digest::default());
+    let mut config = Config::new(
+        Namespace::new([1; 32]),
+        members,
+        Some(Participant::new(3)),
+        Epoch::new(1),
+        Digest::default(),
+    );
     config.terms = Terms {
         length: length.try_into().expect("not 0"),
         optimistic_views: ViewDelta::new(optimistic),
@@ -93,7 +99,7 @@ impl Asked {
     }
 }
 
-/// Whether a vote is returned.
+/// Returns whether a vote is returned.
 fn casts(member: &mut Member, kind: VoteKind, view: View) -> Result<bool, Refusal> {
     Ok(match kind {
         VoteKind::Notarize => member.construct_notarize(view)?.is_some(),

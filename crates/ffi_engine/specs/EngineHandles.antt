@@ -43,8 +43,9 @@ use Rattle.ffi_engine.specs.declared.flat.FlatInput.{FlatInput}
 use Rattle.ffi_engine.specs.declared.flat.FlatOutput.{FlatOutput}
 use Rattle.ffi_engine.specs.declared.flat.FlatTaken.{FlatTaken}
 use Rattle.ffi_engine.specs.declared.input_kind.InputKind.TheVariants as of
+use Rattle.ffi_engine.specs.declared.output_kind.OutputKind.TheVariants as output_kind
 use Rattle.ffi_engine.specs.Inputs.{PassesBytes, HasInputNumbers, HostInput, IsNoInput, IsPassedAs, input_number}
-use Rattle.ffi_engine.specs.Outputs.{HasOutputOf, HostEngine, HostOutput, other_signature, first_bytes_in}
+use Rattle.ffi_engine.specs.Outputs.{HasOutputOf, HostEngine, HostOutput, other_signature, output_number, first_bytes_in}
 
 -- nothing was returned or loaded yet, and nothing is lost
 pub record HasShownNothing (held : HeldEngine) : Type 0 where
@@ -128,7 +129,7 @@ pub record IsInputPassed (now : ℕ) (old : HeldEngine) (f : FlatInput) (bytes :
     (new : HeldEngine) : Type 0 where
   pub input : HostInput
   pub numbers : HasInputNumbers f
-  pub is_reported : IsPassedAs f bytes input
+  pub is_reported : IsPassedAs old.namespace f bytes input
   pub taken : Takes now input old r new
 
 -- the input was passed to the engine, or nothing was
@@ -175,7 +176,7 @@ pub record IsReadAs (out : HostOutput) (r : FlatOutput) (new : HeldEngine) : Typ
 -- nothing is returned, for this status
 pub record IsNothing (status : ℕ) (r : FlatOutput) (new : HeldEngine) : Type 0 where
   pub status_is : r.status ≡ status
-  pub nothing : r.kind ≡ 0
+  pub nothing : r.kind ≡ output_number output_kind.Nothing
   pub last : new.last ≡ None
 
 -- an output is returned, its entries written; or they could not be, because memory ran out or no frame holds one, and
@@ -287,4 +288,4 @@ abbrev pub IsPolled : ℕ → HeldEngine → FlatOutput → HeldEngine → Type 
 IsPolled now old r new =
     (((old.is_lost ≡ true) × IsNothing 2 r new × (new.engine ≡ old.engine))
     ⊎ ((old.is_lost ≡ false) × IsAsked now old r new))
-    × (new.draws ≡ old.draws) × (new.shown ≡ old.shown)
+    × (new.namespace ≡ old.namespace) × (new.draws ≡ old.draws) × (new.shown ≡ old.shown)

@@ -46,8 +46,8 @@ options_of f = record { retry = f.retry; on_its_way = f.on_its_way; long_record 
 
 -- nothing was returned, so what the member has done before traces it; the whole record is to be stored in place of all
 -- that is stored and nothing else is queued, no proposal is to be reported as final, nothing is at hand, the member
--- waits for nothing, and leaders are drawn as set; and no certificate is asked for of a view above those that the
--- member has heard of
+-- waits for nothing, the namespace and the way to draw leaders are as set; and no certificate is asked for of a view
+-- above those that the member has heard of
 pub record HasReturnedNothing (f : FlatSettings) (held : HeldEngine) : Type 0 where
   pub kept : IsAllReturned [] held
   pub traced : BeginsTraced same_host_payload host_leader certificate_bytes held.engine.core.member held.engine.core
@@ -59,6 +59,7 @@ pub record HasReturnedNothing (f : FlatSettings) (held : HeldEngine) : Type 0 wh
   pub due_work : HasReportedAll [] held.engine
   pub none_at_hand : pending_causes held.engine ≡ []
   pub fetch_heights : FetchesTheReported held.engine
+  pub namespace : held.namespace ≡ f.namespace
   pub draws : held.draws ≡ f.draws
   pub fresh : HasShownNothing held
 

@@ -10,7 +10,7 @@ use Rattle.ffi_scheme.specs.declared.scheme.HostCertificate.{HostCertificate}
 use Rattle.ffi_scheme.specs.declared.scheme.HostKey.{HostKey}
 use Rattle.ffi_scheme.specs.declared.scheme.HostScheme.{HostScheme}
 use Rattle.ffi_scheme.specs.declared.scheme.Order.{Order}
-use Rattle.ffi_scheme.specs.Host.{certificate_bytes}
+use Rattle.ffi_scheme.specs.Host.{certificate_bytes, host_key_in}
 use Rattle.simplex_engine.specs.declared.input.Input.{Input}
 use Rattle.simplex_engine.specs.declared.input.Input.TheVariants as input
 use Rattle.engine_votes.specs.declared.votes.Vote.{Vote}
@@ -47,11 +47,11 @@ IsOn f (subject.Notarize q) = (f.kind ≡ vote_number vote.Notarize) × IsFlatPr
 IsOn f (subject.Nullify round) = (f.kind ≡ vote_number vote.Nullify) × (round ≡ flat_round f.proposal.round)
 IsOn f (subject.Finalize q) = (f.kind ≡ vote_number vote.Finalize) × IsFlatProposal f.proposal q
 
--- a vote on this subject of this member, under a signature of these bytes with its key
+-- a vote on this subject of this member, under a signature of these bytes as its own
 pub record IsVote (f : FlatSubject) (bytes : List ℕ) (v : HostVote) : Type 0 where
   pub on : IsOn f v.subject
   pub signer : v.signer ≡ f.member
-  pub key : v.signature.key.0 ≡ f.member
+  pub index : v.signature.index ≡ f.member
   pub signature : v.signature.text ≡ bytes
 
 -- a certificate on this subject, of these bytes
@@ -82,20 +82,21 @@ IsInputKind number = (0 < number) × (number < 8)
 abbrev pub IsNoInputKind : ℕ → Type 0
 IsNoInputKind number = (number ≡ 0) ⊎ (8 ≤ number)
 
--- the input that a flat one represents, with these bytes
-abbrev pub IsPassedAs : FlatInput → List ℕ → HostInput → Type 0
-IsPassedAs f bytes (input.Proposal from q) =
+-- the input of an engine in the network of a namespace that a flat one represents, with these bytes
+abbrev pub IsPassedAs : List ℕ → FlatInput → List ℕ → HostInput → Type 0
+IsPassedAs namespace f bytes (input.Proposal from q) =
     (f.kind ≡ input_number of.Proposal) × (from ≡ f.subject.member) × IsFlatProposal f.subject.proposal q
-IsPassedAs f bytes (input.Vote v) = (f.kind ≡ input_number of.Vote) × IsVote f.subject bytes v
-IsPassedAs f bytes (input.Certificate c) = (f.kind ≡ input_number of.Certificate) × IsCertificate f.subject bytes c
-IsPassedAs f bytes (input.Verified v success) =
+IsPassedAs namespace f bytes (input.Vote v) = (f.kind ≡ input_number of.Vote) × IsVote f.subject bytes v
+IsPassedAs namespace f bytes (input.Certificate c) =
+    (f.kind ≡ input_number of.Certificate) × IsCertificate f.subject bytes c
+IsPassedAs namespace f bytes (input.Verified v success) =
     (f.kind ≡ input_number of.Verified) × (v ≡ f.view) × (flag_number success ≡ f.success)
-IsPassedAs f bytes (input.Built c payload) =
-    (f.kind ≡ input_number of.Built) × IsContext f.context c × (c.leader.0 ≡ f.subject.member)
+IsPassedAs namespace f bytes (input.Built c payload) =
+    (f.kind ≡ input_number of.Built) × IsContext f.context c × (c.leader ≡ host_key_in namespace f.subject.member)
     × (bytes_in_digest payload ≡ f.subject.proposal.payload)
-IsPassedAs f bytes (input.Certified v success) =
+IsPassedAs namespace f bytes (input.Certified v success) =
     (f.kind ≡ input_number of.Certified) × (v ≡ f.view) × (flag_number success ≡ f.success)
-IsPassedAs f bytes (input.GivenUp v reason) =
+IsPassedAs namespace f bytes (input.GivenUp v reason) =
     (f.kind ≡ input_number of.GivenUp) × (v ≡ f.view) × (reason_number reason ≡ f.reason)
 
 -- it passes a signature or a certificate

@@ -23,6 +23,8 @@ use Rattle.ffi_member.specs.Numbers.{certificate_number, index_number}
 use Rattle.ffi_member.specs.Replies.{IsContext}
 use Rattle.ffi_engine.specs.declared.flat.FlatOutput.{FlatOutput}
 use Rattle.ffi_engine.specs.declared.flat.FlatSubject.{FlatSubject}
+use Rattle.ffi_engine.specs.declared.output_kind.OutputKind.{OutputKind}
+use Rattle.ffi_engine.specs.declared.output_kind.OutputKind.TheVariants as output_kind
 use Rattle.ffi_engine.specs.Inputs.{HostCertified, HostVote, IsOn}
 
 -- an engine of the host
@@ -35,6 +37,23 @@ HostOutput = Output HostScheme (BytesDigest 32) Stored HostKey Order HostCertifi
 
 abbrev pub HostWork : Type 0
 HostWork = Work HostScheme (BytesDigest 32) HostKey Order HostCertificate
+
+-- the number of an output's kind
+abbrev pub output_number : OutputKind → ℕ
+output_number output_kind.Nothing = 0
+output_number output_kind.Store = 1
+output_number output_kind.Replace = 2
+output_number output_kind.Vote = 3
+output_number output_kind.Broadcast = 4
+output_number output_kind.Verify = 5
+output_number output_kind.Build = 6
+output_number output_kind.StopBuilding = 7
+output_number output_kind.Certify = 8
+output_number output_kind.Fetch = 9
+output_number output_kind.Finalized = 10
+output_number output_kind.Equivocated = 11
+output_number output_kind.ProposedTwice = 12
+output_number output_kind.Forget = 13
 
 -- a vote is on this subject, of this member
 abbrev pub IsVoteOf : FlatSubject → HostVote → Type 0
@@ -57,30 +76,35 @@ fetch_number fetch.Decision = 4
 
 -- what to fetch, and of whom
 pub record IsFetch (ask : Ask) (f : FlatOutput) : Type 0 where
-  pub kind : f.kind ≡ 9
+  pub kind : f.kind ≡ output_number output_kind.Fetch
   pub fetched : f.fetch ≡ fetch_number ask.kind
   pub view : f.view ≡ ask.view
   pub of : f.member ≡ index_number ask.of
 
 -- the flat form of work
 abbrev pub IsWork : HostWork → FlatOutput → Type 0
-IsWork (work.Broadcast c) f = (f.kind ≡ 4) × IsOf f.subject c
+IsWork (work.Broadcast c) f = (f.kind ≡ output_number output_kind.Broadcast) × IsOf f.subject c
 IsWork (work.Verify c q) f =
-    (f.kind ≡ 5) × IsContext f.context c × (f.subject.member ≡ c.leader.0) × IsFlatProposal f.subject.proposal q
-IsWork (work.Build c) f = (f.kind ≡ 6) × IsContext f.context c × (f.subject.member ≡ c.leader.0)
-IsWork (work.StopBuilding v) f = (f.kind ≡ 7) × (f.view ≡ v)
-IsWork (work.Certify q) f = (f.kind ≡ 8) × IsFlatProposal f.subject.proposal q
+    (f.kind ≡ output_number output_kind.Verify) × IsContext f.context c × (f.subject.member ≡ c.leader.index)
+    × IsFlatProposal f.subject.proposal q
+IsWork (work.Build c) f =
+    (f.kind ≡ output_number output_kind.Build) × IsContext f.context c × (f.subject.member ≡ c.leader.index)
+IsWork (work.StopBuilding v) f = (f.kind ≡ output_number output_kind.StopBuilding) × (f.view ≡ v)
+IsWork (work.Certify q) f = (f.kind ≡ output_number output_kind.Certify) × IsFlatProposal f.subject.proposal q
 IsWork (work.Fetch ask) f = IsFetch ask f
-IsWork (work.Equivocated v w) f = (f.kind ≡ 11) × IsVoteOf f.subject v × IsVoteOf f.other w
-IsWork (work.ProposedTwice v leader) f = (f.kind ≡ 12) × (f.view ≡ v) × (f.member ≡ leader.0)
-IsWork (work.Forget v) f = (f.kind ≡ 13) × (f.view ≡ v)
+IsWork (work.Equivocated v w) f =
+    (f.kind ≡ output_number output_kind.Equivocated) × IsVoteOf f.subject v × IsVoteOf f.other w
+IsWork (work.ProposedTwice v leader) f =
+    (f.kind ≡ output_number output_kind.ProposedTwice) × (f.view ≡ v) × (f.member ≡ leader.index)
+IsWork (work.Forget v) f = (f.kind ≡ output_number output_kind.Forget) × (f.view ≡ v)
 
 -- the flat form of an output, without its bytes and without what is stored beside a journal
 abbrev pub HasOutputOf : HostOutput → FlatOutput → Type 0
-HasOutputOf (output.Store entries) f = f.kind ≡ 1
-HasOutputOf (output.Replace entries beside) f = f.kind ≡ 2
-HasOutputOf (output.Vote v) f = (f.kind ≡ 3) × IsVoteOf f.subject v
-HasOutputOf (output.Finalized q) f = (f.kind ≡ 10) × IsFlatProposal f.subject.proposal q
+HasOutputOf (output.Store entries) f = f.kind ≡ output_number output_kind.Store
+HasOutputOf (output.Replace entries beside) f = f.kind ≡ output_number output_kind.Replace
+HasOutputOf (output.Vote v) f = (f.kind ≡ output_number output_kind.Vote) × IsVoteOf f.subject v
+HasOutputOf (output.Finalized q) f =
+    (f.kind ≡ output_number output_kind.Finalized) × IsFlatProposal f.subject.proposal q
 HasOutputOf (output.Work w) f = IsWork w f
 
 -- the bytes of a certificate

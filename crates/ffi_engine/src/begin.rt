@@ -60,7 +60,7 @@ impl HeldEngine {
             Err(error) => return Err(EngineNotStarted::Member(NotResumed::Settings(error))),
         };
         match Engine::start(alloc, start, options_in(options)) {
-            Ok(engine) => Ok(HeldEngine::new(alloc, engine, flat.draws)),
+            Ok(engine) => Ok(HeldEngine::new(alloc, engine, flat.namespace, flat.draws)),
             Err(error) => Err(engine_not_started(error)),
         }
     }
@@ -96,7 +96,7 @@ impl HeldEngine {
         };
         let options = options_in(options);
         match Engine::resume(alloc, from.start, from.stored, from.entries, options) {
-            Ok(engine) => Ok(HeldEngine::new(alloc, engine, flat.draws)),
+            Ok(engine) => Ok(HeldEngine::new(alloc, engine, flat.namespace, flat.draws)),
             Err(error) => Err(engine_not_started(error)),
         }
     }

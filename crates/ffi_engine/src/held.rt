@@ -4,20 +4,23 @@ ghost use Rattle.std.specs.Prelude.{◌≡◌, ◌++◌, ◌+◌, ◌-◌, ◌^�
 ghost use Rattle.ffi_member.specs.Journals.{framed};
 ghost use Rattle.ffi_member.specs.Resumption.{IsFlatStored};
 ghost use Rattle.ffi_member.specs.Statuses.{not_written_number};
+ghost use Rattle.ffi_engine.specs.declared.output_kind.OutputKind.TheVariants as output_kind;
+ghost use Rattle.ffi_engine.specs.Outputs.{output_number};
 
 use crate::flat::{FlatInput, FlatOutput, FlatTaken};
 use crate::input::{HostInput, input_of};
 use crate::input_kind::is_number_of_votes;
 use crate::output::{
-    HostEngine, HostOutput, NOTHING, NOTHING_STORED, flat_output, other_signature, output_of,
-    signature_in,
+    HostEngine, HostOutput, NOTHING_STORED, flat_output, other_signature, output_of, signature_in,
 };
+use crate::output_kind::OutputKind;
 use bytes::BytesMut;
 use engine_outbox::output::Output;
 use ffi_member::journal::{HostArtifact, NotWritten, write_entries};
 use ffi_member::numbers::{number_of_fault, number_of_flag};
 use ffi_member::statuses::number_of_not_written;
 use ffi_member::view_types::FlatStored;
+use ffi_scheme::scheme::Namespace;
 use simplex_member::member::Stored;
 use simplex_types::types::Fault;
 use std::alloc::Global;
@@ -33,6 +36,8 @@ pub const STATUS_NOT_PASSED: u32 = 7;
 pub struct HeldEngine {
     pub(crate) alloc: Global,
     pub(crate) engine: HostEngine,
+    /// The namespace of the engine's network.
+    namespace: Namespace,
     /// 1 if leaders are drawn from certificates: then no certificates are made of votes, and no votes are taken.
     draws: u32,
     /// Entries to store could not be written as frames, and nothing more is returned.
@@ -66,14 +71,21 @@ impl HeldEngine {
     ghost use Rattle.ffi_scheme.specs.declared.scheme.HostKey.{HostKey};
 
     /// Returns an engine that has returned no output yet.
-    pub(crate) fn new(alloc: Global, engine: HostEngine, draws: u32) -> HeldEngine
+    pub(crate) fn new(
+        alloc: Global,
+        engine: HostEngine,
+        namespace: Namespace,
+        draws: u32,
+    ) -> HeldEngine
         ensures engine { result.engine ≡ engine }
+        ensures namespace { result.namespace ≡ namespace }
         ensures draws { result.draws ≡ draws }
         ensures fresh { HasShownNothing result }
     {
         HeldEngine {
             alloc,
             engine,
+            namespace,
             draws,
             is_lost: false,
             last: None,
@@ -90,7 +102,7 @@ impl HeldEngine {
         if self.draws == 1 && is_number_of_votes(flat.kind) {
             return untaken(STATUS_NO_INPUT);
         }
-        match input_of(self.alloc, flat, bytes) {
+        match input_of(self.alloc, &self.namespace, flat, bytes) {
             Ok(Some(input)) => self.take(input, now),
             Ok(None) => untaken(STATUS_NO_INPUT),
             Err(_) => untaken(STATUS_NOT_PASSED),
@@ -144,8 +156,8 @@ impl HeldEngine {
         requires last { self.old.last ≡ None }
         requires going { self.old.is_lost ≡ false }
         ensures given { IsReturned output self.old.stored result self.new }
-        ensures rest { (self.new.engine ≡ self.old.engine) × (self.new.draws ≡ self.old.draws)
-            × (self.new.shown ≡ self.old.shown) }
+        ensures rest { (self.new.engine ≡ self.old.engine) × (self.new.namespace ≡ self.old.namespace)
+            × (self.new.draws ≡ self.old.draws) × (self.new.shown ≡ self.old.shown) }
     {
         match self.write(&output) {
             Ok(()) => self.keep(output),
@@ -157,8 +169,8 @@ impl HeldEngine {
         requires { self.old.last ≡ None }
         ensures nothing { IsNothing (not_written_number error) result self.new }
         ensures lost { self.new.is_lost ≡ true }
-        ensures rest { (self.new.engine ≡ self.old.engine) × (self.new.draws ≡ self.old.draws)
-            × (self.new.shown ≡ self.old.shown) }
+        ensures rest { (self.new.engine ≡ self.old.engine) × (self.new.namespace ≡ self.old.namespace)
+            × (self.new.draws ≡ self.old.draws) × (self.new.shown ≡ self.old.shown) }
     {
         self.is_lost = true;
         self.frames.clear();
@@ -324,10 +336,11 @@ pub(crate) fn untaken(status: u32) -> FlatTaken
 /// Returns the result that no output is ready.
 pub(crate) fn no_output(status: u32) -> FlatOutput
     ensures status { result.status ≡ status }
-    ensures nothing { (result.kind ≡ 0) × (result.bytes ≡ 0) × (result.other_bytes ≡ 0) }
+    ensures nothing { (result.kind ≡ output_number output_kind.Nothing) × (result.bytes ≡ 0)
+        × (result.other_bytes ≡ 0) }
 {
     FlatOutput {
         status,
-        ..output_of(NOTHING)
+        ..output_of(OutputKind::Nothing)
     }
 }

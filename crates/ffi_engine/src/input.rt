@@ -3,6 +3,7 @@
 ghost use Rattle.std.specs.Prelude.{◌≡◌, ◌≤◌, ◌<◌, IfOk, OnErr, MatchOption};
 ghost use Rattle.ffi_member.specs.Numbers.{flag_number, reason_number};
 ghost use Rattle.ffi_member.specs.Replies.{IsContext};
+ghost use Rattle.ffi_scheme.specs.Host.{host_key_in};
 ghost use Rattle.ffi_engine.specs.Inputs.{PassesBytes, HasKind, HasInputNumbers, IsCertificate, IsNoInput, IsNoKind, IsOn, IsPassedAs, IsVote};
 
 use crate::flat::{FlatInput, FlatSubject};
@@ -15,7 +16,7 @@ use ffi_member::flat_calls::{
 };
 use ffi_member::kinds::{CertificateKind, VoteKind, certificate_kind_of, vote_kind_of};
 use ffi_member::numbers::{flag_of, reason_of};
-use ffi_scheme::scheme::{HostDigest, HostKey, HostScheme, Order};
+use ffi_scheme::scheme::{HostDigest, HostKey, HostScheme, Namespace, Order};
 use simplex_engine::input::Input;
 use simplex_types::reasons::TimeoutReason;
 use simplex_types::types::{Certificate, Context, Participant, Subject, View};
@@ -24,16 +25,17 @@ use std::alloc::{AllocError, Global};
 /// An input of an engine of the host.
 pub type HostInput = Input<HostScheme, HostDigest>;
 
-/// Returns the input that a flat input represents, with the bytes of the signature or the certificate that it passes;
-/// `None` if one of its numbers is not valid.
+/// Returns the input of an engine in a network that a flat input represents, with the bytes of the signature or the
+/// certificate that it passes; `None` if one of its numbers is not valid.
 pub fn input_of(
     alloc: Global,
+    namespace: &Namespace,
     flat: &FlatInput,
     bytes: &[u8],
 ) -> Result<Option<HostInput>, AllocError>
     ensures wanting { OnErr result (PassesBytes flat.now) }
     ensures made { IfOk result (λ made. MatchOption made (IsNoInput flat.now)
-        (λ input. HasInputNumbers flat.now × IsPassedAs flat.now bytes.now input)) }
+        (λ input. HasInputNumbers flat.now × IsPassedAs namespace.now flat.now bytes.now input)) }
 {
     let Some(reason) = reason_of(flat.reason) else {
         return Ok(None);
@@ -41,11 +43,12 @@ pub fn input_of(
     let Some(success) = flag_of(flat.success) else {
         return Ok(None);
     };
-    input_of_kind(alloc, flat, reason, success, bytes)
+    input_of_kind(alloc, namespace, flat, reason, success, bytes)
 }
 
 fn input_of_kind(
     alloc: Global,
+    namespace: &Namespace,
     flat: &FlatInput,
     reason: TimeoutReason,
     success: bool,
@@ -55,7 +58,7 @@ fn input_of_kind(
     requires success { (flag_number success ≡ flat.now.success) × (flat.now.success < 2) }
     ensures wanting { OnErr result (PassesBytes flat.now) }
     ensures made { IfOk result (λ made. MatchOption made (IsNoInput flat.now)
-        (λ input. HasInputNumbers flat.now × IsPassedAs flat.now bytes.now input)) }
+        (λ input. HasInputNumbers flat.now × IsPassedAs namespace.now flat.now bytes.now input)) }
 {
     let Some(kind) = input_kind_of(flat.kind) else {
         return Ok(None);
@@ -76,7 +79,7 @@ fn input_of_kind(
         },
         InputKind::Verified => Some(Input::Verified(view, success)),
         InputKind::Built => Some(Input::Built(
-            context_of(&flat.context, flat.subject.member),
+            context_of(namespace, &flat.context, flat.subject.member),
             HostDigest::from(flat.subject.proposal.payload),
         )),
         InputKind::Certified => Some(Input::Certified(view, success)),
@@ -101,7 +104,7 @@ fn vote_of(
         subject,
         signer: Participant::new(flat.member),
         signature: Order {
-            key: HostKey(flat.member),
+            index: flat.member,
             text: Bytes::copy_from_slice(alloc, bytes)?,
         },
     }))
@@ -133,14 +136,17 @@ fn certificate_of(
     }))
 }
 
-/// Returns a context, with its leader.
-fn context_of(flat: &FlatContext, leader: u32) -> Context<HostDigest, HostKey>
+/// Returns a context in a network, with its leader.
+fn context_of(namespace: &Namespace, flat: &FlatContext, index: u32) -> Context<HostDigest, HostKey>
     ensures context { IsContext flat.now result }
-    ensures leader { result.leader.0 ≡ leader }
+    ensures leader { result.leader ≡ host_key_in namespace.now index }
 {
     Context {
         round: round_in(flat.round),
-        leader: HostKey(leader),
+        leader: HostKey {
+            namespace: *namespace,
+            index,
+        },
         parent: (View::new(flat.parent), HostDigest::from(flat.payload)),
     }
 }

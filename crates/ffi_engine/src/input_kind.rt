@@ -36,5 +36,5 @@ pub fn input_kind_of(number: u32) -> Option<InputKind>
 pub fn is_number_of_votes(number: u32) -> bool
     ensures { result ≡ (number == input_number kind.Vote) }
 {
-    number == 2
+    matches!(input_kind_of(number), Some(InputKind::Vote))
 }

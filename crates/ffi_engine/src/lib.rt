@@ -9,5 +9,6 @@ pub mod input;
 pub mod input_kind;
 pub mod null_handle;
 pub mod output;
+pub mod output_kind;
 pub mod send;
 pub mod views;

@@ -6,9 +6,10 @@ ghost use Rattle.ffi_member.specs.Calls.{IsFlatProposal};
 ghost use Rattle.ffi_member.specs.Numbers.{certificate_number, index_number};
 ghost use Rattle.ffi_member.specs.Replies.{IsContext};
 ghost use Rattle.ffi_engine.specs.Inputs.{IsOn};
-ghost use Rattle.ffi_engine.specs.Outputs.{HasOutputOf, IsOf, IsWork, certified_bytes, fetch_number, other_signature, first_bytes_in};
+ghost use Rattle.ffi_engine.specs.Outputs.{HasOutputOf, IsOf, IsWork, certified_bytes, fetch_number, other_signature, output_number, first_bytes_in};
 
 use crate::flat::{FlatOutput, FlatSubject};
+use crate::output_kind::{OutputKind, number_of_output};
 use engine_fetches::fetches::{Ask, FetchKind};
 use engine_outbox::output::{Output, Work};
 use engine_votes::votes::Vote;
@@ -34,35 +35,6 @@ pub type HostVote = Vote<HostDigest, Order>;
 /// An output of the host that is neither stored, nor a vote, nor final.
 pub type HostWork = Work<HostScheme, HostDigest>;
 
-/// The kinds of outputs, as the header numbers them.
-pub(crate) const NOTHING: u32 = 0;
-
-const STORE: u32 = 1;
-
-const REPLACE: u32 = 2;
-
-const VOTE: u32 = 3;
-
-const BROADCAST: u32 = 4;
-
-const VERIFY: u32 = 5;
-
-const BUILD: u32 = 6;
-
-const STOP_BUILDING: u32 = 7;
-
-const CERTIFY: u32 = 8;
-
-const ASK: u32 = 9;
-
-const FINAL: u32 = 10;
-
-const EQUIVOCATED: u32 = 11;
-
-const PROPOSED_TWICE: u32 = 12;
-
-const FORGET: u32 = 13;
-
 /// The number of a fetch of any certificate that decides a view: no certificate kind has it.
 const FETCH_DECISION: u32 = 4;
 
@@ -86,13 +58,13 @@ pub(crate) fn flat_output(output: &HostOutput) -> FlatOutput
     ensures status { result.status ≡ 0 }
 {
     match output {
-        Output::Store(_) => output_of(STORE),
-        Output::Replace(_, _) => output_of(REPLACE),
+        Output::Store(_) => output_of(OutputKind::Store),
+        Output::Replace(_, _) => output_of(OutputKind::Replace),
         Output::Vote(vote) => FlatOutput {
             subject: flat_vote(vote),
-            ..output_of(VOTE)
+            ..output_of(OutputKind::Vote)
         },
-        Output::Finalized(proposal) => of_proposal(FINAL, proposal),
+        Output::Finalized(proposal) => of_proposal(OutputKind::Finalized, proposal),
         Output::Work(work) => flat_work(work),
     }
 }
@@ -105,35 +77,39 @@ fn flat_work(work: &HostWork) -> FlatOutput
     match work {
         Work::Broadcast(certificate) => FlatOutput {
             subject: flat_certificate(certificate),
-            ..output_of(BROADCAST)
+            ..output_of(OutputKind::Broadcast)
         },
-        Work::Verify(context, proposal) => in_context(VERIFY, context, proposal_subject(proposal)),
-        Work::Build(context) => in_context(BUILD, context, NO_SUBJECT),
-        Work::StopBuilding(view) => of_view(STOP_BUILDING, view.get()),
-        Work::Certify(proposal) => of_proposal(CERTIFY, proposal),
+        Work::Verify(context, proposal) => in_context(
+            OutputKind::Verify,
+            context,
+            proposal_subject(proposal),
+        ),
+        Work::Build(context) => in_context(OutputKind::Build, context, NO_SUBJECT),
+        Work::StopBuilding(view) => of_view(OutputKind::StopBuilding, view.get()),
+        Work::Certify(proposal) => of_proposal(OutputKind::Certify, proposal),
         Work::Fetch(ask) => flat_fetch(*ask),
         Work::Equivocated(first, second) => FlatOutput {
             subject: flat_vote(first),
             other: flat_vote(second),
-            ..output_of(EQUIVOCATED)
+            ..output_of(OutputKind::Equivocated)
         },
         Work::ProposedTwice(view, leader) => FlatOutput {
-            member: leader.0,
-            ..of_view(PROPOSED_TWICE, view.get())
+            member: leader.index,
+            ..of_view(OutputKind::ProposedTwice, view.get())
         },
-        Work::Forget(view) => of_view(FORGET, view.get()),
+        Work::Forget(view) => of_view(OutputKind::Forget, view.get()),
     }
 }
 
 /// Returns an empty output of a kind.
-pub(crate) fn output_of(kind: u32) -> FlatOutput
-    ensures kind { result.kind ≡ kind }
+pub(crate) fn output_of(kind: OutputKind) -> FlatOutput
+    ensures kind { result.kind ≡ output_number kind }
     ensures status { result.status ≡ 0 }
     ensures bytes { (result.bytes ≡ 0) × (result.other_bytes ≡ 0) }
 {
     FlatOutput {
         status: 0,
-        kind,
+        kind: number_of_output(kind),
         fetch: 0,
         member: u32::MAX,
         view: 0,
@@ -160,8 +136,8 @@ pub(crate) const NOTHING_STORED: FlatStored = FlatStored {
     reserved: 0,
 };
 
-fn of_view(kind: u32, view: u64) -> FlatOutput
-    ensures kind { result.kind ≡ kind }
+fn of_view(kind: OutputKind, view: u64) -> FlatOutput
+    ensures kind { result.kind ≡ output_number kind }
     ensures status { result.status ≡ 0 }
     ensures view { result.view ≡ view }
 {
@@ -171,8 +147,8 @@ fn of_view(kind: u32, view: u64) -> FlatOutput
     }
 }
 
-fn of_proposal(kind: u32, proposal: &Proposal<HostDigest>) -> FlatOutput
-    ensures kind { result.kind ≡ kind }
+fn of_proposal(kind: OutputKind, proposal: &Proposal<HostDigest>) -> FlatOutput
+    ensures kind { result.kind ≡ output_number kind }
     ensures status { result.status ≡ 0 }
     ensures proposal { IsFlatProposal result.subject.proposal proposal.now }
 {
@@ -182,16 +158,20 @@ fn of_proposal(kind: u32, proposal: &Proposal<HostDigest>) -> FlatOutput
     }
 }
 
-fn in_context(kind: u32, context: &Context<HostDigest, HostKey>, subject: FlatSubject) -> FlatOutput
-    ensures kind { result.kind ≡ kind }
+fn in_context(
+    kind: OutputKind,
+    context: &Context<HostDigest, HostKey>,
+    subject: FlatSubject,
+) -> FlatOutput
+    ensures kind { result.kind ≡ output_number kind }
     ensures status { result.status ≡ 0 }
     ensures context { IsContext result.context context.now }
-    ensures leader { result.subject.member ≡ context.now.leader.0 }
+    ensures leader { result.subject.member ≡ context.now.leader.index }
     ensures proposal { result.subject.proposal ≡ subject.proposal }
 {
     FlatOutput {
         subject: FlatSubject {
-            member: context.leader.0,
+            member: context.leader.index,
             ..subject
         },
         context: flat_context(context),
@@ -206,7 +186,7 @@ fn flat_fetch(ask: Ask) -> FlatOutput
     FlatOutput {
         fetch: number_of_fetch(ask.kind),
         member: number_of_peer(ask.of),
-        ..of_view(ASK, ask.view.get())
+        ..of_view(OutputKind::Fetch, ask.view.get())
     }
 }
 

@@ -30,9 +30,9 @@ use std::alloc::Global;
 /// Returns the version, which rises when a struct, a number or a function here changes its meaning.
 #[unsafe(no_mangle)]
 pub extern "C" fn simplex_version() -> u32
-    ensures { result ≡ 4 }
+    ensures { result ≡ 5 }
 {
-    4
+    5
 }
 
 /// Starts a member that never voted, and writes its handle. Returns 0, or why there is no member; then it writes
@@ -287,12 +287,17 @@ fn end(member: RawBox<Held, Global>) {
     let _member = member.into_box();
 }
 
-/// Returns the text that a vote signs.
+/// Returns the text that a vote signs in the network of a namespace.
 #[unsafe(no_mangle)]
-pub extern "C" fn simplex_subject(alloc: Global, kind: u32, proposal: &FlatProposal) -> FlatText
-    ensures { IsText kind proposal.now result }
+pub extern "C" fn simplex_subject(
+    alloc: Global,
+    namespace: &[u8; 32],
+    kind: u32,
+    proposal: &FlatProposal,
+) -> FlatText
+    ensures { IsText namespace.now kind proposal.now result }
 {
-    subject_text(alloc, kind, proposal)
+    subject_text(alloc, namespace, kind, proposal)
 }
 
 /// Returns how many whole frames a journal has, and how it ends.

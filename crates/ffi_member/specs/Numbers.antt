@@ -11,10 +11,16 @@ use Rattle.simplex_types.specs.declared.types.fault.Fault.TheVariants as fault
 use Rattle.ffi_scheme.specs.declared.scheme.HostKey.{HostKey}
 use Rattle.ffi_member.specs.declared.call_kind.CallKind.{CallKind}
 use Rattle.ffi_member.specs.declared.call_kind.CallKind.TheVariants as kind
+use Rattle.ffi_member.specs.declared.effect_kind.EffectKind.{EffectKind}
+use Rattle.ffi_member.specs.declared.effect_kind.EffectKind.TheVariants as effect
 use Rattle.ffi_member.specs.declared.kinds.CertificateKind.{CertificateKind}
 use Rattle.ffi_member.specs.declared.kinds.CertificateKind.TheVariants as certificate
 use Rattle.ffi_member.specs.declared.kinds.VoteKind.{VoteKind}
 use Rattle.ffi_member.specs.declared.kinds.VoteKind.TheVariants as vote
+use Rattle.ffi_member.specs.declared.list_kind.ListKind.{ListKind}
+use Rattle.ffi_member.specs.declared.list_kind.ListKind.TheVariants as list
+use Rattle.ffi_member.specs.declared.reply_kind.ReplyKind.{ReplyKind}
+use Rattle.ffi_member.specs.declared.reply_kind.ReplyKind.TheVariants as reply
 
 -- the number of a kind of calls
 abbrev pub kind_number : CallKind → ℕ
@@ -69,6 +75,50 @@ IsKind kind = (0 < kind) × (kind < 4)
 abbrev pub IsNoKind : ℕ → Type 0
 IsNoKind kind = (kind ≡ 0) ⊎ (4 ≤ kind)
 
+-- the number of a verdict among the inputs of a resolver: a certificate has its kind's number there
+abbrev pub verdict_number : ℕ
+verdict_number = 4
+
+-- the number of a kind of a resolver's effects
+abbrev pub effect_number : EffectKind → ℕ
+effect_number effect.Fetch = 1
+effect_number effect.Settled = 2
+effect_number effect.Finalized = 3
+effect_number effect.Raised = 4
+
+-- the number of a reply's kind
+abbrev pub reply_number : ReplyKind → ℕ
+reply_number reply.Unit = 0
+reply_number reply.Flag = 1
+reply_number reply.Added = 2
+reply_number reply.AddedNullification = 3
+reply_number reply.Request = 4
+reply_number reply.Work = 5
+reply_number reply.Candidates = 6
+reply_number reply.Certified = 7
+reply_number reply.Notarize = 8
+reply_number reply.Nullify = 9
+reply_number reply.Finalize = 10
+reply_number reply.Certificate = 11
+reply_number reply.Timeout = 12
+reply_number reply.Views = 13
+reply_number reply.Released = 14
+reply_number reply.Triggered = 15
+reply_number reply.Abandoned = 16
+reply_number reply.Restarted = 17
+
+-- the number of a kind of a reply's lists
+abbrev pub list_number : ListKind → ℕ
+list_number list.Proposals = 1
+list_number list.Fetches = 2
+list_number list.Dropped = 3
+
+abbrev pub IsListKind : ℕ → Type 0
+IsListKind number = (0 < number) × (number < 4)
+
+abbrev pub IsNoListKind : ℕ → Type 0
+IsNoListKind number = (number ≡ 0) ⊎ (4 ≤ number)
+
 -- the number of a reason for a timeout
 abbrev pub reason_number : TimeoutReason → ℕ
 reason_number reason.Retry = 0
@@ -107,7 +157,7 @@ fault_status fault.TimeOverflow = 4
 -- the index of a member, or the greatest number of 32 bits if there is none
 abbrev pub member_number : Option HostKey → ℕ
 member_number None = 4294967295
-member_number (Some key) = key.0
+member_number (Some key) = key.index
 
 -- the index of a member, or the greatest number of 32 bits if there is none
 abbrev pub index_number : Option ℕ → ℕ

@@ -1,5 +1,5 @@
 -- What a flat reply represents.
-use Rattle.std.specs.Prelude.{◌≡◌, ℕ, Bool, length, Option, Some, None}
+use Rattle.std.specs.Prelude.{◌≡◌, Bool, length, Option, Some, None}
 use Rattle.simplex_types.specs.Certificates.{ArtifactFacts, NotarizeVote, NullifyVote, FinalizeVote, CertificateFacts, Notarized, Nullified, Finalized, ProposalFacts}
 use Rattle.simplex_types.specs.declared.types.messages.Context.{Context}
 use Rattle.simplex_types.specs.declared.reasons.HandoffAbandonedReason.{HandoffAbandonedReason}
@@ -15,11 +15,13 @@ use Rattle.ffi_member.specs.declared.flat.FlatContext.{FlatContext}
 use Rattle.ffi_member.specs.declared.flat.FlatReply.{FlatReply}
 use Rattle.ffi_member.specs.Calls.{IsFlatProposal, flat_round}
 use Rattle.ffi_member.specs.declared.kinds.CertificateKind.TheVariants as kind
-use Rattle.ffi_member.specs.Numbers.{abandoned_number, certificate_number, fault_status, flag_number, missing_number, member_number, reason_number}
+use Rattle.ffi_member.specs.declared.reply_kind.ReplyKind.{ReplyKind}
+use Rattle.ffi_member.specs.declared.reply_kind.ReplyKind.TheVariants as reply_kind
+use Rattle.ffi_member.specs.Numbers.{abandoned_number, certificate_number, fault_status, flag_number, missing_number, member_number, reason_number, reply_number}
 
 -- the call returned a reply of this kind
-abbrev pub HasAnswer : ℕ → FlatReply → Type 0
-HasAnswer kind f = (f.status ≡ 0) × (f.kind ≡ kind)
+abbrev pub HasAnswer : ReplyKind → FlatReply → Type 0
+HasAnswer kind f = (f.status ≡ 0) × (f.kind ≡ reply_number kind)
 
 -- a context has these numbers and bytes
 pub record IsContext (f : FlatContext) (c : Context (BytesDigest 32) HostKey) : Type 0 where
@@ -30,15 +32,16 @@ pub record IsContext (f : FlatContext) (c : Context (BytesDigest 32) HostKey) : 
 -- a request to build: 1 on a certified parent, 2 as a handoff
 abbrev pub HasRequest : Option (ProposalRequest (BytesDigest 32) HostKey) → FlatReply → Type 0
 HasRequest None f = f.has ≡ 0
-HasRequest (Some (Propose c)) f = (f.has ≡ 1) × (f.member ≡ c.leader.0) × IsContext f.context c
-HasRequest (Some (Prepare c)) f = (f.has ≡ 2) × (f.member ≡ c.leader.0) × IsContext f.context c
+HasRequest (Some (Propose c)) f = (f.has ≡ 1) × (f.member ≡ c.leader.index) × IsContext f.context c
+HasRequest (Some (Prepare c)) f = (f.has ≡ 2) × (f.member ≡ c.leader.index) × IsContext f.context c
 
 -- what is to be verified: 1 for a proposal, 2 if a certificate of its ancestry is missing, of this kind
 abbrev pub HasWork : Verify (BytesDigest 32) HostKey → FlatReply → Type 0
 HasWork Wait f = f.has ≡ 0
-HasWork (Ready c q) f = (f.has ≡ 1) × (f.member ≡ c.leader.0) × IsContext f.context c × IsFlatProposal f.proposal q
+HasWork (Ready c q) f = (f.has ≡ 1) × (f.member ≡ c.leader.index) × IsContext f.context c × IsFlatProposal f.proposal q
 HasWork (Resolve waiting view kind leader) f =
-    (f.has ≡ 2) × (f.reason ≡ missing_number kind) × (f.member ≡ leader.0) × (f.waiting ≡ waiting) × (f.lacking ≡ view)
+    (f.has ≡ 2) × (f.reason ≡ missing_number kind) × (f.member ≡ leader.index) × (f.waiting ≡ waiting)
+    × (f.lacking ≡ view)
 
 -- the notarization of a verdict's view, if there is one
 abbrev pub HasNotarization : Option (ProposalFacts (BytesDigest 32)) → FlatReply → Type 0
@@ -81,28 +84,28 @@ HasReason (Some reason) f = (f.has ≡ 1) × (f.reason ≡ abandoned_number reas
 
 -- the flat form of a reply, without what has no fixed size
 abbrev pub RepresentsReply : FlatReply → ReplyFacts HostKey (BytesDigest 32) → Type 0
-RepresentsReply f Done = HasAnswer 0 f
-RepresentsReply f (Answered taken) = HasAnswer 1 f × (f.flag ≡ flag_number taken)
+RepresentsReply f Done = HasAnswer reply_kind.Unit f
+RepresentsReply f (Answered taken) = HasAnswer reply_kind.Flag f × (f.flag ≡ flag_number taken)
 RepresentsReply f (Added newly leader) =
-    HasAnswer 2 f × (f.flag ≡ flag_number newly) × (f.member ≡ member_number leader)
-RepresentsReply f (AddedNullification newly) = HasAnswer 3 f × (f.flag ≡ flag_number newly)
-RepresentsReply f (Requested request) = HasAnswer 4 f × HasRequest request f
-RepresentsReply f (Standing work) = HasAnswer 5 f × HasWork work f
+    HasAnswer reply_kind.Added f × (f.flag ≡ flag_number newly) × (f.member ≡ member_number leader)
+RepresentsReply f (AddedNullification newly) = HasAnswer reply_kind.AddedNullification f × (f.flag ≡ flag_number newly)
+RepresentsReply f (Requested request) = HasAnswer reply_kind.Request f × HasRequest request f
+RepresentsReply f (Standing work) = HasAnswer reply_kind.Work f × HasWork work f
 RepresentsReply f (Candidates proposals fetches) =
-    HasAnswer 6 f × (f.count ≡ length proposals) × (f.fetches ≡ length fetches)
+    HasAnswer reply_kind.Candidates f × (f.count ≡ length proposals) × (f.fetches ≡ length fetches)
 RepresentsReply f (Judged success notarization) =
-    HasAnswer 7 f × (f.flag ≡ flag_number success) × HasNotarization notarization f
-RepresentsReply f (Notarize vote) = HasAnswer 8 f × HasNotarize vote f
-RepresentsReply f (Nullify vote) = HasAnswer 9 f × HasNullify vote f
-RepresentsReply f (Finalize vote) = HasAnswer 10 f × HasFinalize vote f
-RepresentsReply f (Returned certificate) = HasAnswer 11 f × HasCertificate certificate f
+    HasAnswer reply_kind.Certified f × (f.flag ≡ flag_number success) × HasNotarization notarization f
+RepresentsReply f (Notarize vote) = HasAnswer reply_kind.Notarize f × HasNotarize vote f
+RepresentsReply f (Nullify vote) = HasAnswer reply_kind.Nullify f × HasNullify vote f
+RepresentsReply f (Finalize vote) = HasAnswer reply_kind.Finalize f × HasFinalize vote f
+RepresentsReply f (Returned certificate) = HasAnswer reply_kind.Certificate f × HasCertificate certificate f
 RepresentsReply f (TimesOut (Some (moment, reason))) =
-    HasAnswer 12 f × (f.moment ≡ moment) × (f.reason ≡ reason_number reason)
-RepresentsReply f (Dropped views) = HasAnswer 13 f × (f.count ≡ length views)
-RepresentsReply f (Released was_open) = HasAnswer 14 f × (f.flag ≡ flag_number was_open)
-RepresentsReply f (Triggered latched) = HasAnswer 15 f × (f.flag ≡ flag_number latched)
-RepresentsReply f (Abandoned reason) = HasAnswer 16 f × HasReason reason f
-RepresentsReply f Restarted = HasAnswer 17 f
+    HasAnswer reply_kind.Timeout f × (f.moment ≡ moment) × (f.reason ≡ reason_number reason)
+RepresentsReply f (Dropped views) = HasAnswer reply_kind.Views f × (f.count ≡ length views)
+RepresentsReply f (Released was_open) = HasAnswer reply_kind.Released f × (f.flag ≡ flag_number was_open)
+RepresentsReply f (Triggered latched) = HasAnswer reply_kind.Triggered f × (f.flag ≡ flag_number latched)
+RepresentsReply f (Abandoned reason) = HasAnswer reply_kind.Abandoned f × HasReason reason f
+RepresentsReply f Restarted = HasAnswer reply_kind.Restarted f
 RepresentsReply f (Refused fault) = f.status ≡ fault_status fault
 RepresentsReply f NotAllowed = f.status ≡ 5
 RepresentsReply _ _ = ⊥

@@ -1,5 +1,5 @@
 -- How a resolver behind a handle starts, its inputs and its results.
-use Rattle.std.specs.Prelude.{◌≡◌, ◌⊎◌, ◌<◌, ◌≤◌, ◌^◌, ◌==◌, max, if◌then◌else◌, ℕ, zero, suc, Bool, true, false, List, [], Option, Some, None, length, slice_get}
+use Rattle.std.specs.Prelude.{◌≡◌, ◌⊎◌, ◌<◌, ◌≤◌, ◌^◌, ◌==◌, max, if◌then◌else◌, ℕ, Bool, true, false, List, [], Option, Some, None, length, slice_get}
 use Rattle.std.specs.FinMap as map
 use Rattle.std.specs.Int.{w64, to_be_bytes}
 use Rattle.std.specs.List.{flat_map}
@@ -23,7 +23,9 @@ use Rattle.simplex_resolver.specs.Repair.{has}
 use Rattle.simplex_resolver.specs.ReplayErrors.{IsDue}
 use Rattle.simplex_resolver.specs.Steps.{Call, update, verdict}
 use Rattle.simplex_resolver.specs.CallHistory.{LawfulResolverFacts, HasReceivedCalls, IsLeftBy, IsMade, ReceivesMore}
+use Rattle.ffi_member.specs.declared.effect_kind.EffectKind.TheVariants as effect_kind
 use Rattle.ffi_member.specs.declared.journal.NotRead.TheVariants as not_read
+use Rattle.ffi_member.specs.declared.kinds.CertificateKind.TheVariants as certificate
 use Rattle.ffi_member.specs.declared.resolver_types.FlatEffect.{FlatEffect}
 use Rattle.ffi_member.specs.declared.resolver_types.FlatEffects.{FlatEffects}
 use Rattle.ffi_member.specs.declared.resolver_types.FlatOutstanding.{FlatOutstanding}
@@ -35,7 +37,7 @@ use Rattle.ffi_member.specs.declared.resolver_calls.NotReplayed.{NotReplayed}
 use Rattle.ffi_member.specs.declared.resolver_calls.NotReplayed.TheVariants as not_replayed
 use Rattle.ffi_member.specs.Calls.{IsFlatProposal, flat_round}
 use Rattle.ffi_member.specs.Journals.{HostArtifact, IsNotRead, framed}
-use Rattle.ffi_member.specs.Numbers.{fault_status, flag_number, missing_number}
+use Rattle.ffi_member.specs.Numbers.{certificate_number, effect_number, fault_status, flag_number, missing_number, verdict_number}
 
 -- a resolver that received the entries whose frames these bytes are, and then the end of its replay; nothing is to be
 -- read yet
@@ -71,13 +73,15 @@ not_replayed_number (not_replayed.Replay replay.ZeroView) = 42
 not_replayed_number (not_replayed.Replay replay.ViewTooLarge) = 43
 not_replayed_number (not_replayed.Replay replay.VerdictWithoutNotarization) = 46
 
--- a certificate of a kind has these numbers and bytes
-abbrev pub IsFlatCertificate : ℕ → FlatResolverReply → List ℕ → CertificateFacts (BytesDigest 32) → Type 0
-IsFlatCertificate (suc zero) f bytes (Notarized c) = IsFlatProposal f.proposal c.proposal × (c.bytes ≡ bytes)
-IsFlatCertificate (suc (suc zero)) f bytes (Nullified c) = (c.round ≡ flat_round f.proposal.round) × (c.bytes ≡ bytes)
-IsFlatCertificate (suc (suc (suc zero))) f bytes (Finalized c) =
-    IsFlatProposal f.proposal c.proposal × (c.bytes ≡ bytes)
-IsFlatCertificate _ f bytes c = ⊥
+-- a certificate has these numbers and bytes
+abbrev pub IsFlatCertificate : FlatResolverReply → List ℕ → CertificateFacts (BytesDigest 32) → Type 0
+IsFlatCertificate f bytes (Notarized c) =
+    (f.kind ≡ certificate_number certificate.Notarization) × IsFlatProposal f.proposal c.proposal × (c.bytes ≡ bytes)
+IsFlatCertificate f bytes (Nullified c) =
+    (f.kind ≡ certificate_number certificate.Nullification) × (c.round ≡ flat_round f.proposal.round)
+    × (c.bytes ≡ bytes)
+IsFlatCertificate f bytes (Finalized c) =
+    (f.kind ≡ certificate_number certificate.Finalization) × IsFlatProposal f.proposal c.proposal × (c.bytes ≡ bytes)
 
 -- a verdict on a notarization with these numbers and bytes
 pub record IsJudged (f : FlatResolverReply) (bytes : List ℕ) (call : Call) : Type 0 where
@@ -91,13 +95,15 @@ pub record IsJudged (f : FlatResolverReply) (bytes : List ℕ) (call : Call) : T
 -- the input: a certificate, or a verdict
 abbrev pub IsResolverCall : FlatResolverReply → List ℕ → Call → Type 0
 IsResolverCall f bytes call =
-    ((c : CertificateFacts (BytesDigest 32)) × IsFlatCertificate f.kind f bytes c
+    ((c : CertificateFacts (BytesDigest 32)) × IsFlatCertificate f bytes c
     × (call ≡ update (bytes_in_digest {n = 32}) c))
-    ⊎ ((f.kind ≡ 4) × IsJudged f bytes call)
+    ⊎ ((f.kind ≡ verdict_number) × IsJudged f bytes call)
 
 -- the highest view that is named: of a nullification its own, else the greater of its own and its parent's
 abbrev pub highest_passed : FlatResolverReply → ℕ
-highest_passed f = if f.kind == 2 then f.proposal.round.view else max f.proposal.round.view f.proposal.parent
+highest_passed f =
+    if f.kind == certificate_number certificate.Nullification then f.proposal.round.view
+    else max f.proposal.round.view f.proposal.parent
 
 -- the resolver receives it, and these are its effects
 pub record HasEffects (old : HeldResolver) (highest : ℕ) (call : Call) (r : FlatEffects)
@@ -159,11 +165,11 @@ why_number why.CertificationFailed = 1
 -- an effect has these numbers
 abbrev pub IsEffect : Effect → FlatEffect → Type 0
 IsEffect (effect.Fetch view cause reason) f =
-    (f.kind ≡ 1) × (f.view ≡ view) × (f.cause ≡ cause) × (f.reason ≡ why_number reason)
+    (f.kind ≡ effect_number effect_kind.Fetch) × (f.view ≡ view) × (f.cause ≡ cause) × (f.reason ≡ why_number reason)
 IsEffect (effect.Settled kind start end) f =
-    (f.kind ≡ 2) × (f.view ≡ start) × (f.end ≡ end) × (f.reason ≡ missing_number kind)
-IsEffect (effect.Finalized view) f = (f.kind ≡ 3) × (f.view ≡ view)
-IsEffect (effect.Raised view) f = (f.kind ≡ 4) × (f.view ≡ view)
+    (f.kind ≡ effect_number effect_kind.Settled) × (f.view ≡ start) × (f.end ≡ end) × (f.reason ≡ missing_number kind)
+IsEffect (effect.Finalized view) f = (f.kind ≡ effect_number effect_kind.Finalized) × (f.view ≡ view)
+IsEffect (effect.Raised view) f = (f.kind ≡ effect_number effect_kind.Raised) × (f.view ≡ view)
 
 -- the effect at an index, or none
 abbrev pub IsEffectAt : List Effect → ℕ → FlatEffect → Type 0

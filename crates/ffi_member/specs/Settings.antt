@@ -22,7 +22,7 @@ use Rattle.ffi_scheme.specs.declared.scheme.HostKey.{HostKey}
 use Rattle.ffi_scheme.specs.declared.scheme.HostScheme.{HostScheme}
 use Rattle.ffi_scheme.specs.declared.scheme.Order.{Order}
 use Rattle.ffi_scheme.specs.HostLeaders.{host_members, host_terms, table_of, is_early}
-use Rattle.ffi_scheme.specs.Host.{certificate_bytes, host_signer, host_keys, host_keys_below}
+use Rattle.ffi_scheme.specs.Host.{certificate_bytes, host_signer, host_keys, host_keys_in}
 use Rattle.ffi_member.specs.declared.flat.FlatSettings.{FlatSettings}
 use Rattle.ffi_member.specs.declared.settings.SettingsError.{SettingsError}
 use Rattle.ffi_member.specs.declared.settings.SettingsError.TheVariants as error
@@ -75,7 +75,8 @@ IsSkip f (skip.Enabled timeout (budget.Fixed terms)) =
 -- the settings have these numbers and bytes
 pub record IsConfig (f : FlatSettings) (bytes : List ℕ) (c : HostConfig) : Type 0 where
   pub signer : IsSigner f (host_signer c.scheme)
-  pub keys : host_keys c.scheme ≡ host_keys_below f.members
+  -- the members' keys are those of this network: so each text to sign begins with its namespace
+  pub keys : host_keys c.scheme ≡ host_keys_in f.namespace f.members
   pub epoch : c.epoch ≡ f.epoch
   pub floor : IsFloor f bytes c.floor
   pub leader_timeout : c.leader_timeout ≡ f.leader_timeout

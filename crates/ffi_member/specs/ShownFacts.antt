@@ -3,7 +3,6 @@ use Rattle.std.specs.Prelude.{◌≡◌, ◌⊎◌, ◌≤◌, slice_get, ℕ, z
 use Rattle.std.specs.List.{All}
 use Rattle.std.specs.Option.{IsSome}
 use Rattle.simplex_types.specs.Certificates.{CertificateFacts, Notarized, Nullified, Finalized}
-use Rattle.simplex_types.specs.Encoding.{subject_bytes}
 use Rattle.simplex_types.specs.declared.types.messages.Proposal.{Proposal}
 use Rattle.simplex_types.specs.declared.types.messages.Subject.{Subject}
 use Rattle.simplex_types.specs.declared.types.messages.Subject.TheVariants as subject
@@ -16,7 +15,7 @@ use Rattle.simplex_codec.specs.Digests.{bytes_in_digest}
 use Rattle.ffi_scheme.specs.declared.elector.HostElector.{HostElector}
 use Rattle.ffi_scheme.specs.declared.scheme.HostKey.{HostKey}
 use Rattle.ffi_scheme.specs.declared.scheme.Order.{Order}
-use Rattle.ffi_scheme.specs.Host.{certificate_bytes}
+use Rattle.ffi_scheme.specs.Host.{certificate_bytes, signed_text}
 use Rattle.simplex_record.specs.Entries.{entries_of}
 use Rattle.simplex_record.specs.Votes.{votes_of}
 use Rattle.simplex_member.specs.Journal.{stored_of, votes_since}
@@ -32,9 +31,12 @@ use Rattle.ffi_member.specs.declared.view_types.FlatText.{FlatText}
 use Rattle.ffi_member.specs.declared.view_types.FlatView.{FlatView}
 use Rattle.ffi_member.specs.Calls.{IsFlatProposal, flat_round}
 use Rattle.ffi_member.specs.Journals.{FitsFrame, HasTooLong, HostArtifact, framed}
+use Rattle.ffi_member.specs.declared.kinds.CertificateKind.{CertificateKind}
 use Rattle.ffi_member.specs.declared.kinds.CertificateKind.TheVariants as certificate
 use Rattle.ffi_member.specs.declared.kinds.VoteKind.TheVariants as vote
-use Rattle.ffi_member.specs.Numbers.{IsKind, IsNoKind, certificate_number, flag_number, index_number, vote_number}
+use Rattle.ffi_member.specs.declared.list_kind.ListKind.{ListKind}
+use Rattle.ffi_member.specs.declared.list_kind.ListKind.TheVariants as list
+use Rattle.ffi_member.specs.Numbers.{IsNoKind, IsNoListKind, certificate_number, flag_number, index_number, list_number, vote_number}
 use Rattle.ffi_member.specs.Resumption.{IsFlatStored}
 use Rattle.ffi_member.specs.MemberHandles.{HostReply, IsFetchAt, IsProposalAt, dropped_in, fetches_in, proposals_in, reply_bytes}
 
@@ -112,11 +114,10 @@ abbrev pub IsView : HostFacts → ℕ → FlatView → Type 0
 IsView m view f = IsViewIn m.life view f
 
 -- a view's certificate of a kind, if there is one
-abbrev pub certificate_of_kind : ℕ → HostState → ℕ → Option (CertificateFacts (BytesDigest 32))
-certificate_of_kind (suc zero) x view = option_map Notarized (notarization_of x view)
-certificate_of_kind (suc (suc zero)) x view = option_map Nullified (nullification_of x view)
-certificate_of_kind (suc (suc (suc zero))) x view = option_map Finalized (finalization_of x view)
-certificate_of_kind _ x view = None
+abbrev pub certificate_of_kind : CertificateKind → HostState → ℕ → Option (CertificateFacts (BytesDigest 32))
+certificate_of_kind certificate.Notarization x view = option_map Notarized (notarization_of x view)
+certificate_of_kind certificate.Nullification x view = option_map Nullified (nullification_of x view)
+certificate_of_kind certificate.Finalization x view = option_map Finalized (finalization_of x view)
 
 -- a certificate's subject, with its bytes
 abbrev pub HasFound : Option (CertificateFacts (BytesDigest 32)) → FlatFound → List ℕ → Type 0
@@ -142,14 +143,15 @@ abbrev pub IsFoundOr : Option (CertificateFacts (BytesDigest 32)) → FlatFound 
 IsFoundOr found r shown = ((r.status ≡ 0) × HasFound found r shown) ⊎ (IsSome found × IsUnfound 1 r shown)
 
 -- the same in a state; a member that has failed has none
-abbrev pub IsFoundIn : Option HostState → ℕ → ℕ → FlatFound → List ℕ → Type 0
+abbrev pub IsFoundIn : Option HostState → CertificateKind → ℕ → FlatFound → List ℕ → Type 0
 IsFoundIn None kind view r shown = IsUnfound 2 r shown
 IsFoundIn (Some x) kind view r shown = IsFoundOr (certificate_of_kind kind x view) r shown
 
 -- how a view's certificate is asked for: no certificate has the kind, or it is looked for
 abbrev pub HasAnsweredIn : Option HostState → ℕ → ℕ → FlatFound → List ℕ → Type 0
-HasAnsweredIn state kind view r shown =
-    (¬ (IsKind kind) × IsUnfound 6 r shown) ⊎ (IsKind kind × IsFoundIn state kind view r shown)
+HasAnsweredIn state number view r shown =
+    (IsNoKind number × IsUnfound 6 r shown)
+    ⊎ ((kind : CertificateKind) × (certificate_number kind ≡ number) × IsFoundIn state kind view r shown)
 
 -- how a view's certificate is loaded
 pub record IsFound (old : Held) (kind view : ℕ) (r : FlatFound) (new : Held) : Type 0 where
@@ -161,15 +163,20 @@ pub record IsFound (old : Held) (kind view : ℕ) (r : FlatFound) (new : Held) :
 abbrev pub IsItemOr : FlatItem → Type 0 → Type 0 → Type 0
 IsItemOr r none is = (r.status ≡ 0) × (((r.has ≡ 0) × none) ⊎ ((r.has ≡ 1) × is))
 
--- an item of a reply's lists
-abbrev pub IsItem : HostReply → ℕ → ℕ → FlatItem → Type 0
-IsItem reply (suc zero) index r =
+-- an item of a reply's list of a kind
+abbrev pub IsItemOf : HostReply → ListKind → ℕ → FlatItem → Type 0
+IsItemOf reply list.Proposals index r =
     IsItemOr r (length (proposals_in reply) ≤ index) (IsProposalAt (proposals_in reply) index r.proposal)
-IsItem reply (suc (suc zero)) index r =
+IsItemOf reply list.Fetches index r =
     IsItemOr r (length (fetches_in reply) ≤ index) (IsFetchAt (fetches_in reply) index r.fetch)
-IsItem reply (suc (suc (suc zero))) index r =
+IsItemOf reply list.Dropped index r =
     IsItemOr r (length (dropped_in reply) ≤ index) (slice_get (dropped_in reply) index ≡ Some r.view)
-IsItem reply _ index r = (r.status ≡ 0) × (r.has ≡ 0)
+
+-- an item of a reply's lists; none, if no list's kind has the number
+abbrev pub IsItem : HostReply → ℕ → ℕ → FlatItem → Type 0
+IsItem reply number index r =
+    (IsNoListKind number × (r.status ≡ 0) × (r.has ≡ 0))
+    ⊎ ((kind : ListKind) × (list_number kind ≡ number) × IsItemOf reply kind index r)
 
 -- a part of bytes, from one on: as many as fit
 pub record IsChunk (bytes : List ℕ) (from : ℕ) (r : FlatChunk) : Type 0 where
@@ -192,8 +199,8 @@ IsSubject kind f (subject.Notarize q) = (kind ≡ vote_number vote.Notarize) × 
 IsSubject kind f (subject.Nullify round) = (kind ≡ vote_number vote.Nullify) × (round ≡ flat_round f.round)
 IsSubject kind f (subject.Finalize q) = (kind ≡ vote_number vote.Finalize) × IsFlatProposal f q
 
--- the text that a vote of a kind signs; nothing, if no vote has the kind
-abbrev pub IsText : ℕ → FlatProposal → FlatText → Type 0
-IsText kind f r =
+-- the text that a vote of a kind signs in the network of a namespace; nothing, if no vote has the kind
+abbrev pub IsText : List ℕ → ℕ → FlatProposal → FlatText → Type 0
+IsText namespace kind f r =
     ((r.status ≡ 6) × IsNoKind kind)
-    ⊎ ((s : Subject (BytesDigest 32)) × IsSubject kind f s × HasText (subject_bytes bytes_in_digest s) r)
+    ⊎ ((s : Subject (BytesDigest 32)) × IsSubject kind f s × HasText (signed_text bytes_in_digest namespace s) r)

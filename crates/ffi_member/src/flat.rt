@@ -125,4 +125,6 @@ pub struct FlatSettings {
     pub skip_budget: u64,
     /// The finalized proposal; of genesis only the payload.
     pub floor: FlatProposal,
+    /// The bytes that distinguish the network: each text to sign begins with them.
+    pub namespace: [u8; 32],
 }

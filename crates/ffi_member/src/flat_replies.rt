@@ -7,6 +7,7 @@ ghost use Rattle.ffi_scheme.specs.Host.{certificate_bytes};
 ghost use Rattle.simplex_member.specs.Calls.{reply_facts, reply_notarize, reply_nullify, reply_finalize};
 ghost use Rattle.ffi_member.specs.Numbers.{abandoned_number, fault_status, flag_number, member_number, reason_number};
 ghost use Rattle.ffi_member.specs.Calls.{IsFlatProposal, flat_round};
+ghost use Rattle.ffi_member.specs.declared.reply_kind.ReplyKind.TheVariants as reply_kind;
 ghost use Rattle.ffi_member.specs.Replies.{HasAnswer, HasCertificate, HasFinalize, HasNotarize, HasNullify, HasRequest, HasWork, IsContext, RepresentsReply};
 
 use crate::flat::{FlatContext, FlatProposal, FlatReply, FlatRound};
@@ -14,47 +15,11 @@ use crate::kinds::{CertificateKind, number_of_certificate, number_of_missing};
 use crate::numbers::{
     number_of_abandoned, number_of_fault, number_of_flag, number_of_member, number_of_reason,
 };
+use crate::reply_kind::{ReplyKind, number_of_reply};
 use ffi_scheme::scheme::{HostDigest, HostKey, HostScheme};
 use simplex_member::member::Reply;
 use simplex_types::types::{Certificate, Context, Finalize, Notarize, Nullify, Proposal, Round};
 use simplex_voter::voter::{ProposalRequest, Verify};
-
-/// The kinds of replies, as the header numbers them.
-const UNIT: u32 = 0;
-
-const FLAG: u32 = 1;
-
-const ADDED: u32 = 2;
-
-const ADDED_NULLIFICATION: u32 = 3;
-
-const REQUEST: u32 = 4;
-
-const WORK: u32 = 5;
-
-const CANDIDATES: u32 = 6;
-
-const CERTIFIED: u32 = 7;
-
-const NOTARIZE: u32 = 8;
-
-const NULLIFY: u32 = 9;
-
-const FINALIZE: u32 = 10;
-
-const CERTIFICATE: u32 = 11;
-
-const TIMEOUT: u32 = 12;
-
-const VIEWS: u32 = 13;
-
-const RELEASED: u32 = 14;
-
-const TRIGGERED: u32 = 15;
-
-const ABANDONED: u32 = 16;
-
-const RESTARTED: u32 = 17;
 
 /// The status of a call that is not allowed.
 pub(crate) const STATUS_NOT_ALLOWED: u32 = 5;
@@ -67,26 +32,26 @@ pub fn flat_reply(reply: &HostReply) -> FlatReply
     ensures { RepresentsReply result (reply_facts certificate_bytes reply.now) }
 {
     match reply {
-        Reply::Unit => answered(UNIT),
-        Reply::Flag(flag) => flagged(FLAG, *flag),
+        Reply::Unit => answered(ReplyKind::Unit),
+        Reply::Flag(flag) => flagged(ReplyKind::Flag, *flag),
         Reply::Added(is_new, leader) => FlatReply {
             member: number_of_member(leader),
-            ..flagged(ADDED, *is_new)
+            ..flagged(ReplyKind::Added, *is_new)
         },
-        Reply::AddedNullification(is_new) => flagged(ADDED_NULLIFICATION, *is_new),
+        Reply::AddedNullification(is_new) => flagged(ReplyKind::AddedNullification, *is_new),
         Reply::Request(request) => flat_request(request),
         Reply::Work(work) => flat_work(work),
         Reply::Candidates(proposals, fetches) => FlatReply {
             count: proposals.len() as u64,
             fetches: fetches.len() as u64,
-            ..answered(CANDIDATES)
+            ..answered(ReplyKind::Candidates)
         },
         Reply::Certified(success, Some(notarization)) => FlatReply {
             has: 1,
             proposal: flat_proposal(&notarization.proposal),
-            ..flagged(CERTIFIED, *success)
+            ..flagged(ReplyKind::Certified, *success)
         },
-        Reply::Certified(success, None) => flagged(CERTIFIED, *success),
+        Reply::Certified(success, None) => flagged(ReplyKind::Certified, *success),
         Reply::Notarize(vote) => flat_notarize(vote),
         Reply::Nullify(vote) => flat_nullify(vote),
         Reply::Finalize(vote) => flat_finalize(vote),
@@ -94,33 +59,33 @@ pub fn flat_reply(reply: &HostReply) -> FlatReply
         Reply::Timeout(moment, reason) => FlatReply {
             moment: *moment,
             reason: number_of_reason(*reason),
-            ..answered(TIMEOUT)
+            ..answered(ReplyKind::Timeout)
         },
         Reply::Views(views) => FlatReply {
             count: views.len() as u64,
-            ..answered(VIEWS)
+            ..answered(ReplyKind::Views)
         },
-        Reply::Released(was_open) => flagged(RELEASED, *was_open),
-        Reply::Triggered(is_latched) => flagged(TRIGGERED, *is_latched),
+        Reply::Released(was_open) => flagged(ReplyKind::Released, *was_open),
+        Reply::Triggered(is_latched) => flagged(ReplyKind::Triggered, *is_latched),
         Reply::Abandoned(Some(reason)) => FlatReply {
             has: 1,
             reason: number_of_abandoned(*reason),
-            ..answered(ABANDONED)
+            ..answered(ReplyKind::Abandoned)
         },
-        Reply::Abandoned(None) => answered(ABANDONED),
-        Reply::Restarted => answered(RESTARTED),
+        Reply::Abandoned(None) => answered(ReplyKind::Abandoned),
+        Reply::Restarted => answered(ReplyKind::Restarted),
         Reply::Fault(fault) => unanswered(number_of_fault(*fault)),
         Reply::NotAllowed => unanswered(5),
     }
 }
 
 /// Returns an empty reply of a kind.
-fn answered(kind: u32) -> FlatReply
+fn answered(kind: ReplyKind) -> FlatReply
     ensures answered { HasAnswer kind result }
     ensures nothing { result.has ≡ 0 }
 {
     FlatReply {
-        kind,
+        kind: number_of_reply(kind),
         ..unanswered(0)
     }
 }
@@ -156,7 +121,7 @@ pub(crate) fn unanswered(status: u32) -> FlatReply
     }
 }
 
-fn flagged(kind: u32, flag: bool) -> FlatReply
+fn flagged(kind: ReplyKind, flag: bool) -> FlatReply
     ensures answered { HasAnswer kind result }
     ensures flag { result.flag ≡ flag_number flag }
     ensures nothing { result.has ≡ 0 }
@@ -201,57 +166,57 @@ pub fn flat_context(context: &Context<HostDigest, HostKey>) -> FlatContext
 }
 
 fn flat_request(request: &Option<ProposalRequest<HostDigest, HostKey>>) -> FlatReply
-    ensures answered { HasAnswer 4 result }
+    ensures answered { HasAnswer reply_kind.Request result }
     ensures request { HasRequest request.now result }
 {
     match request {
         Some(ProposalRequest::Propose(context)) => FlatReply {
             has: 1,
-            member: context.leader.0,
+            member: context.leader.index,
             context: flat_context(context),
-            ..answered(REQUEST)
+            ..answered(ReplyKind::Request)
         },
         Some(ProposalRequest::Prepare(context)) => FlatReply {
             has: 2,
-            member: context.leader.0,
+            member: context.leader.index,
             context: flat_context(context),
-            ..answered(REQUEST)
+            ..answered(ReplyKind::Request)
         },
-        None => answered(REQUEST),
+        None => answered(ReplyKind::Request),
     }
 }
 
 fn flat_work(work: &Verify<HostDigest, HostKey>) -> FlatReply
-    ensures answered { HasAnswer 5 result }
+    ensures answered { HasAnswer reply_kind.Work result }
     ensures work { HasWork work.now result }
 {
     match work {
-        Verify::Wait => answered(WORK),
+        Verify::Wait => answered(ReplyKind::Work),
         Verify::Ready(context, proposal) => FlatReply {
             has: 1,
-            member: context.leader.0,
+            member: context.leader.index,
             context: flat_context(context),
             proposal: flat_proposal(proposal),
-            ..answered(WORK)
+            ..answered(ReplyKind::Work)
         },
         Verify::Resolve {
             proposal,
             view,
             kind,
-            target: HostKey(leader),
+            target,
         } => FlatReply {
             has: 2,
             reason: number_of_missing(*kind),
-            member: *leader,
+            member: target.index,
             waiting: proposal.get(),
             lacking: view.get(),
-            ..answered(WORK)
+            ..answered(ReplyKind::Work)
         },
     }
 }
 
 fn flat_notarize(vote: &Option<Notarize<HostScheme, HostDigest>>) -> FlatReply
-    ensures answered { HasAnswer 8 result }
+    ensures answered { HasAnswer reply_kind.Notarize result }
     ensures vote { HasNotarize (reply_notarize vote.now) result }
 {
     match vote {
@@ -259,14 +224,14 @@ fn flat_notarize(vote: &Option<Notarize<HostScheme, HostDigest>>) -> FlatReply
             has: 1,
             member: vote.signer.get(),
             proposal: flat_proposal(&vote.proposal),
-            ..answered(NOTARIZE)
+            ..answered(ReplyKind::Notarize)
         },
-        None => answered(NOTARIZE),
+        None => answered(ReplyKind::Notarize),
     }
 }
 
 fn flat_nullify(vote: &Option<(bool, Nullify<HostScheme>)>) -> FlatReply
-    ensures answered { HasAnswer 9 result }
+    ensures answered { HasAnswer reply_kind.Nullify result }
     ensures vote { HasNullify (reply_nullify vote.now) result }
 {
     match vote {
@@ -278,14 +243,14 @@ fn flat_nullify(vote: &Option<(bool, Nullify<HostScheme>)>) -> FlatReply
                 parent: 0,
                 payload: [0; 32],
             },
-            ..flagged(NULLIFY, *is_retry)
+            ..flagged(ReplyKind::Nullify, *is_retry)
         },
-        None => answered(NULLIFY),
+        None => answered(ReplyKind::Nullify),
     }
 }
 
 fn flat_finalize(vote: &Option<Finalize<HostScheme, HostDigest>>) -> FlatReply
-    ensures answered { HasAnswer 10 result }
+    ensures answered { HasAnswer reply_kind.Finalize result }
     ensures vote { HasFinalize (reply_finalize vote.now) result }
 {
     match vote {
@@ -293,21 +258,21 @@ fn flat_finalize(vote: &Option<Finalize<HostScheme, HostDigest>>) -> FlatReply
             has: 1,
             member: vote.signer.get(),
             proposal: flat_proposal(&vote.proposal),
-            ..answered(FINALIZE)
+            ..answered(ReplyKind::Finalize)
         },
-        None => answered(FINALIZE),
+        None => answered(ReplyKind::Finalize),
     }
 }
 
 fn flat_certificate(certificate: &Option<Certificate<HostScheme, HostDigest>>) -> FlatReply
-    ensures answered { HasAnswer 11 result }
+    ensures answered { HasAnswer reply_kind.Certificate result }
     ensures certificate { HasCertificate (option_map (certificate_facts certificate_bytes) certificate.now) result }
 {
     match certificate {
         Some(Certificate::Notarization(it)) => FlatReply {
             has: number_of_certificate(CertificateKind::Notarization),
             proposal: flat_proposal(&it.proposal),
-            ..answered(CERTIFICATE)
+            ..answered(ReplyKind::Certificate)
         },
         Some(Certificate::Nullification(it)) => FlatReply {
             has: number_of_certificate(CertificateKind::Nullification),
@@ -316,13 +281,13 @@ fn flat_certificate(certificate: &Option<Certificate<HostScheme, HostDigest>>) -
                 parent: 0,
                 payload: [0; 32],
             },
-            ..answered(CERTIFICATE)
+            ..answered(ReplyKind::Certificate)
         },
         Some(Certificate::Finalization(it)) => FlatReply {
             has: number_of_certificate(CertificateKind::Finalization),
             proposal: flat_proposal(&it.proposal),
-            ..answered(CERTIFICATE)
+            ..answered(ReplyKind::Certificate)
         },
-        None => answered(CERTIFICATE),
+        None => answered(ReplyKind::Certificate),
     }
 }

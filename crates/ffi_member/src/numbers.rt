@@ -94,7 +94,7 @@ pub fn number_of_member(member: &Option<HostKey>) -> u32
     ensures { result ≡ member_number member.now }
 {
     match member {
-        Some(HostKey(index)) => *index,
+        Some(key) => key.index,
         None => u32::MAX,
     }
 }

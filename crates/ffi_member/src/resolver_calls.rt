@@ -6,10 +6,11 @@ ghost use Rattle.simplex_types.specs.MessageViews.{certificate_view};
 ghost use Rattle.simplex_codec.specs.Digests.{bytes_in_digest};
 ghost use Rattle.ffi_scheme.specs.Host.{certificate_bytes};
 ghost use Rattle.simplex_resolver.specs.Steps.{highest_named, highest_view, update, verdict};
-ghost use Rattle.ffi_member.specs.Numbers.{fault_status, flag_number};
+ghost use Rattle.ffi_member.specs.Numbers.{fault_status, flag_number, verdict_number};
 ghost use Rattle.ffi_member.specs.ResolverHandles.{HasNoEffects, HasServed, HasServedOf, IsEffect, IsFlatCertificate, highest_passed, not_replayed_number, view_bytes};
 ghost use Rattle.ffi_member.specs.ShownFacts.{IsChunk};
 
+use crate::effect_kind::{EffectKind, number_of_effect};
 use crate::flat_calls::{finalization_of, notarization_of, nullification_of};
 use crate::flat_replies::STATUS_NOT_ALLOWED;
 use crate::held::{STATUS_NO_CALL, STATUS_NOT_MADE};
@@ -31,7 +32,7 @@ use std::alloc::{AllocError, Global};
 use std::collections::BTreeSet;
 use std::num::NonZeroU32;
 
-/// The kind of a verdict among a resolver's inputs: the others have the numbers of certificates.
+/// The number of a verdict among a resolver's inputs: a certificate has its kind's number there.
 const VERDICT: u32 = 4;
 
 /// A certificate of a member of the host.
@@ -109,7 +110,7 @@ impl HeldResolver {
     }
 
     fn judged(&mut self, flat: &FlatResolverReply, success: bool, certificate: &[u8]) -> FlatEffects
-        requires kind { flat.now.kind ≡ 4 }
+        requires kind { flat.now.kind ≡ verdict_number }
         requires success { flag_number success ≡ flat.now.success }
         requires fits { flat.now.success < 2 }
         requires view { 1 ≤ flat.now.proposal.round.view }
@@ -285,7 +286,7 @@ fn certificate_in(
     bytes: &[u8],
 ) -> Result<Option<HostCertified>, AllocError>
     ensures made { IfOk result (λ found. MatchOption found ((flat.now.kind ≡ 0) ⊎ (4 ≤ flat.now.kind))
-        (λ c. IsFlatCertificate flat.now.kind flat.now bytes.now (certificate_facts certificate_bytes c))) }
+        (λ c. IsFlatCertificate flat.now bytes.now (certificate_facts certificate_bytes c))) }
     ensures view { IfOk result (λ found. IfSome found (λ c. certificate_view c ≡ flat.now.proposal.round.view)) }
     ensures highest { IfOk result (λ found. IfSome found (λ c. highest_view c ≡ highest_passed flat.now)) }
     ensures kind { IfOk result (λ found. IfSome found (λ _. (0 < flat.now.kind) × (flat.now.kind < 4))) }
@@ -332,15 +333,6 @@ pub fn unserved(view: u64, status: u32) -> FlatServed
     }
 }
 
-/// The kinds of effects, as the header numbers them.
-const FETCH: u32 = 1;
-
-const SETTLED: u32 = 2;
-
-const FINALIZED: u32 = 3;
-
-const RAISED: u32 = 4;
-
 /// Returns the flat form of an effect.
 fn flat_effect(effect: Effect) -> FlatEffect
     ensures effect { IsEffect effect result }
@@ -352,7 +344,7 @@ fn flat_effect(effect: Effect) -> FlatEffect
             cause,
             reason,
         } => FlatEffect {
-            kind: FETCH,
+            kind: number_of_effect(EffectKind::Fetch),
             reason: match reason {
                 FetchReason::MissingNullification => 0,
                 FetchReason::CertificationFailed => 1,
@@ -362,19 +354,19 @@ fn flat_effect(effect: Effect) -> FlatEffect
             ..no_effect()
         },
         Effect::Settled { kind, start, end } => FlatEffect {
-            kind: SETTLED,
+            kind: number_of_effect(EffectKind::Settled),
             reason: number_of_missing(kind),
             view: start.get(),
             end: end.get(),
             ..no_effect()
         },
         Effect::Finalized(view) => FlatEffect {
-            kind: FINALIZED,
+            kind: number_of_effect(EffectKind::Finalized),
             view: view.get(),
             ..no_effect()
         },
         Effect::Raised(view) => FlatEffect {
-            kind: RAISED,
+            kind: number_of_effect(EffectKind::Raised),
             view: view.get(),
             ..no_effect()
         },

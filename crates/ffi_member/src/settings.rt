@@ -3,7 +3,7 @@
 ghost use Rattle.std.specs.Prelude.{◌≡◌, ◌<◌, Some, None, IfOk, IfErr, OnOk, MatchOption, length};
 ghost use Rattle.std.specs.Option.{ForSome, option_or};
 ghost use Rattle.ffi_scheme.specs.HostLeaders.{host_members, host_terms};
-ghost use Rattle.ffi_scheme.specs.Host.{certificate_bytes, host_signer, host_keys, host_keys_below};
+ghost use Rattle.ffi_scheme.specs.Host.{certificate_bytes, host_signer, host_keys, host_keys_in};
 ghost use Rattle.ffi_member.specs.Calls.{IsFlatProposal};
 ghost use Rattle.ffi_member.specs.Settings.{IsConfig, IsSettingsErrorDue, IsElector, IsFloor, IsNoStart, IsSigner, IsSkip, IsStart, IsTerms};
 ghost use Rattle.ffi_member.specs.Numbers.{flag_number};
@@ -90,7 +90,7 @@ pub fn config_of(
     let signer = signer_in(flat)?;
     let floor = floor_of(alloc, flat, certificate)?;
     Ok(Config {
-        scheme: HostScheme::new(alloc, flat.members, signer)?,
+        scheme: HostScheme::new(alloc, flat.namespace, flat.members, signer)?,
         epoch: Epoch::new(flat.epoch),
         floor,
         leader_timeout: flat.leader_timeout,

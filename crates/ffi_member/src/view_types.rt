@@ -140,14 +140,14 @@ pub struct FlatChunk {
     pub bytes: [u8; 1024],
 }
 
-/// The text that a vote signs: the first `count` bytes count.
+/// The text that a vote signs, which begins with the namespace: the first `count` bytes count.
 #[repr(C)]
 #[derive(Clone, Copy)]
 pub struct FlatText {
     /// 0; 1 if there was no memory, and 6 if no vote has this kind.
     pub status: u32,
     pub count: u32,
-    pub bytes: [u8; 64],
+    pub bytes: [u8; 96],
 }
 
 /// The result of scanning a journal's bytes.

@@ -15,6 +15,7 @@ use crate::journal::write_entries;
 use crate::kinds::{
     CertificateKind, VoteKind, certificate_kind_of, number_of_certificate, vote_kind_of,
 };
+use crate::list_kind::{ListKind, list_kind_of};
 use crate::numbers::number_of_flag;
 use crate::statuses::number_of_not_written;
 use crate::view_types::{
@@ -22,7 +23,7 @@ use crate::view_types::{
 };
 use bytes::{BufMut, BytesMut};
 use ffi_scheme::elector::HostElector;
-use ffi_scheme::scheme::{HostDigest, HostScheme};
+use ffi_scheme::scheme::{HostDigest, HostScheme, Namespace, Order};
 use simplex_types::types::{Participant, Proposal, Subject, View};
 use simplex_voter::voter::State;
 use std::alloc::{AllocError, Global};
@@ -38,7 +39,7 @@ const NO_PROPOSAL: FlatProposal = FlatProposal {
 };
 
 impl Held {
-    ghost use Rattle.ffi_member.specs.ShownFacts.{IsChunkOf, IsEntries, IsFound, IsItem, IsStoredBeside, IsView};
+    ghost use Rattle.ffi_member.specs.ShownFacts.{IsChunkOf, IsEntries, IsFound, IsItem, IsItemOf, IsStoredBeside, IsView};
 
     /// Returns what a journal stores beside the record; also of a member that has failed.
     pub fn stored(&self) -> FlatStored
@@ -122,12 +123,20 @@ impl Held {
     pub fn item(&self, which: u32, index: u64) -> FlatItem
         ensures { IsItem self.now.last which index result }
     {
-        let index = index as usize;
-        match which {
-            1 => proposal_item(self.proposal_at(index)),
-            2 => fetch_item(self.fetch_at(index)),
-            3 => view_item(self.dropped_at(index)),
-            _ => no_item(),
+        match list_kind_of(which) {
+            Some(kind) => self.item_of(kind, index as usize),
+            None => no_item(),
+        }
+    }
+
+    /// Returns an item of the last reply's list of a kind.
+    fn item_of(&self, kind: ListKind, index: usize) -> FlatItem
+        ensures { IsItemOf self.now.last kind index result }
+    {
+        match kind {
+            ListKind::Proposals => proposal_item(self.proposal_at(index)),
+            ListKind::Fetches => fetch_item(self.fetch_at(index)),
+            ListKind::Dropped => view_item(self.dropped_at(index)),
         }
     }
 }
@@ -246,9 +255,8 @@ fn show_certificate(
     out: &mut BytesMut,
 ) -> Result<FlatFound, AllocError>
     ensures found { IfOk result (λ r. (r.status ≡ 0)
-        × ShowsCertificate (certificate_of_kind (certificate_number kind) state.now view) r
-        out.old.items out.new.items) }
-    ensures wanting { OnErr result (IsSome (certificate_of_kind (certificate_number kind) state.now view)) }
+        × ShowsCertificate (certificate_of_kind kind state.now view) r out.old.items out.new.items) }
+    ensures wanting { OnErr result (IsSome (certificate_of_kind kind state.now view)) }
 {
     match kind {
         CertificateKind::Notarization => match state.notarization(view) {
@@ -420,14 +428,20 @@ fn front_of(bytes: &[u8]) -> &[u8]
     }
 }
 
-/// Returns the text that a vote of a kind signs; for a vote to nullify only the round counts.
-pub fn subject_text(alloc: Global, kind: u32, proposal: &FlatProposal) -> FlatText
-    ensures { IsText kind proposal.now result }
+/// Returns the text that a vote of a kind signs in a network: the namespace, then the subject's bytes. For a vote to
+/// nullify only the round counts.
+pub fn subject_text(
+    alloc: Global,
+    namespace: &Namespace,
+    kind: u32,
+    proposal: &FlatProposal,
+) -> FlatText
+    ensures { IsText namespace.now kind proposal.now result }
 {
     let Some(subject) = subject_of(kind, proposal) else {
         return no_text(6);
     };
-    match subject.encode(alloc) {
+    match Order::text_in(alloc, namespace, &subject) {
         Ok(text) => text_of(text.as_slice()),
         Err(_) => no_text(1),
     }
@@ -446,12 +460,12 @@ fn subject_of(kind: u32, proposal: &FlatProposal) -> Option<Subject<HostDigest>>
 
 /// Returns the text of a vote.
 fn text_of(text: &[u8]) -> FlatText
-    requires { length text.now ≤ 64 }
+    requires { length text.now ≤ 96 }
     ensures status { result.status ≡ 0 }
     ensures count { result.count ≡ length text.now }
     ensures text { take result.count result.bytes ≡ text.now }
 {
-    let mut bytes = [0; 64];
+    let mut bytes = [0; 96];
     bytes[..text.len()].copy_from_slice(text);
     FlatText {
         status: 0,
@@ -467,6 +481,6 @@ fn no_text(status: u32) -> FlatText
     FlatText {
         status,
         count: 0,
-        bytes: [0; 64],
+        bytes: [0; 96],
     }
 }

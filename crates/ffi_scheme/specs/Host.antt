@@ -21,19 +21,28 @@ host_keys s = s.keys.items
 abbrev pub certificate_bytes : HostCertificate → List ℕ
 certificate_bytes c = c.bytes
 
--- the order is to sign, with this key, the bytes of exactly this subject
+-- the text that a member of a network signs: the namespace, and then the bytes of exactly this subject
+abbrev pub signed_text : {D : Type 0} → (D → List ℕ) → List ℕ → Subject D → List ℕ
+signed_text payload_bytes namespace subject = namespace ++ subject_bytes payload_bytes subject
+
+-- the order is to sign, under this key, the text of exactly this subject in the network of the key
 abbrev pub IsOrder : {D : Type 0} → (D → List ℕ) → HostKey → Subject D → Order → Type 0
-IsOrder payload_bytes key subject order = (order.key ≡ key) × (order.text ≡ subject_bytes payload_bytes subject)
+IsOrder payload_bytes key subject order =
+    (order.index ≡ key.index) × (order.text ≡ signed_text payload_bytes key.namespace subject)
 
--- the keys of the members below a number, in order
-abbrev pub host_keys_below : ℕ → List HostKey
-host_keys_below n = map (λ i. record { 0 = i }) (range_with_len 0 n)
+-- the key of a member of a network
+abbrev pub host_key_in : List ℕ → ℕ → HostKey
+host_key_in namespace index = record { namespace = namespace; index = index }
 
--- the key, four bytes big-endian, and then the text
+-- the keys of the members of a network below a number, in order
+abbrev pub host_keys_in : List ℕ → ℕ → List HostKey
+host_keys_in namespace n = map (host_key_in namespace) (range_with_len 0 n)
+
+-- the index, four bytes big-endian, and then the text
 abbrev pub order_bytes : Order → List ℕ
-order_bytes s = to_be_bytes w32 s.key.0 ++ s.text
+order_bytes s = to_be_bytes w32 s.index ++ s.text
 
--- an order read back: its key in four bytes, and what to sign
+-- an order read back: the member's index in four bytes, and what to sign
 abbrev pub order_of : List ℕ → Option Order
 order_of bytes = if nat_lt (length bytes) 4 then None
-    else Some (record { key = record { 0 = from_be_bytes w32 (take 4 bytes) }; text = drop 4 bytes })
+    else Some (record { index = from_be_bytes w32 (take 4 bytes); text = drop 4 bytes })

@@ -1,7 +1,8 @@
 //! Signing and certificates where a host in another language signs and verifies.
 //!
 //! The core's signature of a vote is an order: the member's index and the very bytes that the host must sign. So what
-//! is proved of signatures is proved of orders; the host itself must sign nothing else.
+//! is proved of signatures is proved of orders; the host itself must sign nothing else. These bytes begin with the
+//! namespace of the member's network, so no order of one network is an order of another.
 
 ghost use Rattle.std.specs.Prelude.{◌≡◌, ◌<◌, ℕ, true, List, Option, Some, None, length, IfOk, OnOk};
 ghost use Rattle.std.specs.Option.{ForSome};
@@ -15,23 +16,29 @@ use std::alloc::{AllocError, Global};
 /// A payload's digest.
 pub type HostDigest = BytesDigest<32>;
 
-/// A member's key: its index.
+/// The bytes that distinguish a network: each text that its members sign begins with them.
+pub type Namespace = [u8; 32];
+
+/// A member's key: its index in a network.
 #[derive(Clone, Copy, PartialEq, Eq, Debug)]
-pub struct HostKey(pub u32);
+pub struct HostKey {
+    pub namespace: Namespace,
+    pub index: u32,
+}
 
 impl PublicKey for HostKey {}
 
-/// An order to the host: sign the text, under the key of the member.
+/// An order to the host: sign the text, under the key of the member with this index.
 #[derive(Drop)]
 pub struct Order {
-    pub key: HostKey,
+    pub index: u32,
     pub text: Bytes,
 }
 
 impl Order {
-    ghost use Rattle.ffi_scheme.specs.Host.{IsOrder};
+    ghost use Rattle.ffi_scheme.specs.Host.{IsOrder, signed_text};
 
-    /// Returns the order to sign a subject.
+    /// Returns the order to sign a subject: the text begins with the namespace of the key.
     pub fn new<D: Digest>(
         alloc: Global,
         key: HostKey,
@@ -39,8 +46,26 @@ impl Order {
     ) -> Result<Order, AllocError>
         ensures { IfOk result (IsOrder D.bytes key subject.now) }
     {
-        let text = subject.encode(alloc)?;
-        Ok(Order { key, text })
+        let text = Order::text_in(alloc, &key.namespace, subject)?;
+        Ok(Order {
+            index: key.index,
+            text,
+        })
+    }
+
+    /// Returns the text that a member of a network signs for a subject: the namespace, then the subject's bytes.
+    pub fn text_in<D: Digest>(
+        alloc: Global,
+        namespace: &Namespace,
+        subject: &Subject<D>,
+    ) -> Result<Bytes, AllocError>
+        ensures { IfOk result (λ text. text ≡ signed_text D.bytes namespace.now subject.now) }
+    {
+        let encoded = subject.encode(alloc)?;
+        let mut out = BytesMut::new(alloc);
+        out.put_slice(namespace)?;
+        out.put_slice(encoded.as_slice())?;
+        Ok(out.freeze()?)
     }
 }
 
@@ -59,21 +84,22 @@ pub struct HostScheme {
 }
 
 impl HostScheme {
-    ghost use Rattle.ffi_scheme.specs.Host.{host_signer, host_keys, host_keys_below};
+    ghost use Rattle.ffi_scheme.specs.Host.{host_signer, host_keys, host_keys_in};
 
-    /// The scheme of this many members, with the key of one of them or of none.
+    /// Returns the scheme of this many members of a network, with the key of one of them or of none.
     pub fn new(
         alloc: Global,
+        namespace: Namespace,
         members: u32,
         signer: Option<Participant>,
     ) -> Result<HostScheme, AllocError>
         requires { ForSome signer (λ m. m < members) }
         ensures signer { IfOk result (λ s. host_signer s ≡ signer) }
-        ensures members { IfOk result (λ s. host_keys s ≡ host_keys_below members) }
+        ensures members { IfOk result (λ s. host_keys s ≡ host_keys_in namespace members) }
     {
         let mut keys = Vec::new(alloc);
         for index in 0..members {
-            keys.push(HostKey(index))?;
+            keys.push(HostKey { namespace, index })?;
         }
         Ok(HostScheme { keys, signer })
     }
@@ -105,7 +131,7 @@ impl CertificateScheme for HostScheme {
 
     fn copy_signature(_alloc: Global, signature: &Order) -> Result<Order, AllocError> {
         Ok(Order {
-            key: signature.key,
+            index: signature.index,
             text: signature.text.clone()?,
         })
     }
@@ -172,16 +198,16 @@ impl SchemeCodec for HostScheme {
     }
 
     fn write_signature(out: &mut BytesMut, signature: &Order) -> Result<(), AllocError> {
-        out.put_u32(signature.key.0)?;
+        out.put_u32(signature.index)?;
         out.put_slice(signature.text.as_slice())
     }
 
     fn read_signature(alloc: Global, bytes: &[u8]) -> Result<Option<Order>, AllocError> {
-        let Some((key, text)) = bytes.split_first_chunk::<4>() else {
+        let Some((index, text)) = bytes.split_first_chunk::<4>() else {
             return Ok(None);
         };
         Ok(Some(Order {
-            key: HostKey(u32::from_be_bytes(*key)),
+            index: u32::from_be_bytes(*index),
             text: Bytes::copy_from_slice(alloc, text)?,
         }))
     }

@@ -16,6 +16,8 @@ import (
 
 const epoch = 1
 
+var namespace = simplex.Namespace{1}
+
 var (
 	options      = simplex.Options{Retry: 250, OnItsWay: 25, LongRecord: 40}
 	votes        = []string{"", "notarize", "nullify", "finalize"}
@@ -40,7 +42,7 @@ func configOf(numbers []uint64) simplex.Config {
 	if numbers[1] >= numbers[0] {
 		signer = nil
 	}
-	config := simplex.NewConfig(uint32(numbers[0]), signer, epoch, simplex.Digest{})
+	config := simplex.NewConfig(namespace, uint32(numbers[0]), signer, epoch, simplex.Digest{})
 	config.TermLength, config.OptimisticViews = uint32(numbers[2]), numbers[3]
 	return config
 }
@@ -167,7 +169,7 @@ func (it *lifetime) served(view simplex.View) (string, error) {
 	if found == nil {
 		return "none", err
 	}
-	text, err := found.Subject.Text()
+	text, err := found.Subject.Encoded()
 	return "served " + sumOf(append(text, found.Bytes...)), err
 }
 

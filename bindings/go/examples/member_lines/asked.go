@@ -60,7 +60,7 @@ func (it *asked) served(word string, view simplex.View) (string, error) {
 	if found == nil {
 		return "none", err
 	}
-	text, err := found.Subject.Text()
+	text, err := found.Subject.Encoded()
 	if word == "produce" {
 		return "some", err
 	}

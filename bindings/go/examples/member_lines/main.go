@@ -19,6 +19,8 @@ import (
 
 const epoch = 1
 
+var namespace = simplex.Namespace{1}
+
 var (
 	timeouts = []string{"Retry", "Inactivity", "LeaderNullify", "LeaderTimeout", "CertificationTimeout", "StallTimeout", "MissingProposal",
 		"IgnoredProposal", "InvalidProposal", "FailedCertification"}
@@ -82,7 +84,7 @@ func configOf(words []string) simplex.Config {
 		me := simplex.Participant(number(words[2]))
 		signer = &me
 	}
-	config := simplex.NewConfig(uint32(number(words[1])), signer, epoch, simplex.Digest{})
+	config := simplex.NewConfig(namespace, uint32(number(words[1])), signer, epoch, simplex.Digest{})
 	config.TermLength, config.OptimisticViews = uint32(number(words[3])), number(words[4])
 	return config
 }

@@ -136,7 +136,7 @@ func (it *voter) voting(words []string, n []uint64) (string, error) {
 	if vote == nil {
 		return "none", err
 	}
-	text, err := vote.Subject.Text()
+	text, err := vote.Subject.Text(namespace)
 	if err != nil || !bytes.Equal(text, vote.Text) {
 		return "", fmt.Errorf("a vote does not sign its subject's text: %w", err)
 	}

@@ -19,6 +19,9 @@ const (
 
 var genesis simplex.Digest
 
+// What each text to sign begins with: a digest of a real network's name, epoch and members.
+var namespace = simplex.Namespace{1}
+
 // A block is what a proposal's payload is the digest of. It names its parent by digest, and travels with its proposal.
 type block struct {
 	view   simplex.View
@@ -41,7 +44,7 @@ type disk struct {
 	stored  *[33]byte
 }
 
-// A member: its engine while its process lives, its disk, its blocks, and the chain that it delivered.
+// A member: its engine while its process runs, its disk, its blocks, and the chain that it delivered.
 type node struct {
 	me        simplex.Participant
 	members   uint32
@@ -127,7 +130,7 @@ func (it *network) step() error {
 // begin begins a lifetime. The last finalization is read from the record: a lifetime that ended may have stored it without reporting it.
 func (it *node) begin(now simplex.Millis, out *[]sent) (err error) {
 	me := it.me
-	config := simplex.NewConfig(it.members, &me, epoch, genesis)
+	config := simplex.NewConfig(namespace, it.members, &me, epoch, genesis)
 	if it.disk.stored == nil {
 		it.engine, err = simplex.Start(config, simplex.DefaultOptions(), now)
 	} else if stored, isStored := simplex.StoredFrom(*it.disk.stored); isStored {
@@ -194,7 +197,7 @@ func (it *node) receive(from simplex.Participant, message message, now simplex.M
 }
 
 func (it *node) receiveVote(from simplex.Participant, vote simplex.Vote, now simplex.Millis) error {
-	text, err := vote.Subject.Text()
+	text, err := vote.Subject.Text(namespace)
 	if err != nil || !bytes.Equal(vote.Signature, signature(vote.Signer, text)) || vote.Subject.Proposal.Round.Epoch != epoch {
 		return err
 	}
@@ -209,7 +212,7 @@ func (it *node) receiveVote(from simplex.Participant, vote simplex.Vote, now sim
 
 func (it *node) isGood(certificate simplex.Certificate) bool {
 	signatures, isRead := certificate.Signatures()
-	text, err := certificate.Subject.Text()
+	text, err := certificate.Subject.Text(namespace)
 	if err != nil || !isRead || uint32(len(signatures)) < it.members-(it.members-1)/3 {
 		return false
 	}

@@ -27,7 +27,7 @@ fn main() -> Outcome {
         }
         if network.nodes[1].engine.is_none() && printed >= VIEWS * 3 / 4 {
             network.begin(1)?;
-            println!("member 1 goes on from its disk");
+            println!("member 1 continues from its disk");
         }
     }
     let entries = network.nodes[0].disk.stored.map_or(0, |stored| stored.entries.get());

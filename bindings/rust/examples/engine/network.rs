@@ -5,8 +5,8 @@
 //! last one that was delivered.
 
 use simplex_view_state::{
-    Certificate, Config, Context, Digest, Engine, Epoch, Fetch, Input, Moment, Options, Order, Output, Participant, Proposal, Stored, View,
-    Vote,
+    Certificate, Config, Context, Digest, Engine, Epoch, Fetch, Input, Moment, Namespace, Options, Order, Output, Participant, Proposal,
+    Stored, View, Vote,
 };
 use std::collections::{HashMap, VecDeque};
 use std::error::Error;
@@ -17,6 +17,8 @@ use std::num::NonZeroU32;
 pub type Outcome<T = ()> = Result<T, Box<dyn Error>>;
 
 const EPOCH: Epoch = Epoch::new(1);
+/// The beginning of each text to sign: a digest of a real network's name, epoch and members.
+pub const NAMESPACE: Namespace = Namespace::new([1; 32]);
 /// The payload of genesis.
 const GENESIS: Digest = Digest::new([0; 32]);
 /// How many outputs an engine has carried out before messages and time get a turn: a member alone is never out of outputs.
@@ -32,7 +34,7 @@ pub struct Block {
     pub parent: Digest,
 }
 
-/// What members send each other.
+/// A message between members.
 #[derive(Clone, Debug)]
 pub enum Message {
     /// A block, before the leader's vote for it, or one that was asked for.
@@ -43,7 +45,7 @@ pub enum Message {
     Vote(Vote),
     /// A certificate.
     Certificate(Certificate),
-    /// What is asked for.
+    /// A request for a certificate.
     Ask(Fetch),
 }
 
@@ -55,7 +57,7 @@ pub struct Sent {
     pub message: Message,
 }
 
-/// What a member has stored.
+/// A member's disk.
 #[derive(Clone, Debug, Default)]
 pub struct Disk {
     pub journal: Vec<u8>,
@@ -119,7 +121,7 @@ impl Network {
             Some(_) => Ok(()),
             None => {
                 let wakes = self.nodes.iter().filter_map(|node| node.engine.as_ref()).map(Engine::wake);
-                self.now = wakes.min().ok_or("no engine lives")?.max(self.now);
+                self.now = wakes.min().ok_or("no engine runs")?.max(self.now);
                 Ok(())
             }
         }
@@ -163,7 +165,7 @@ impl Node {
     /// Begins a lifetime from the disk; the first one where nothing is stored. The last finalization is read from the record: a lifetime
     /// that ended may have stored it without reporting it.
     fn begin(&mut self, now: Moment, out: &mut VecDeque<Sent>) -> Outcome {
-        let config = Config::new(self.members, Some(self.me), EPOCH, GENESIS);
+        let config = Config::new(NAMESPACE, self.members, Some(self.me), EPOCH, GENESIS);
         let options = Options::default();
         let engine = match &self.disk.stored {
             None => Engine::start(&config, &options, now)?,
@@ -192,7 +194,7 @@ impl Node {
                 message: Message::Block(*block),
             })),
             Message::Vote(vote) => {
-                let is_signed = vote.signature == signature(vote.signer, &vote.subject.encode());
+                let is_signed = vote.signature == signature(vote.signer, &vote.subject.text(&NAMESPACE));
                 if is_signed && vote.subject.round().epoch == EPOCH {
                     if let Some(proposal) = vote.proposal() {
                         engine.handle(Input::Proposal { from, proposal }, now)?;
@@ -286,7 +288,7 @@ impl Node {
         Ok(())
     }
 
-    /// Signs a vote, sends it to all others, and tells the engine of it. It is stored by now.
+    /// Signs a vote, sends it to all others, and passes it to the engine. It is stored by now.
     fn vote(&mut self, order: &Order, out: &mut VecDeque<Sent>) -> Outcome {
         if !is_within(&order.text, &self.disk.journal) {
             return Err(format!("member {} votes on {:?} before it is stored", self.me, order.subject).into());
@@ -323,10 +325,10 @@ impl Node {
     }
 }
 
-/// Whether a certificate is of n - f members' good signatures.
+/// Returns whether a certificate is of n - f members' good signatures.
 pub fn is_good(certificate: &Certificate, members: NonZeroU32) -> bool {
     let faulty = (members.get() - 1) / 3;
-    let text = certificate.subject().encode();
+    let text = certificate.subject().text(&NAMESPACE);
     certificate.signatures().is_some_and(|signatures| {
         signatures.len() >= (members.get() - faulty) as usize
             && signatures
@@ -370,7 +372,7 @@ fn hash_of(it: &impl Hash) -> u64 {
     hasher.finish()
 }
 
-/// Whether bytes stand within others; they are looked for from the end.
+/// Returns whether bytes are within others; the search begins at the end.
 fn is_within(bytes: &[u8], others: &[u8]) -> bool {
     others.windows(bytes.len()).rev().any(|it| it == bytes)
 }

@@ -1,7 +1,7 @@
 //! The host of one member: a channel for a network, a file for a disk.
 
 use crate::network::Message;
-use crate::toys::{MEMBERS, block_on, is_good, signature};
+use crate::toys::{MEMBERS, NAMESPACE, block_on, is_good, signature};
 use simplex_view_state::{Config, Digest, Engine, Entries, Epoch, Input, Moment, Options, Output, Participant, Proposal, Stored};
 use std::fs::{self, File};
 use std::io::{ErrorKind, Write};
@@ -27,7 +27,7 @@ pub struct Host {
 impl Host {
     /// Starts a member that has no file, and resumes one that has.
     pub fn begin(me: Participant, file: PathBuf, peers: Vec<Sender<(Participant, Message)>>) -> Outcome<Host> {
-        let config = Config::new(MEMBERS.try_into()?, Some(me), Epoch::new(1), Digest::default());
+        let config = Config::new(NAMESPACE, MEMBERS.try_into()?, Some(me), Epoch::new(1), Digest::default());
         let (options, now, mut journal) = (Options::default(), Moment::from_millis(0), Vec::new());
         let engine = match fs::read(&file) {
             Err(error) if error.kind() == ErrorKind::NotFound => Engine::start(&config, &options, now)?,
@@ -107,7 +107,7 @@ impl Host {
     /// Verifies what came, and passes it to the engine. A leader's vote to notarize is its proposal too.
     fn receive(&mut self, from: Participant, message: Message) -> Outcome {
         match message {
-            Message::Vote(vote) if vote.signature == signature(vote.signer, &vote.subject.encode()) => {
+            Message::Vote(vote) if vote.signature == signature(vote.signer, &vote.subject.text(&NAMESPACE)) => {
                 if let Some(proposal) = vote.proposal() {
                     let from = vote.signer;
                     self.pass(Input::Proposal { from, proposal })?;

@@ -8,7 +8,7 @@ use std::sync::atomic::{AtomicU32, Ordering};
 use std::sync::mpsc::channel;
 use std::thread;
 
-/// What members send each other.
+/// A message between members.
 #[derive(Clone)]
 pub enum Message {
     Vote(Vote),

@@ -1,10 +1,13 @@
 //! Toys in place of keys and blocks: anyone can make these signatures, and everyone knows the next block.
 
-use simplex_view_state::{Certificate, Context, Digest, Participant};
+use simplex_view_state::{Certificate, Context, Digest, Namespace, Participant};
 use std::hash::{DefaultHasher, Hash, Hasher};
 
 /// How many members there are.
 pub const MEMBERS: u32 = 4;
+
+/// The beginning of each text to sign: a digest of a real network's name, epoch and members.
+pub const NAMESPACE: Namespace = Namespace::new([1; 32]);
 
 /// A member's signature on a text.
 pub fn signature(signer: Participant, text: &[u8]) -> Vec<u8> {
@@ -14,7 +17,7 @@ pub fn signature(signer: Participant, text: &[u8]) -> Vec<u8> {
 /// Returns whether a certificate has good signatures of n - f members on its subject.
 pub fn is_good(certificate: &Certificate) -> bool {
     let quorum = MEMBERS - (MEMBERS - 1) / 3;
-    let text = certificate.subject().encode();
+    let text = certificate.subject().text(&NAMESPACE);
     certificate.signatures().is_some_and(|signatures| {
         signatures.len() >= quorum as usize
             && signatures

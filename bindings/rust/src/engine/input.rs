@@ -14,7 +14,7 @@ pub enum Input {
     Proposal {
         /// Who sent it.
         from: Participant,
-        /// What it is.
+        /// The proposal.
         proposal: Proposal,
     },
     /// A vote whose signature the host has verified; also each of the engine's own, once it was sent. A vote of another epoch is ignored.
@@ -25,7 +25,7 @@ pub enum Input {
     Verified {
         /// Its view.
         view: View,
-        /// Whether it is valid.
+        /// True if it is valid.
         is_valid: bool,
     },
     /// The result of an [`Output::Build`](crate::Output::Build).
@@ -40,7 +40,7 @@ pub enum Input {
     Certified {
         /// Its view.
         view: View,
-        /// Whether it may be built on.
+        /// True if it may be built on.
         is_success: bool,
     },
     /// The view times out for a reason that the engine can't see by itself: its leader nullifies it, or is silent.

@@ -34,7 +34,8 @@ pub enum Output {
     /// begin with the last finalization of the record: the [`certificate`](crate::Engine::certificate) of `views().last_finalized`.
     /// `bindings/rust/examples/engine/network.rs` does both (`deliver`, `begin`).
     Finalized(Proposal),
-    /// Two votes of one member that contradict each other. The engine returns one pair of a member, kind and view, until it forgets the view.
+    /// Two votes of one member that contradict each other. The engine returns one pair of a member, kind and view, until it forgets the
+    /// view.
     Equivocated(Vote, Vote),
     /// The leader of the view signed two proposals, which certificates show.
     ProposedTwice(View, Participant),
@@ -46,11 +47,11 @@ pub enum Output {
 #[derive(Clone, PartialEq, Eq, Hash, Debug)]
 #[must_use = "a vote that is dropped is not returned again, but for one to nullify"]
 pub struct Order {
-    /// What the vote is about.
+    /// The subject of the vote.
     pub subject: Subject,
     /// Who signs.
     pub signer: Participant,
-    /// The text to sign: `subject.encode()`.
+    /// The text to sign: `subject.text(&namespace)`, with the namespace of the settings.
     pub text: Vec<u8>,
 }
 
@@ -71,7 +72,7 @@ impl Order {
 pub struct Fetch {
     /// Which certificate.
     pub kind: FetchKind,
-    /// Of which view.
+    /// The view.
     pub view: View,
     /// The member to ask; `None` where there is no other member.
     pub of: Option<Participant>,
@@ -93,7 +94,7 @@ pub enum FetchKind {
 pub struct OpenFetch {
     /// Which certificate.
     pub kind: FetchKind,
-    /// Of which view.
+    /// The view.
     pub view: View,
     /// How often it was asked for.
     pub count: u64,

@@ -1,4 +1,4 @@
-//! What other threads may read of an engine.
+//! The part of an engine that other threads may read.
 
 use super::Engine;
 use crate::member::Views;
@@ -6,14 +6,14 @@ use crate::numbers::{Moment, Participant, View};
 
 /// A copy of an engine's views and of the range of views whose messages it takes, at one moment.
 ///
-/// The thread that calls the engine takes one after each turn ([`Engine::snapshot`]), and shares it with the threads that read from peers. So
-/// these verify no message that the engine would ignore. The lowest retained view and the highest view that takes votes never fall, so an older
-/// snapshot refuses nothing that a later one admits, but for views that have come into reach since.
+/// The thread that calls the engine takes one after each turn ([`Engine::snapshot`]), and shares it with the threads that read from peers.
+/// So these verify no message that the engine would ignore. The lowest retained view and the highest view that takes votes never fall, so
+/// an older snapshot refuses nothing that a later one admits, but for views that have come into reach since.
 ///
 /// ```
-/// use simplex_view_state::{Config, Digest, Engine, Epoch, Moment, Options, Participant, View};
+/// use simplex_view_state::{Config, Digest, Engine, Epoch, Moment, Namespace, Options, Participant, View};
 ///
-/// let config = Config::new(4.try_into()?, Some(Participant::new(3)), Epoch::new(1), Digest::default());
+/// let config = Config::new(Namespace::new([1; 32]), 4.try_into()?, Some(Participant::new(3)), Epoch::new(1), Digest::default());
 /// let engine = Engine::start(&config, &Options::default(), Moment::from_millis(0))?;
 /// let snapshot = engine.snapshot().expect("it has not failed");
 /// let reader = std::thread::spawn(move || snapshot.admits_vote(View::new(2)));

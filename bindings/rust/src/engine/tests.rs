@@ -1,7 +1,7 @@
 //! Numbers that the package itself passes to no engine.
 
 use super::*;
-use crate::numbers::{Digest, Epoch, Participant};
+use crate::numbers::{Digest, Epoch, Namespace, Participant};
 
 /// Numbers drawn one after another.
 struct Drawn(u64);
@@ -62,12 +62,13 @@ fn the_kinds_of_votes_are_those_of_subjects_and_0_is_none() {
         Subject::Finalize(proposal),
     ] {
         let (kind, flat) = subject.flat();
-        let text = ffi::simplex_subject(kind, &flat);
-        let read = Subject::decode(&text.bytes[..text.count as usize]).map(|it| it.0);
+        let text = ffi::simplex_subject(&[7; 32], kind, &flat);
+        let behind = text.bytes[..text.count as usize].strip_prefix(&[7; 32]);
+        let read = behind.and_then(Subject::decode).map(|it| it.0);
         assert_eq!((text.status, read), (0, Some(subject)));
     }
     for kind in [0, 4, u32::MAX] {
-        assert_eq!(ffi::simplex_subject(kind, &proposal.flat()).status, 6);
+        assert_eq!(ffi::simplex_subject(&[7; 32], kind, &proposal.flat()).status, 6);
     }
 }
 
@@ -79,7 +80,13 @@ fn is_input(it: &ffi::Input) -> bool {
 
 #[test]
 fn numbers_that_are_none_of_an_input_change_nothing() -> Result<(), Box<dyn std::error::Error>> {
-    let config = Config::new(4.try_into()?, Some(Participant::new(1)), Epoch::new(0), Digest::default());
+    let config = Config::new(
+        Namespace::new([1; 32]),
+        4.try_into()?,
+        Some(Participant::new(1)),
+        Epoch::new(0),
+        Digest::default(),
+    );
     let mut engine = Engine::start(&config, &Options::default(), Moment::default())?;
     let (mut drawn, mut refused) = (Drawn(7), 0);
     for moment in (0..20_000).map(Moment::from_millis) {

@@ -38,4 +38,5 @@ returns c =
       ],
       is.1,
       is.2,
+      is.3,
     )

@@ -72,6 +72,7 @@ returns-in-Ok-Some c =
       ),
       rest.1,
       rest.2,
+      rest.3,
     )
 
 pub returns-in-Ok-None : goal.returns-in-Ok-None
@@ -137,6 +138,7 @@ returns-in-Ok-None c =
       ),
       refl,
       refl,
+      refl,
     )
 
 pub returns-in-Err : goal.returns-in-Err
@@ -197,6 +199,7 @@ returns-in-Err c =
               );
         },
       ),
+      refl,
       refl,
       refl,
     )

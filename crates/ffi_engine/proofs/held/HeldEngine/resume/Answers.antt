@@ -43,6 +43,7 @@ returns-in-Ok-resume-clause-resumed c =
         due_work = rw c.new.ensures.engine c.in-Ok-resume.ensures.due_work;
         none_at_hand = rw c.new.ensures.engine c.in-Ok-resume.ensures.nothing;
         fetch_heights = rw c.new.ensures.engine c.in-Ok-resume.ensures.fetch_heights;
+        namespace = c.new.ensures.namespace;
         draws = c.new.ensures.draws;
         fresh = c.new.ensures.fresh;
       };

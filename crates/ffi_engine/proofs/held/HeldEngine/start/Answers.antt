@@ -33,6 +33,7 @@ returns-in-Ok-start-clause-begun c = record {
     due_work = rw c.new.ensures.engine c.in-Ok-start.ensures.due_work;
     none_at_hand = rw c.new.ensures.engine c.in-Ok-start.ensures.nothing;
     fetch_heights = rw c.new.ensures.engine c.in-Ok-start.ensures.fetch_heights;
+    namespace = c.new.ensures.namespace;
     draws = c.new.ensures.draws;
     fresh = c.new.ensures.fresh;
   };

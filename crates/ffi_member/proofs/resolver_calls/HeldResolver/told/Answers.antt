@@ -14,7 +14,7 @@ returns-in-Ok-Some c =
     let handed = certificate_facts certificate_bytes c.in-Ok-Some.it in
     let kind : (0 < flat.kind) × (flat.kind < 4) = rw is at c.in-Ok-Some.ensures.kind in
     let view : 1 ≤ flat.proposal.round.view = grind (arith, common_steps, c.if-flat-eq0.false) in
-    let made : IsFlatCertificate flat.kind flat c.args.certificate.now handed = rw is at c.in-Ok-Some.ensures.made in
+    let made : IsFlatCertificate flat c.args.certificate.now handed = rw is at c.in-Ok-Some.ensures.made in
     let highest : highest_view c.in-Ok-Some.it ≡ highest_passed flat = rw is at c.in-Ok-Some.ensures.highest in
     inr (
       (kind.0, omega (arith, kind.1), c.in-Some.ensures.1, view),
