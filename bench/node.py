@@ -2,7 +2,7 @@
 """Measures the node in `node/`: views a second and how long a block takes to be final, and where the time of a node's thread goes; or
 how its memory goes over some minutes.
 
-    bench/node.py [--seconds N]            networks of four and of ten nodes, with the disk waited for and without
+    bench/node.py [--seconds N] [--nodes N ..]   networks of four and of ten nodes, or of so many, with the disk waited for and without
     bench/node.py --counts [--seconds N]   what a view costs each of 4, 10, 16 and 25 nodes, in signatures, bytes and certificates: counts, which say
                                            the same on a machine that does much else
     bench/node.py --soak MINUTES [--svg FILE]    a network of four, its memory and its record each ten seconds, drawn
@@ -35,11 +35,11 @@ def run(*arguments):
         raise SystemExit(f"simplex-local {' '.join(arguments)} ended with status {running.returncode}")
 
 
-def table(seconds):
+def table(seconds, sizes):
     print("| Nodes | The disk | Views a second | From build to final, median | 99 % | Waits for the disk a view | In the core | Signing "
           "| Waiting for the disk | For the application | For events |")
     print("|---|---|---|---|---|---|---|---|---|---|---|")
-    for nodes in (4, 10):
+    for nodes in sizes:
         for words in ((), ("--no-sync",)):
             lines = list(run("--nodes", str(nodes), "--seconds", str(seconds), *words))
             rows = [found.groups() for line in lines if (found := ROW.match(line))]
@@ -97,6 +97,7 @@ def soak(minutes, svg):
 def main():
     parser = argparse.ArgumentParser(description=__doc__, formatter_class=argparse.RawDescriptionHelpFormatter)
     parser.add_argument("--seconds", type=int, default=20, help="how long each network runs")
+    parser.add_argument("--nodes", type=int, nargs="+", default=(4, 10), help="how many nodes each network has")
     parser.add_argument("--counts", action="store_true", help="what a view costs")
     parser.add_argument("--soak", type=int, metavar="MINUTES", help="one network's memory over so many minutes")
     parser.add_argument("--svg", type=Path, help="draws the soak into this file")
@@ -107,7 +108,7 @@ def main():
     elif given.counts:
         counts(given.seconds)
     else:
-        table(given.seconds)
+        table(given.seconds, given.nodes)
 
 
 if __name__ == "__main__":

@@ -21,7 +21,7 @@ class Point(NamedTuple):
 
 
 class WrongReply(Exception):
-    """A line was not answered as the workload wants, so what was timed is something else."""
+    """A reply is not as the workload expects, so something else was timed."""
 
 
 def measure(program, workload, size):
@@ -57,7 +57,7 @@ def run(program, arguments, script, replies):
 
 
 def compare(workload, script, wanted, replies):
-    """Every reply is the wanted one."""
+    """Every reply is the expected one."""
     filecmp.clear_cache()
     if filecmp.cmp(wanted, replies, shallow=False):
         return

@@ -1,5 +1,5 @@
 #!/usr/bin/env python3
-"""That the page of a trace shows what the trace says.
+"""Tests that the page of a trace shows what the trace says.
 
 Five simulated networks (healthy, a silent leader, two proposals in terms with handoffs, links that are cut and joined, a crash with a
 pruned record) are traced, `simplex-view` makes a page of each, and a headless Chromium opens it. Views are chosen by click, key, slider

@@ -1,5 +1,5 @@
 #!/usr/bin/env python3
-"""That the node in `node/` continues through what is done to it.
+"""Tests that the node in `node/` continues through faults.
 
 Its layout, its lints and its tests: networks of processes that are killed, parted, slowed, lied to and run out of disk, after which all
 finalized chains agree, no honest node signed two votes that contradict each other, and views are still finalized; and one node among
@@ -9,7 +9,7 @@ members that a test plays. Then a network as a newcomer begins it, with a faulty
     tests/node/node.py --chaos MINUTES               a network under one fault after another, alone: `node/node/tests/chaos.rs`
     tests/node/node.py --wrong                       each wrong body of a table, in a copy: a test has to fail
 
-It ends with status 1 where something is not as it has to be. Where packages are lacking it has `node/setup` install them; where they
+It ends with status 1 where something is not as it has to be. Where packages are missing it has `node/setup` install them; where they
 can't be had it says so in one line, and ends with status 77: skipped."""
 
 import argparse
@@ -27,13 +27,13 @@ from lib.program import ROOT
 
 NODE = ROOT / "node"
 SKIPPED = 77
-LEAST_TESTS = 346
+LEAST_TESTS = 369
 # The libraries that the container of `node/Containerfile` has.
 IN_CONTAINER = {"libssl", "libcrypto", "libgcc_s", "libc", "libm", "libdl", "libpthread"}
 # The words of the network that `./demo` runs.
 NETWORK = re.compile(r"words=\((--.*)\)")
 
-# A file, what stands there, what is put in its place, and what fails then.
+# A file, a text there, what is put in its place, and what fails then.
 WRONG_BODIES = (
     ("the part that verifies passes on votes of anyone", "../../keys/src/messages.rs", "Message::Vote(vote) => public.is_vote(vote),", "Message::Vote(_) => true,"),
     ("the part that verifies passes on any offer of a snapshot", "../../keys/src/messages.rs", "Message::Range(it) | Message::Snapshot(_, it) => public", "Message::Snapshot(..) => true,\n            Message::Range(it) => public"),
@@ -70,8 +70,8 @@ WRONG_BODIES = (
      "create(true).append(true).read(true).open(&new)"),
     ("a host's signer signs by any key", "crypto.rs", "if self.is_hosts && !self.is_good(", "if false && !self.is_good("),
     ("a link that is cut one way is cut both ways", "faults.rs", "cuts.from.extend(one_way.is_none().then_some(member));", "cuts.from.insert(member);"),
-    ("a signer signs any text", "signer/server.rs", "Subject::decode(text).ok_or(\"what is to be signed is no vote\")?",
-     "match Subject::decode(text) { Some(it) => it, None => return Ok(self.key.sign(&Subject::Nullify(Default::default()), text)?.to_vec()) }"),
+    ("a signer signs any text", "signer/server.rs", "subject.ok_or(\"what is to be signed is no vote of this network\")?",
+     "match subject { Some(it) => it, None => return Ok(self.key.sign(&Subject::Nullify(Default::default()), text)?.to_vec()) }"),
     ("a signer of another network is taken", "signer/remote.rs", "if status != DONE || there != who(&self.owner) {", "if status != DONE {"),
     ("a member may hold many connections", "../../net/src/accept.rs", "if let Some(older) = place.replace(open) {",
      "std::mem::forget(open); if let Some(older) = None::<Open> {"),
@@ -83,8 +83,8 @@ WRONG_BODIES = (
     ("a forger stays", "peers/reader.rs", "if self.forged > MOST_FORGED {", "if self.forged == u32::MAX {"),
     ("a block is not compared with its proposal", "peers/reader.rs", "digest(block) == payload || self.count(false)", "payload == payload"),
     ("certificates that are lacking are not asked for", "replica.rs", "Output::Fetch(it) => self.fetch(&it),", "Output::Fetch(_) => {}"),
-    ("blocks that are lacking are not asked for", "missing_blocks.rs", "let is_due = |request: &BlockRequest| request.next <= now;",
-     "let is_due = |_: &BlockRequest| now.as_millis() == u64::MAX;"),
+    ("blocks that are lacking are not asked for", "missing_blocks.rs", "self.wanted.iter_mut().filter_map(due).collect()",
+     "self.wanted.iter_mut().take(0).filter_map(due).collect()"),
     ("peers are served no final blocks", "archive/keeper.rs", "Behind::Blocks(range) => Message::Range(range),",
      "Behind::Blocks(_) => Message::NoRange(after, View::GENESIS),"),
     ("peers are served all that they ask for", "../../net/src/peers.rs", "let is_left = locked(&peer.served).take(frame.len() as f64, Instant::now());",
@@ -107,6 +107,34 @@ WRONG_BODIES = (
     ("children are delivered before their parents", "../../chain/src/final_chain.rs", "taken.push(Entry {", "taken.insert(0, Entry {"),
     ("two final blocks on one parent are taken", "../../chain/src/final_chain.rs", "Some((_, same)) if same == payload => return Ok(()),", "Some(_) => return Ok(()),"),
     ("fetched blocks of no chain are kept", "../../chain/src/final_chain.rs", "self.drop_taken();", ""),
+    ("blocks are archived whose finalization is not stored", "replica/finality.rs", "if last > self.chain.target() {", "if last < View::GENESIS {"),
+    ("the application's thread waits for the disk", "ledger/synced.rs", "self.running = Some(thread::Builder::new().name(\"chain\".into()).spawn(sync)?);",
+     "self.height = sync()?;"),
+    ("a sync that the disk refused counts", "ledger/synced.rs", "self.height = ended.join().map_err(|_| io::Error::other(\"a sync panicked\"))??;",
+     "self.height = ended.join().map_or(height, |it| it.unwrap_or(height));"),
+    ("what the application can't tell yet is not asked again", "application/worker.rs", "            backlog.questions.extend(again);",
+     "            drop(again);"),
+    ("a member that does not reply is asked as often as others", "../../chain/src/catch_up.rs", "self.silent.get(of).is_none_or(|it| it.until <= now);",
+     "self.silent.get(of).is_none_or(|it| it.until <= now) || self.members > 0;"),
+    ("a slice whose first blocks came alone is asked for as before", "../../chain/src/catch_up.rs", "            let after = self.cut_off(after, last);\n",
+     "            let _ = Self::cut_off;\n"),
+    ("what members refuse makes waits longer", "../../chain/src/catch_up.rs", "slice.asked = Some((of, after_missed(now, slice.missed)));",
+     "slice.asked = Some((of, after_missed(now, slice.tries - 1)));"),
+    ("a block is asked of a member that is down", "missing_blocks/asks.rs", "it.is_connected = connection.is_some();", "it.is_connected = true;"),
+    ("a member that is silent is waited for", "missing_blocks/asks.rs", "if self.early > now {", "if self.early < self.again {"),
+    ("a member that is back is asked in its turn alone", "missing_blocks/asks.rs", "self.asked.get(it) != Some(times);", "!self.asked.contains_key(it) && *times > 0;"),
+    ("members are asked early without end", "missing_blocks/asks.rs", "members.take_early(now).then(|| self.ask(next, members, now))",
+     "(members.take_early(now) || true).then(|| self.ask(next, members, now))"),
+    ("certificates are asked of members that are down", "replica/requests.rs", "turns.find(|it| self.parts.peers.connection(*it).is_some());",
+     "turns.find(|it| *it == of);"),
+    ("a member that is heard of again is not back", "replica/requests.rs", "if heard.elapsed() > QUIET {", "if heard.elapsed() > 1000 * QUIET {"),
+    ("final blocks are asked of members that are down", "../../chain/src/catch_up.rs", "|of: &Participant| !self.down.contains(of);",
+     "|of: &Participant| !self.down.contains(of) || *of != self.me;"),
+    ("a connection that ended is open", "../../net/src/link.rs", "let ended = write_frames(&mut session, &link.queue);\n                link.changes.fetch_add(1, Relaxed);",
+     "let ended = write_frames(&mut session, &link.queue);\n                link.changes.fetch_add(2, Relaxed);"),
+    ("a snapshot is waited for that nobody else offers", "state_sync.rs", " || good.len() >= *enough =>", " || good.len() > *enough + 1000 =>"),
+    ("pieces are asked of those first that offered nothing", "state_sync/pieces.rs", "others.sort_by_key(|it| !offered_by.contains(it));",
+     "others.sort_by_key(|it| offered_by.contains(it));"),
     ("a segment that was begun loses the blocks before it", "archive.rs", "for number in self.numbers().into_iter().rev() {\n            let mut found = None;",
      "for number in self.numbers().into_iter().rev().take(1) {\n            let mut found = None;"),
     ("a segment whose blocks a power cut took stays", "archive.rs", "        archive.segments.remove_empty(archive.tail.height + 1)?;\n", ""),
@@ -168,7 +196,8 @@ WRONG_BODIES = (
      "let _ = file.write_all(&framed).map_err(not_stored(&segment));"),
     ("an archive that can't be stored is logged alone", "archive/keeper.rs",
      "self.inbox.tell(Event::Failed(format!(\"the archive: {error}\")));\n                return;", "self.log(&error);"),
-    ("a chain that can't be stored is ignored", "ledger.rs", "self.file.sync_data().map_err(not_stored(&self.path))?;", "let _ = self.file.sync_data();"),
+    ("a chain that can't be stored is ignored", "ledger.rs", "self.synced.next(&self.file, self.height).map_err(not_stored(&self.path))",
+     "Ok(self.synced.next(&self.file, self.height).unwrap_or(self.height))"),
     ("a vote that a signer did not store is signed when it is asked for again", "signer/guard.rs", "        if self.has_failed {\n", "        if false {\n"),
     ("a new file that a crash left stays", "signer/guard.rs", "        guard.remove_left_files();\n", ""),
     ("a new file of others is removed", "signer/guard.rs", "text.starts_with(of_owner) && text[..end].lines().skip(1).all(is_stored)", "end > 0 || is_stored(text) || true"),
@@ -202,14 +231,20 @@ WRONG_BODIES = (
     ("a journal that is older than the chain is taken", "start.rs", "if height == 0 || last <= finalized {", "if true {"),
     ("a block is final before its finalization is stored", "replica.rs", "matches!(output, Output::Finalized(_)) || is_behind", "is_behind"),
     ("a run removes what it did not write", "run_folder.rs", "if !is_empty && !is_marked {", "if false {"),
-    ("blocks are built without a pause", "pace.rs", "let due = self.last.map_or(now, |last| last + self.least);", "let due = now;"),
+    ("blocks are built without a pause", "pace.rs", "let paced = self.last.map_or(now, |last| last + self.least);", "let paced = now;"),
+    ("a handoff does not wait", "pace.rs", "if is_handoff { paced.max(asked.since + self.handoff) } else { paced }", "paced"),
+    ("a handoff waits after its view was entered", "pace.rs", "let is_handoff = *view > current && self", "let is_handoff = self"),
+    ("a block within a term waits as in a handoff", "pace.rs", "*view > current && self.turns.begins_term(*view)", "*view > current"),
     ("a leader's vote is not sent to those that voted for another proposal", "leader_votes.rs", "found.to_send = seen.others(leader);", ""),
     ("a leader's vote is dropped where its view is certified", "peers/reader.rs", "(is_proposal || !horizon.knows(&vote.subject))",
      "!horizon.knows(&vote.subject)"),
     ("a vote for another proposal is dropped where the view is certified", "peers/horizon.rs",
      "locked(&self.known).certificates.get(&key) == Some(subject)", "locked(&self.known).certificates.contains_key(&key)"),
     ("votes in a notarization are not compared", "replica/far.rs", "let found = self.leader_votes.see_certificate(&it);", "let found = Default::default();"),
-    ("what is signed in one network counts in another", "../../identity/src/network_name.rs", "[SIGNED, &self.prefixed(), text].concat()", "[SIGNED, text].concat()"),
+    ("what is signed in one network counts in another", "../../identity/src/identity.rs", "self.shared(b\"simplex-node namespace\").into()",
+     "Namespace::new([0; 32])"),
+    ("a vote is verified without its namespace", "../../keys/src/public.rs", "&vote.subject.text(&self.namespace)", "&vote.subject.encode()"),
+    ("the settings name another namespace", "settings.rs", "(self.identity()?.namespace(), Epoch::new(it.epoch))", "(simplex_view_state::Namespace::new([0; 32]), Epoch::new(it.epoch))"),
     ("a journal of another network is taken", "../../identity/src/identity.rs", "if self.network != member.network {", "if false {"),
     ("genesis is the same in all networks", "../../identity/src/identity.rs", "text.extend_from_slice(&self.network.prefixed());", ""),
     ("who answers at a member's address is taken for it", "../../net/src/tls.rs",
@@ -275,7 +310,8 @@ WRONG_BODIES = (
      "if next.0 <= last.0 {\n                return Branch::Missing(next.0, next.1);"),
     ("what waits for a block waits on where that is archived", "missing_blocks.rs", "self.take_where(|block| block.0 <= upto)", "self.take_where(|block| block.0 < upto && upto == View::GENESIS)"),
     ("a build that never began is not answered", "application/worker.rs", "is_build || !is_passed", "let _ = is_build; !is_passed"),
-    ("a damaged line of the chain is cut away", "ledger.rs", "    links.collect()\n", "    Ok(links.map_while(Result::ok).collect())\n"),
+    ("a damaged line of the chain is cut away", "ledger.rs", "            let link = link?;\n", "            let Ok(link) = link else { break };\n"),
+    ("a start has the whole chain in memory", "ledger.rs", "for link in Lines::of(folder)? {", "for link in read_chain(folder)?.into_iter().map(Ok::<Link, io::Error>) {"),
     ("a key that others may read is taken", "crypto.rs", "if mode & 0o077 != 0 {", "if mode == 0 {"),
     ("the bytes of a secret key stay in memory", "crypto.rs", "    secret.fill(0);\n", ""),
     ("a clock falls back with the machine's", "clock.rs", "self.ahead += by;", "self.ahead = Duration::ZERO; self.begun = Instant::now();"),
@@ -303,7 +339,7 @@ def faults(surroundings, target):
         if (count := (NODE / "node/src" / file).read_text().count(old)) != 1:
             yield f"{name}: its text stands {count} times in {file}"
     passed = 0
-    # Built alone first, as a newcomer does: the tests' build would bring what a command lacks.
+    # Built alone first, as a newcomer does: the tests' build would bring what a command does not name.
     yield from newcomers_faults(surroundings, target)
     yield from operators_faults(target)
     for words in (("fmt", "--check"), ("clippy", "--offline", "--quiet", "--all-targets", "--", "-D", "warnings"), ("test", "--offline")):
@@ -408,7 +444,8 @@ def wrong_bodies(surroundings, room, only):
 def main():
     parser = argparse.ArgumentParser(description=__doc__, formatter_class=argparse.RawDescriptionHelpFormatter)
     parser.add_argument("--archive", type=Path, help="the library, if it is built already")
-    parser.add_argument("--long", action="store_true", help="fifty kills, what floods cost, a minute without packets, long blocks")
+    parser.add_argument("--target", type=Path, help="cargo's folder (else one that is removed)")
+    parser.add_argument("--long", action="store_true", help="fifty kills, what floods cost, a minute without packets, long blocks, processes that stand still")
     parser.add_argument("--chaos", type=float, metavar="MINUTES", help="one network under one fault after another, for so long, alone")
     parser.add_argument("--wrong", action="store_true", help="the wrong bodies alone")
     parser.add_argument("--only", default="", help="the wrong bodies whose name holds this")
@@ -420,7 +457,7 @@ def main():
         archive = given.archive and given.archive.resolve() or room / "libsimplex.a"
         if not given.archive:
             subprocess.run([ROOT / "bindings/build", "--unproved", "--out", archive], check=True)
-        target = room / "target"
+        target = given.target or room / "target"
         surroundings = {**os.environ, "SIMPLEX_ARCHIVE": str(archive), "CARGO_TARGET_DIR": str(target), "CARGO_NET_OFFLINE": "true"}
         surroundings |= {"SIMPLEX_LONG": "1"} if given.long else {}
         if given.chaos:

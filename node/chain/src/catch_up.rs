@@ -1,10 +1,11 @@
-//! Final blocks that are lacking, asked for in ranges from the last one that is here on, of several members at once.
+//! Missing final blocks, asked for in ranges from the last one that is here on, of several members at once.
 //!
 //! The views up to the last finalized one are cut into slices. A few are asked for at a time, each of another member, and again of the next
-//! one where no answer comes, after a time that doubles. An answer may end earlier: what is left of its slice is asked for anew.
+//! one where no reply comes, after a time that doubles. A reply may end earlier: the rest of its slice is asked for anew. A member that
+//! did not reply is passed over for a while, since each ask of it would cost such a time; one without a connection, until it has one.
 
 use simplex_view_state::{Moment, Participant, View};
-use std::collections::BTreeMap;
+use std::collections::{BTreeMap, BTreeSet};
 use std::time::Duration;
 
 /// How many views a slice has.
@@ -18,15 +19,34 @@ const RETRY: (Duration, Duration) = (Duration::from_millis(500), Duration::from_
 #[derive(Debug)]
 struct Slice {
     upto: View,
-    /// Of whom it is asked, until when; none where it came.
+    /// The member that is asked, and until when; none where the blocks came.
     asked: Option<(Participant, Moment)>,
+    /// True if that member refused it.
+    is_refused: bool,
     tries: u32,
+    /// How often nobody replied.
+    missed: u32,
 }
 
-/// What is asked for.
+/// A member that did not reply.
+#[derive(Debug)]
+struct Silence {
+    /// How often in a row.
+    missed: u32,
+    /// Until when it is passed over.
+    until: Moment,
+}
+
+/// The time after a moment that doubles with what was missed.
+fn after_missed(now: Moment, missed: u32) -> Moment {
+    let wait = (RETRY.0 * 2_u32.pow(missed.min(8))).min(RETRY.1);
+    Moment::from_millis(now.as_millis() + wait.as_millis() as u64)
+}
+
+/// A request for blocks.
 #[derive(Clone, Copy, PartialEq, Eq, Debug)]
 pub struct Ask {
-    /// Of whom.
+    /// The member that is asked.
     pub of: Participant,
     /// The blocks behind this view.
     pub after: View,
@@ -41,6 +61,9 @@ pub struct CatchUp {
     members: u32,
     next: Participant,
     slices: BTreeMap<View, Slice>,
+    silent: BTreeMap<Participant, Silence>,
+    /// The members without a connection.
+    down: BTreeSet<Participant>,
     /// The highest view just behind which a member has pruned the blocks: it has pruned those of all lower ones too.
     pruned: BTreeMap<Participant, View>,
 }
@@ -53,12 +76,23 @@ impl CatchUp {
             members,
             next: Participant::new((me.get() + 1) % members),
             slices: BTreeMap::new(),
+            silent: BTreeMap::new(),
+            down: BTreeSet::new(),
             pruned: BTreeMap::new(),
         }
     }
 
-    /// What is to be asked for now, behind the last block that is here and up to the last finalized view. Where there is no room for more,
-    /// the blocks just behind the last one alone.
+    /// There is a connection to a member, or none any more. While there is none, others are asked.
+    pub fn connected(&mut self, member: Participant, is_connected: bool) {
+        if is_connected {
+            self.down.remove(&member);
+        } else {
+            self.down.insert(member);
+        }
+    }
+
+    /// Returns what is to be asked for now, behind the last block that is here and up to the last finalized view. Where there is no room
+    /// for more, the blocks just behind the last one alone.
     pub fn due(&mut self, last: View, target: View, is_full: bool, now: Moment) -> Vec<Ask> {
         self.slices.retain(|_, it| it.upto > last);
         if self.members == 1 {
@@ -78,9 +112,23 @@ impl CatchUp {
         };
         let due: Vec<View> = self.slices.iter().filter_map(is_due).collect();
         for after in due.into_iter().take(most.saturating_sub(open)) {
+            let after = self.cut_off(after, last);
             asks.extend(self.ask(after, now));
         }
         asks
+    }
+
+    /// Blocks come alone too. A slice whose first ones are here is asked for from the last one of them on: else members that have pruned the
+    /// next block refuse another one. Returns where the slice begins now.
+    fn cut_off(&mut self, after: View, last: View) -> View {
+        if after < last
+            && !self.slices.contains_key(&last)
+            && let Some(slice) = self.slices.remove(&after)
+        {
+            self.slices.insert(last, slice);
+            return last;
+        }
+        after
     }
 
     /// Cuts what no slice has into slices, a few ahead. They are due at once.
@@ -98,7 +146,9 @@ impl CatchUp {
             let slice = Slice {
                 upto,
                 asked: Some((self.me, Moment::from_millis(0))),
+                is_refused: false,
                 tries: 0,
+                missed: 0,
             };
             self.slices.insert(after, slice);
             after = upto;
@@ -106,17 +156,47 @@ impl CatchUp {
     }
 
     fn ask(&mut self, after: View, now: Moment) -> Option<Ask> {
-        let of = self.next;
-        self.next = self.following(of);
+        self.note_silence(after, now);
+        let of = self.turn(now);
         let slice = self.slices.get_mut(&after)?;
-        let wait = (RETRY.0 * 2_u32.pow(slice.tries.min(8))).min(RETRY.1);
         slice.tries += 1;
-        slice.asked = Some((of, Moment::from_millis(now.as_millis() + wait.as_millis() as u64)));
+        slice.is_refused = false;
+        slice.asked = Some((of, after_missed(now, slice.missed)));
         Some(Ask {
             of,
             after,
             upto: slice.upto,
         })
+    }
+
+    /// A slice is due: the member of which it was asked did not reply, unless it refused it. (Several slices may be asked of one member.)
+    fn note_silence(&mut self, after: View, now: Moment) {
+        let Some(slice) = self.slices.get_mut(&after).filter(|it| !it.is_refused) else {
+            return;
+        };
+        let Some((of, _)) = slice.asked.filter(|(of, _)| *of != self.me) else {
+            return;
+        };
+        slice.missed += 1;
+        let silence = self.silent.entry(of).or_insert(Silence { missed: 0, until: now });
+        if silence.until <= now {
+            silence.missed += 1;
+            silence.until = after_missed(now, silence.missed);
+        }
+    }
+
+    /// The member whose turn it is: those that did not reply are passed over, unless all did not; and those without a connection, unless
+    /// nobody has one.
+    fn turn(&mut self, now: Moment) -> Participant {
+        let others = || std::iter::successors(Some(self.next), |of| Some(self.following(*of))).take(self.members as usize - 1);
+        let is_connected = |of: &Participant| !self.down.contains(of);
+        let is_heard = |of: &Participant| self.silent.get(of).is_none_or(|it| it.until <= now);
+        let of = others()
+            .find(|it| is_connected(it) && is_heard(it))
+            .or_else(|| others().find(is_connected));
+        let of = of.unwrap_or(self.next);
+        self.next = self.following(of);
+        of
     }
 
     /// The member whose turn comes after another's: any but this one.
@@ -133,7 +213,9 @@ impl CatchUp {
     pub fn arrived(&mut self, after: View, upto: View) {
         if let Some(slice) = self.slices.get_mut(&after) {
             slice.upto = upto;
-            slice.asked = None;
+            if let Some((of, _)) = slice.asked.take() {
+                self.silent.remove(&of);
+            }
         }
     }
 
@@ -143,10 +225,11 @@ impl CatchUp {
             let highest = self.pruned.entry(by).or_insert(after);
             *highest = after.max(*highest);
         }
+        self.silent.remove(&by);
         let is_its_own = |it: &&mut Slice| it.asked.is_some_and(|(peer, _)| peer == by);
         if let Some(slice) = self.slices.get_mut(&after).filter(is_its_own) {
             let soon = Moment::from_millis(now.as_millis() + 50 * u64::from(slice.tries.min(40)));
-            slice.asked = Some((by, soon));
+            (slice.asked, slice.is_refused) = (Some((by, soon)), true);
         }
     }
 
@@ -155,7 +238,7 @@ impl CatchUp {
         self.pruned.values().filter(|highest| **highest >= after).count()
     }
 
-    /// Blocks that came are lacking again, all of them.
+    /// All blocks that came are missing again.
     pub fn begin_anew(&mut self) {
         self.slices.clear();
     }
@@ -208,6 +291,69 @@ mod tests {
         }
         assert_eq!(times[..5], [(0, 0), (500, 1), (1500, 2), (3500, 0), (7500, 1)]);
         assert!(times.len() < 8, "{times:?}");
+    }
+
+    #[test]
+    fn a_slice_whose_first_blocks_came_alone_is_asked_for_from_the_next_one_on() {
+        let mut it = CatchUp::new(Participant::new(0), 4);
+        assert_eq!(ranges(&it.due(view(7), view(600), false, at(0))), [(1, 7, 600)]);
+        it.refused(Participant::new(1), view(7), true, at(1));
+        for (by, now) in [(2, 100), (3, 300)] {
+            assert_eq!(ranges(&it.due(view(11), view(600), false, at(now))), [(by, 11, 600)]);
+            assert_eq!(it.asked().collect::<Vec<_>>(), [view(11)]);
+            it.refused(Participant::new(by), view(11), true, at(now));
+        }
+        assert_eq!(it.pruned_by(view(11)), 2);
+    }
+
+    /// When two members have said that they pruned what is missing, where the other one is down and a view is final each so many milliseconds.
+    fn known_to_be_pruned(down: u32, each_ms: u64) -> Option<u64> {
+        let mut it = CatchUp::new(Participant::new(3), 4);
+        (0..30_000).step_by(10).find(|now| {
+            for ask in it.due(view(7), view(600 + now / each_ms), false, at(*now)) {
+                match ask.of.get() == down {
+                    true => {}
+                    false if ask.after == view(7) => it.refused(ask.of, ask.after, true, at(*now)),
+                    false => it.arrived(ask.after, ask.upto),
+                }
+            }
+            it.pruned_by(view(7)) == 2
+        })
+    }
+
+    #[test]
+    fn a_member_that_is_down_costs_one_short_wait() {
+        for (down, each_ms) in [0, 1, 2].into_iter().flat_map(|down| [20, 50, 90, 300, 700].map(|it| (down, it))) {
+            let known = known_to_be_pruned(down, each_ms);
+            assert!(known.is_some_and(|it| it < 1000), "{down}, {each_ms}: after {known:?} ms");
+        }
+    }
+
+    #[test]
+    fn a_member_without_a_connection_is_asked_once_it_has_one() {
+        let mut it = CatchUp::new(Participant::new(3), 4);
+        it.connected(Participant::new(0), false);
+        let of = |asks: Vec<Ask>| asks.iter().map(|ask| ask.of.get()).collect::<Vec<_>>();
+        assert_eq!(of(it.due(view(0), view(100_000), false, at(0))), [1, 2, 1, 2, 1, 2, 1, 2, 1]);
+        it.connected(Participant::new(0), true);
+        assert_eq!(of(it.due(view(0), view(100_000), false, at(500)))[..2], [2, 0]);
+        (0..3).for_each(|down| it.connected(Participant::new(down), false));
+        assert_eq!(it.due(view(0), view(100_000), false, at(2000)).len(), 9, "nobody has one");
+    }
+
+    /// A member that lies replies at once, and never with blocks.
+    #[test]
+    fn a_member_that_did_not_reply_once_is_asked_again() {
+        let (mut it, mut of_silent) = (CatchUp::new(Participant::new(3), 4), Vec::new());
+        for now in 0..20_000 {
+            for ask in it.due(view(0), view(5), false, at(now)) {
+                match ask.of.get() {
+                    0 => of_silent.push(now),
+                    _ => it.refused(ask.of, ask.after, false, at(now)),
+                }
+            }
+        }
+        assert!(of_silent.len() >= 3 && of_silent[1] < 3000, "{of_silent:?}");
     }
 
     #[test]

@@ -14,7 +14,7 @@ pub struct Tail {
     pub height: u64,
     /// Its last block's view.
     pub view: View,
-    /// That block's digest.
+    /// The digest of that block.
     pub payload: Digest,
 }
 
@@ -52,7 +52,7 @@ impl std::fmt::Display for Fork {
 
 impl std::error::Error for Fork {}
 
-/// What is final, and not handed on yet.
+/// The final blocks that are not passed on yet.
 #[derive(Debug)]
 pub struct FinalChain<B> {
     tail: Tail,
@@ -162,7 +162,7 @@ impl<B: Linked + Clone> FinalChain<B> {
         while payload != self.tail.payload {
             if view <= self.tail.view {
                 return Err(Fork(format!(
-                    "a final chain has a block of view {view}, and lacks that of view {}: the chain forks",
+                    "a final chain has a block of view {view} and none of view {}: the chain forks",
                     self.tail.view
                 )));
             }

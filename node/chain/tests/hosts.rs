@@ -27,7 +27,7 @@ fn check<S: Strategy>(cases: u32, inputs: &S, property: impl Fn(S::Value) -> Tes
     }
 }
 
-/// What happens to a host. An index is a place among the blocks that it may have heard of by then.
+/// An event of a host. An index is a place among the blocks that it may have received by then.
 #[derive(Clone, Debug)]
 enum Event {
     /// A block of the chain comes.
@@ -74,7 +74,7 @@ fn views() -> impl Strategy<Value = Vec<u64>> {
 /// A host: what it keeps over its lifetimes, and the chain of this one.
 struct Host {
     store: HashMap<Digest, Block>,
-    /// What the application has.
+    /// The blocks that the application has.
     delivered: Vec<Block>,
     chain: FinalChain<Block>,
     /// The last block that was reported as final.

@@ -78,7 +78,7 @@ fn two_final_blocks_on_one_parent_are_a_fork() {
     behind.finalize(&proposal(&made[1]), None, &store).expect("no fork");
     assert_eq!(behind.take(&store).len(), 2);
     let said = behind.finalize(&proposal(&other[0]), None, &store).expect_err("a fork");
-    assert!(said.to_string().contains("lacks that of view 2"), "{said}");
+    assert!(said.to_string().contains("none of view 2"), "{said}");
 }
 
 /// A range that was not verified may have blocks that no final block links to.

@@ -2,7 +2,7 @@
 
 use crate::network_name::{self, NetworkName};
 use sha2::{Digest as _, Sha256};
-use simplex_view_state::Digest;
+use simplex_view_state::{Digest, Namespace};
 use std::fmt;
 
 /// How many bytes an identity has.
@@ -22,7 +22,7 @@ pub fn hex(bytes: &[u8]) -> String {
     bytes.iter().map(|byte| format!("{byte:02x}")).collect()
 }
 
-/// What votes of a lifetime must have in common with those of all later ones.
+/// The identity that all votes of one key share, over all lifetimes.
 #[derive(Clone, PartialEq, Eq, Debug)]
 pub struct Identity {
     /// The network's name.
@@ -69,7 +69,17 @@ impl Identity {
 
     /// The payload of genesis: the same for all members, and another one in each network and epoch.
     pub fn genesis(&self) -> Digest {
-        let mut text = b"simplex-node genesis".to_vec();
+        self.shared(b"simplex-node genesis")
+    }
+
+    /// The namespace of all that members sign: the same for all of them, and another one in each network and epoch.
+    pub fn namespace(&self) -> Namespace {
+        self.shared(b"simplex-node namespace").into()
+    }
+
+    /// The digest, for a purpose, of all that members share.
+    fn shared(&self, purpose: &[u8]) -> Digest {
+        let mut text = purpose.to_vec();
         text.extend_from_slice(&self.network.prefixed());
         text.extend_from_slice(&self.epoch.to_be_bytes());
         text.extend_from_slice(self.members.bytes());
@@ -164,7 +174,7 @@ mod tests {
     }
 
     #[test]
-    fn genesis_is_of_the_network_the_epoch_the_members_and_the_term_length() {
+    fn genesis_and_namespace_are_of_the_network_the_epoch_the_members_and_the_term_length() {
         let it = Identity {
             network: NetworkName::try_from("main".to_owned()).expect("a name"),
             key: [3; 32],
@@ -172,26 +182,23 @@ mod tests {
             term_length: 2,
             members: Digest::new([4; 32]),
         };
-        let network = NetworkName::try_from("test".to_owned()).expect("a name");
-        let members = Digest::new([5; 32]);
-        assert_ne!(it.genesis(), Identity { network, ..it.clone() }.genesis());
-        assert_ne!(it.genesis(), Identity { members, ..it.clone() }.genesis());
-        assert_ne!(it.genesis(), Identity { epoch: 2, ..it.clone() }.genesis());
-        assert_ne!(
-            it.genesis(),
-            Identity {
-                term_length: 1,
-                ..it.clone()
-            }
-            .genesis()
-        );
-        assert_eq!(
-            it.genesis(),
-            Identity {
-                key: [9; 32],
-                ..it.clone()
-            }
-            .genesis()
-        );
+        let changed = |change: fn(&mut Identity)| {
+            let mut other = it.clone();
+            change(&mut other);
+            other
+        };
+        for other in [
+            changed(|it| it.network = NetworkName::try_from("test".to_owned()).expect("a name")),
+            changed(|it| it.members = Digest::new([5; 32])),
+            changed(|it| it.epoch = 2),
+            changed(|it| it.term_length = 1),
+        ] {
+            assert_ne!(it.genesis(), other.genesis(), "{other:?}");
+            assert_ne!(it.namespace(), other.namespace(), "{other:?}");
+        }
+        let of_another_member = changed(|it| it.key = [9; 32]);
+        assert_eq!(it.genesis(), of_another_member.genesis());
+        assert_eq!(it.namespace(), of_another_member.namespace());
+        assert_ne!(it.genesis().bytes(), it.namespace().bytes());
     }
 }

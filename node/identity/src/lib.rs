@@ -1,7 +1,7 @@
 //! Who a member of a Simplex network is.
 //!
-//! A key may sign in several networks and epochs, and its votes must count in one of them only. So all that a member signs begins with its
-//! network's name ([`NetworkName::signed`]), genesis is another one in each network and epoch ([`Identity::genesis`]), and what a member
+//! A key may sign in several networks and epochs, and its votes must count in one of them only. So all that a member signs begins with a
+//! namespace ([`Identity::namespace`]), which is another one in each network and epoch, as genesis is ([`Identity::genesis`]). What a member
 //! stores says whose it is ([`Identity::to_bytes`]).
 //!
 //! ```
@@ -11,10 +11,8 @@
 //! let keys = [[3; 32], [4; 32]];                       // all members' public keys, in order
 //! let me = Identity { network, key: keys[0], epoch: 1, term_length: 1, members: members_digest(&keys) };
 //!
-//! let text = me.network.signed(b"the text of a vote"); // what the key signs, and what others verify
-//! assert!(text.ends_with(b"the text of a vote"));
-//!
 //! let next = Identity { epoch: 2, ..me.clone() };
+//! assert_ne!(me.namespace(), next.namespace());
 //! assert_ne!(me.genesis(), next.genesis());
 //! let difference = me.differs_from(&next).expect("the epoch");
 //! assert!(difference.to_string().contains("epoch 1"));

@@ -1,11 +1,9 @@
-//! The name of a network: all that its members sign begins with it, so no signature of one network counts in another.
+//! The name of a network.
 
 use std::fmt;
 
 /// How many bytes a name has at most.
 pub const LONGEST: usize = 64;
-/// What each signed text begins with. No certificate and no handshake of TLS, which the same key signs too, begins so.
-const SIGNED: &[u8] = b"simplex-node";
 
 /// The name of a network: 1 to 64 letters, digits and signs `-`, `_`, `.` of ASCII.
 #[derive(Clone, Debug, PartialEq, Eq)]
@@ -54,11 +52,6 @@ impl NetworkName {
         let name = String::from_utf8(name.to_vec()).ok()?;
         Some((NetworkName::try_from(name).ok()?, rest))
     }
-
-    /// What a member of the network signs for a text.
-    pub fn signed(&self, text: &[u8]) -> Vec<u8> {
-        [SIGNED, &self.prefixed(), text].concat()
-    }
 }
 
 #[cfg(test)]
@@ -67,16 +60,6 @@ mod tests {
 
     fn name(text: &str) -> NetworkName {
         NetworkName::try_from(text.to_owned()).expect("a name")
-    }
-
-    #[test]
-    fn no_two_names_and_texts_are_signed_alike() {
-        let texts = [("a", "bc"), ("b", "bc"), ("ab", "c"), ("abc", ""), ("a", "\u{1}bc")];
-        let signed: Vec<_> = texts.iter().map(|(it, text)| name(it).signed(text.as_bytes())).collect();
-        for (at, it) in signed.iter().enumerate() {
-            assert!(!signed[..at].contains(it), "{:?}", texts[at]);
-            assert!(it.starts_with(b"simplex-node"));
-        }
     }
 
     #[test]

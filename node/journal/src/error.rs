@@ -5,10 +5,10 @@ use simplex_identity::Difference;
 use std::path::{Path, PathBuf};
 use std::{fmt, io};
 
-/// What is left to do where votes may be lost.
+/// The advice where votes may be lost.
 pub const NEW_KEY: &str = "If there is none, this key must never vote again: the member needs a new one, with the next epoch";
 
-/// What is left to do where the disk refuses what a node writes.
+/// The advice where the disk refuses a write.
 pub const BEGIN_AGAIN: &str = "Make room or mend the disk, then start again: no vote was sent that is not stored";
 
 /// An error of a journal, with the file that it is about.
@@ -16,11 +16,11 @@ pub const BEGIN_AGAIN: &str = "Make room or mend the disk, then start again: no 
 pub struct JournalError {
     /// The file.
     pub path: PathBuf,
-    /// What is wrong.
+    /// The cause.
     pub cause: Cause,
 }
 
-/// What is wrong with a journal.
+/// Why a journal is refused.
 #[derive(Debug)]
 pub enum Cause {
     /// The disk refuses.
@@ -31,8 +31,8 @@ pub enum Cause {
     NoJournal,
     /// Another release wrote it, with this version.
     OtherVersion(u8),
-    /// Its votes, of this version, are signed without the name of a network.
-    OfNoNetwork(u8),
+    /// Its votes, of this version, are signed without the namespace of a network.
+    OfNoNamespace(u8),
     /// It is another member's, or of another network, epoch, list of members or term length.
     Other(Difference),
     /// Bytes are changed after this many whole ones. Votes may be among them, so this key must not vote again.
@@ -90,9 +90,9 @@ impl fmt::Display for Cause {
                 f,
                 "the journal has version {it}, and this release reads {VERSION}: run the release that wrote it"
             ),
-            Cause::OfNoNetwork(it) => write!(
+            Cause::OfNoNamespace(it) => write!(
                 f,
-                "the journal has version {it}, whose votes are signed without the name of a network, and count in none of this release: end \
+                "the journal has version {it}, whose votes are signed without a network's namespace, and count in none of this release: end \
                  the epoch with the release that wrote it, and begin the next epoch with this one, in a folder of its own"
             ),
             Cause::Other(difference) => write!(f, "this journal is not this member's: {difference}"),

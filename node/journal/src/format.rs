@@ -8,27 +8,27 @@ use std::io;
 
 const NAME: &[u8; 8] = b"simplexj";
 /// The version that is written and read. From 3 on a journal says whose it is, from 4 on of which network; from 5 on pieces say what was
-/// synced before them.
-pub const VERSION: u8 = 5;
-/// The last version whose votes are signed without the network's name.
-const OF_NO_NETWORK: u8 = 3;
+/// synced before them; from 6 on the texts of votes begin with the network's namespace.
+pub const VERSION: u8 = 6;
+/// The last version whose votes are signed without the network's namespace.
+const OF_NO_NAMESPACE: u8 = 5;
 /// How many bytes the letters and the version have.
 pub(crate) const BEGIN: usize = 9;
 /// How many bytes the file has before its first piece.
 pub const HEAD: usize = BEGIN + identity::SIZE + 32;
-/// The first and the last byte of a piece: neither is zero, so a piece's first and last sector are told from unwritten ones.
+/// The first and the last byte of a piece: neither is zero, which distinguishes a piece's first and last sector from unwritten ones.
 const MARKS: (u8, u8) = (0xa5, 0x5a);
 /// How many bytes a piece has before its body: the mark, the length and its complement, and what was synced.
 const BEFORE: usize = 1 + 8 + 8;
 /// .. and behind it: a digest, and the mark.
 const BEHIND: usize = 32 + 1;
-/// What a disk writes as a whole, at least.
+/// The bytes that a disk writes as a whole, at least.
 const SECTOR: usize = 512;
 
-/// What a journal held.
+/// The contents of a journal, as they were read back.
 #[derive(Clone, PartialEq, Eq, Debug)]
 pub struct Recovered {
-    /// What was stored beside the record last.
+    /// The last `Stored` that was written beside the record.
     pub stored: Stored,
     /// The record's entries.
     pub frames: Vec<u8>,
@@ -68,7 +68,7 @@ fn digest(bytes: &[u8]) -> [u8; 32] {
 pub fn parse(bytes: &[u8]) -> Result<(Identity, Recovered), Cause> {
     match version_of(bytes)? {
         VERSION => {}
-        earlier @ ..=OF_NO_NETWORK => return Err(Cause::OfNoNetwork(earlier)),
+        earlier @ ..=OF_NO_NAMESPACE => return Err(Cause::OfNoNamespace(earlier)),
         other => return Err(Cause::OtherVersion(other)),
     }
     Ok((identity_of(bytes)?, recovered(bytes)?))
@@ -98,7 +98,7 @@ pub(crate) fn head(identity: &Identity) -> Vec<u8> {
     head
 }
 
-/// What the pieces hold, up to a torn tail. The first piece was synced before the file got its name.
+/// Returns what the pieces hold, up to a torn tail. The first piece was synced before the file got its name.
 fn recovered(bytes: &[u8]) -> Result<Recovered, Cause> {
     let (mut at, mut stored, mut frames) = (HEAD, None, Vec::new());
     while at < bytes.len() {
@@ -142,12 +142,13 @@ fn piece_at(bytes: &[u8], at: usize) -> Option<Piece<'_>> {
     })
 }
 
-/// Whether a later piece says that the bytes from here on had been synced before it was written.
+/// Returns whether a later piece says that the bytes from here on had been synced before it was written.
 fn was_synced(bytes: &[u8], at: usize) -> bool {
     (at + 1..bytes.len()).any(|later| piece_at(bytes, later).is_some_and(|it| it.synced > at as u64))
 }
 
-/// Whether the piece there, which is not whole, may be one that a power cut left so: it ends early, or a sector of it was never written.
+/// Returns whether the piece there, which is not whole, may be one that a power cut left so: it ends early, or a sector of it was never
+/// written.
 fn is_torn(bytes: &[u8], at: usize) -> bool {
     let (least, end) = match length_at(bytes, at) {
         Some(length) => (BEFORE + length + BEHIND, at + BEFORE + length + BEHIND),

@@ -19,8 +19,8 @@ pub fn path(folder: &Path) -> PathBuf {
     folder.join("journal")
 }
 
-/// Reads what a folder's journal holds; `None` where there is none. No process has to use the folder: a journal that is written to meanwhile
-/// may look torn.
+/// Reads what a folder's journal holds; `None` where there is none. No process has to use the folder: a journal that is written to
+/// meanwhile may look torn.
 ///
 /// # Errors
 ///
@@ -133,7 +133,7 @@ impl Journal {
         })
     }
 
-    /// Whether something was appended since the last [`Journal::sync`].
+    /// Returns whether something was appended since the last [`Journal::sync`].
     pub fn is_dirty(&self) -> bool {
         self.is_dirty
     }
@@ -221,7 +221,8 @@ fn replace(folder: &Path, bytes: &[u8]) -> Result<(), Cause> {
     Ok(sync_folder(folder)?)
 }
 
-/// Whether a file is not there, or holds only what a crash leaves of these bytes: a beginning, and zeros where they were not written.
+/// Returns whether a file is not there, or holds only what a crash leaves of these bytes: a beginning, and zeros where they were not
+/// written.
 fn is_begun(path: &Path, bytes: &[u8]) -> io::Result<bool> {
     match fs::read(path) {
         Ok(left) => Ok(left.len() <= bytes.len() && left.iter().zip(bytes).all(|(left, byte)| *left == *byte || *left == 0)),

@@ -7,13 +7,13 @@
 //! ```
 //! use simplex_identity::{Identity, members_digest};
 //! use simplex_journal::Journal;
-//! use simplex_view_state::{Config, Digest, Epoch, Moment, Options, Output, Participant};
+//! use simplex_view_state::{Config, Epoch, Moment, Options, Output, Participant};
 //!
 //! # let folder = std::env::temp_dir().join(format!("simplex-journal-example-{}", std::process::id()));
 //! # let _ = std::fs::remove_dir_all(&folder);
 //! let keys = [[7; 32]];
 //! let me = Identity { network: "example".to_owned().try_into()?, key: keys[0], epoch: 1, term_length: 1, members: members_digest(&keys) };
-//! let config = Config::new(1.try_into()?, Some(Participant::new(0)), Epoch::new(1), me.genesis());
+//! let config = Config::new(me.namespace(), 1.try_into()?, Some(Participant::new(0)), Epoch::new(1), me.genesis());
 //! let (options, now) = (Options::default(), Moment::from_millis(0));
 //!
 //! let (mut journal, recovered) = Journal::open(&folder, &me, true)?;   // takes the folder for this process alone

@@ -1,4 +1,4 @@
-//! What a power cut leaves of a journal, and what it does not: the last write torn at each byte, sector and page, and bytes that changed.
+//! Journals after a power cut: the last write torn at each byte, sector and page, and bytes that changed.
 
 mod common;
 
@@ -12,7 +12,7 @@ use std::path::Path;
 const SECTOR: usize = 512;
 const PAGE: usize = 4096;
 
-/// What a journal is: its bytes, where each piece begins, and what was recorded up to each.
+/// A journal: its bytes, where each piece begins, and the record up to each.
 struct Made {
     bytes: Vec<u8>,
     ends: Vec<usize>,

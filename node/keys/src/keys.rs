@@ -23,27 +23,44 @@ pub fn public_key(secret: &[u8; 32]) -> io::Result<[u8; 32]> {
 /// The keys of all members, with the secret one of this member.
 pub struct Keys {
     me: Participant,
+    identity: Identity,
     secret: PKey<Private>,
     raw: Vec<[u8; 32]>,
     public: PublicKeys,
 }
 
 impl Keys {
-    /// The keys of a network's member.
+    /// The keys of a network's member, in an epoch and with this many views a term.
     ///
     /// # Errors
     ///
     /// Where a key is none, or the secret key is not that of the member.
-    pub fn new(network: NetworkName, me: Participant, secret: &[u8; 32], public: &[[u8; 32]]) -> io::Result<Keys> {
-        if public.get(me.get() as usize) != Some(&public_key(secret)?) {
+    pub fn new(
+        network: NetworkName,
+        epoch: u64,
+        term_length: u32,
+        me: Participant,
+        secret: &[u8; 32],
+        public: &[[u8; 32]],
+    ) -> io::Result<Keys> {
+        let key = public_key(secret)?;
+        if public.get(me.get() as usize) != Some(&key) {
             let said = format!("the secret key is not that of member {me}: name its own");
             return Err(io::Error::new(io::ErrorKind::InvalidInput, said));
         }
+        let identity = Identity {
+            network,
+            key,
+            epoch,
+            term_length,
+            members: members_digest(public),
+        };
         Ok(Keys {
             me,
             secret: PKey::private_key_from_raw_bytes(secret, Id::ED25519)?,
             raw: public.to_vec(),
-            public: PublicKeys::new(network, public)?,
+            public: PublicKeys::new(identity.namespace(), public)?,
+            identity,
         })
     }
 
@@ -57,38 +74,34 @@ impl Keys {
         &self.public
     }
 
-    /// Returns this member's signature on a text, behind the network's name.
+    /// Returns this member's signature on the text of a vote, which the engine's order has ([`Subject::text`](simplex_view_state::Subject::text)).
     ///
     /// # Errors
     ///
     /// Where OpenSSL refuses.
     pub fn sign(&self, text: &[u8]) -> io::Result<Vec<u8>> {
-        Ok(Signer::new_without_digest(&self.secret)?.sign_oneshot_to_vec(&self.public.network().signed(text))?)
+        Ok(Signer::new_without_digest(&self.secret)?.sign_oneshot_to_vec(text)?)
     }
 
-    /// Returns who this member is in an epoch: whose journal it is, and which genesis it has.
-    pub fn identity(&self, epoch: u64, term_length: u32) -> Identity {
-        Identity {
-            network: self.public.network().clone(),
-            key: self.raw[self.me.get() as usize],
-            epoch,
-            term_length,
-            members: members_digest(&self.raw),
-        }
+    /// Returns who this member is: whose journal it is, and which genesis and which namespace its network has.
+    pub fn identity(&self) -> &Identity {
+        &self.identity
     }
 
-    /// Returns the settings of this member in an epoch: members lead in turn, and the chain begins at the identity's genesis.
+    /// Returns the settings of this member: members lead round-robin, and the chain begins at the identity's genesis.
     ///
     /// # Errors
     ///
     /// Where the identity's term has no view.
-    pub fn config(&self, identity: &Identity) -> io::Result<Config> {
+    pub fn config(&self) -> io::Result<Config> {
+        let identity = &self.identity;
         let none = |what| io::Error::new(io::ErrorKind::InvalidInput, what);
         let members = u32::try_from(self.raw.len())
             .ok()
             .and_then(NonZeroU32::new)
             .ok_or_else(|| none("no members"))?;
-        let mut config = Config::new(members, Some(self.me), Epoch::new(identity.epoch), identity.genesis());
+        let (epoch, namespace) = (Epoch::new(identity.epoch), identity.namespace());
+        let mut config = Config::new(namespace, members, Some(self.me), epoch, identity.genesis());
         config.terms.length = NonZeroU32::new(identity.term_length).ok_or_else(|| none("a term has no view"))?;
         Ok(config)
     }
@@ -98,7 +111,8 @@ impl Keys {
     /// # Errors
     ///
     /// Where OpenSSL refuses a key.
-    pub fn credentials(&self, identity: &Identity) -> io::Result<Credentials> {
+    pub fn credentials(&self) -> io::Result<Credentials> {
+        let identity = &self.identity;
         let greeting = Greeting::new(&[
             ("version of messages", &VERSION.to_string()),
             ("network", &identity.network.to_string()),

@@ -1,4 +1,4 @@
-//! What members send, verified on the threads of their links.
+//! Messages of members, verified on the threads of their links.
 
 use crate::keys::Keys;
 use simplex_net::{Connection, Inbox, Put, Receiver};
@@ -7,8 +7,8 @@ use simplex_wire::{Message, digest};
 use std::io;
 use std::sync::Arc;
 
-/// Takes the messages of members, verified, to an inbox: each vote is its signer's, each certificate is one that an engine makes of good votes,
-/// and each proposal's block has the digest that the vote names. A member that sends anything else is refused for a while.
+/// Takes the messages of members, verified, to an inbox: each vote is its signer's, each certificate is one that an engine makes of good
+/// votes, and each proposal's block has the digest that the vote names. A member that sends anything else is refused for a while.
 pub struct Messages {
     keys: Arc<Keys>,
     inbox: Arc<Inbox<FromMember>>,

@@ -2,34 +2,33 @@
 
 use openssl::pkey::{Id, PKey, Public};
 use openssl::sign::Verifier;
-use simplex_identity::NetworkName;
-use simplex_view_state::{Certificate, Participant, Vote};
+use simplex_view_state::{Certificate, Namespace, Participant, Vote};
 use std::io;
 
 /// How many bytes a signature has.
 pub const SIGNATURE: usize = 64;
 
-/// The public keys of all members, and the name of their network, behind which all is signed.
+/// The public keys of all members, and the namespace of their network, with which each text of a vote begins.
 pub struct PublicKeys {
-    network: NetworkName,
+    namespace: Namespace,
     keys: Vec<PKey<Public>>,
 }
 
 impl PublicKeys {
-    /// The keys of members, in order.
+    /// The keys of a network's members, in order.
     ///
     /// # Errors
     ///
     /// Where 32 bytes are no key.
-    pub fn new(network: NetworkName, keys: &[[u8; 32]]) -> io::Result<PublicKeys> {
+    pub fn new(namespace: Namespace, keys: &[[u8; 32]]) -> io::Result<PublicKeys> {
         let keys = keys.iter().map(|it| PKey::public_key_from_raw_bytes(it, Id::ED25519));
         let keys = keys.collect::<Result<_, _>>()?;
-        Ok(PublicKeys { network, keys })
+        Ok(PublicKeys { namespace, keys })
     }
 
-    /// Returns the network's name.
-    pub fn network(&self) -> &NetworkName {
-        &self.network
+    /// Returns the namespace of the network.
+    pub fn namespace(&self) -> &Namespace {
+        &self.namespace
     }
 
     /// Returns how many members there are.
@@ -42,18 +41,18 @@ impl PublicKeys {
         self.keys.len() - self.keys.len().saturating_sub(1) / 3
     }
 
-    /// Returns whether a member of this network signed a text.
+    /// Returns whether a member signed a text.
     pub fn is_signed(&self, by: Participant, text: &[u8], signature: &[u8]) -> bool {
         let Some(key) = self.keys.get(by.get() as usize).filter(|_| signature.len() == SIGNATURE) else {
             return false;
         };
-        let verified = Verifier::new_without_digest(key).and_then(|mut it| it.verify_oneshot(signature, &self.network.signed(text)));
+        let verified = Verifier::new_without_digest(key).and_then(|mut it| it.verify_oneshot(signature, text));
         verified.unwrap_or(false)
     }
 
-    /// Returns whether a vote is its signer's.
+    /// Returns whether a vote is its signer's in this network.
     pub fn is_vote(&self, vote: &Vote) -> bool {
-        self.is_signed(vote.signer, &vote.subject.encode(), &vote.signature)
+        self.is_signed(vote.signer, &vote.subject.text(&self.namespace), &vote.signature)
     }
 
     /// Returns the votes in a certificate, whose signatures are not verified yet. `None` where it is none that an engine makes: its bytes are

@@ -1,4 +1,4 @@
-//! What members send is taken where it is verified, and refused as a forgery where it is not.
+//! A message of a member is accepted where it is verified, and refused as a forgery where it is not.
 
 use simplex_keys::{FromMember, Keys, Messages, public_key};
 use simplex_net::{Connection, Inbox, Receiver};
@@ -13,7 +13,7 @@ const MEMBERS: u8 = 4;
 fn keys(me: u32) -> Arc<Keys> {
     let public: Vec<_> = (0..MEMBERS).map(|it| public_key(&[it + 1; 32]).expect("a key")).collect();
     let name = "test".to_owned().try_into().expect("a name");
-    Arc::new(Keys::new(name, Participant::new(me), &[me as u8 + 1; 32], &public).expect("its own key"))
+    Arc::new(Keys::new(name, 3, 5, Participant::new(me), &[me as u8 + 1; 32], &public).expect("its own key"))
 }
 
 fn round() -> Round {
@@ -22,7 +22,8 @@ fn round() -> Round {
 }
 
 fn vote(signer: u32, subject: Subject) -> Vote {
-    let signature = keys(signer).sign(&subject.encode()).expect("a signature");
+    let keys = keys(signer);
+    let signature = keys.sign(&subject.text(keys.public().namespace())).expect("a signature");
     let signer = Participant::new(signer);
     Vote {
         subject,
@@ -57,7 +58,7 @@ fn block() -> (Block, Proposal) {
     (block, proposal)
 }
 
-/// Whether a message of member 2 is taken; one that is not is refused as a forgery.
+/// Returns whether a message of member 2 is taken; one that is not is refused as a forgery.
 fn is_taken(message: &Message) -> bool {
     let (messages, inbox): (Messages, Arc<Inbox<FromMember>>) = Messages::new(keys(0));
     let mut link = messages.connection(Participant::new(2));
@@ -150,15 +151,28 @@ fn a_secret_key_of_another_member_is_refused() {
     let public: Vec<_> = (0..MEMBERS).map(|it| public_key(&[it + 1; 32]).expect("a key")).collect();
     let name = || "test".to_owned().try_into().expect("a name");
     for me in [1, 4] {
-        let refused = Keys::new(name(), Participant::new(me), &[1; 32], &public)
+        let refused = Keys::new(name(), 3, 5, Participant::new(me), &[1; 32], &public)
             .err()
             .expect("it is refused");
         assert!(refused.to_string().contains("is not that of member"), "{refused}");
     }
-    let identity = keys(1).identity(3, 5);
-    let config = keys(1).config(&identity).expect("settings");
+    let config = keys(1).config().expect("settings");
     assert_eq!(
         (config.members.get(), config.epoch, config.terms.length.get()),
         (4, Epoch::new(3), 5)
     );
+}
+
+#[test]
+fn a_vote_of_one_network_counts_in_no_other() {
+    let public: Vec<_> = (0..MEMBERS).map(|it| public_key(&[it + 1; 32]).expect("a key")).collect();
+    let others = [("other", 3, 5), ("test", 4, 5), ("test", 3, 6)];
+    let good = vote(1, Subject::Nullify(round()));
+    assert!(keys(2).public().is_vote(&good));
+    for (name, epoch, term_length) in others {
+        let name = name.to_owned().try_into().expect("a name");
+        let other = Keys::new(name, epoch, term_length, Participant::new(0), &[1; 32], &public).expect("its own key");
+        assert!(!other.public().is_vote(&good), "{:?}", other.identity());
+        assert_eq!(other.config().expect("settings").namespace, *other.public().namespace());
+    }
 }

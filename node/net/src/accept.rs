@@ -59,7 +59,7 @@ fn locked<T>(it: &Mutex<T>) -> MutexGuard<'_, T> {
 }
 
 impl Doors {
-    /// Of a network of so many members; none is open.
+    /// Makes the listener of a network of so many members; no connection is open.
     pub(crate) fn new(credentials: &Arc<Credentials>, watch: &Arc<dyn Watch>) -> Doors {
         let members = credentials.members().count();
         Doors {
@@ -227,7 +227,7 @@ fn serve<R: Receiver>(stream: TcpStream, id: u64, receiver: &R, doors: &Doors) {
     }
 }
 
-/// Reads a member's frames until the connection ends, within the member's budget, and answers with heartbeats. `PermissionDenied` where it
+/// Reads a member's frames until the connection ends, within the member's budget, and replies with heartbeats. `PermissionDenied` where it
 /// sends forgeries.
 fn read_all(session: &mut Session, from: Participant, mut connection: impl Connection, watch: &dyn Watch) -> io::Result<()> {
     let (mut budget, mut shown) = (Budget::new(Instant::now()), Instant::now());

@@ -11,7 +11,7 @@ use std::vec;
 #[cfg_attr(feature = "serde", serde(try_from = "String", into = "String"))]
 pub struct Address(String);
 
-/// Whether a text is a name of a host: letters, digits and `-` in parts between dots.
+/// Returns whether a text is a name of a host: letters, digits and `-` in parts between dots.
 fn is_name(text: &str) -> bool {
     let is_part = |part: &str| !part.is_empty() && part.bytes().all(|it| it.is_ascii_alphanumeric() || b"-_".contains(&it));
     // (what has numbers alone would be an address that is none, as 10.0.0.300)

@@ -49,7 +49,7 @@ impl Bucket {
     }
 }
 
-/// What one peer may take of its reader.
+/// The budget of one peer on its reader.
 #[derive(Debug)]
 pub(crate) struct Budget {
     bytes: Bucket,

@@ -1,4 +1,4 @@
-//! What both sides of a new connection say first: the settings that all members must share, each by its name.
+//! The greeting of a new connection: both sides name the settings that all members must share.
 //!
 //! Each side sends its own before it reads the other's, so where they differ both say in what.
 

@@ -1,4 +1,4 @@
-//! What waits for the thread that owns the member: a bounded queue for each peer, and one for the process itself.
+//! The events for the thread that owns the member: a bounded queue for each peer, and one for the process itself.
 
 use simplex_view_state::Participant;
 use std::collections::VecDeque;
@@ -12,7 +12,7 @@ const MOST_BYTES_OF_A_PEER: usize = 4 << 20;
 /// How long an event waits for room. It is shorter than a link may be silent, so that a peer gets a reply meanwhile.
 const ROOM_WITHIN: Duration = Duration::from_millis(500);
 
-/// What became of an event.
+/// The result of putting an event into a queue.
 #[derive(Clone, Copy, PartialEq, Eq, Debug)]
 pub enum Put {
     /// It waits.
@@ -23,7 +23,7 @@ pub enum Put {
     Closed,
 }
 
-/// The events that wait for one thread. It takes those of the process first, and then from the peers in turn, one event of each. So a peer that
+/// The events that wait for one thread. It takes those of the process first, and then one event of each peer, round-robin. So a peer that
 /// floods fills its own queue, is read no further, and holds up no other.
 #[derive(Debug)]
 pub struct Inbox<E> {
@@ -43,7 +43,7 @@ struct Queues<E> {
     is_closed: bool,
 }
 
-/// What waits of one peer.
+/// The queue of one peer.
 #[derive(Debug)]
 struct Queue<E> {
     events: VecDeque<(E, usize)>,
@@ -63,7 +63,7 @@ impl<E> Queue<E> {
 }
 
 impl<E> Queues<E> {
-    /// The process's own events come first, then the peers in turn.
+    /// The process's own events come first, then those of the peers, round-robin.
     fn next(&mut self) -> Option<E> {
         if let Some(event) = self.own.pop_front() {
             return Some(event);

@@ -1,6 +1,6 @@
 //! Links between the members of a Simplex network, over TCP.
 //!
-//! What one member sends another goes over the connection that the sender began, in frames of bytes. Links are TLS 1.3: both sides show the
+//! A member sends over the connections that it began, in frames of bytes. Links are TLS 1.3: both sides show the
 //! keys of members, and then say the settings that they must share. Members may be hostile, and strangers may connect: neither can keep
 //! another member out, or take more of this host than its share.
 //!
@@ -53,16 +53,20 @@
 //!
 //! # What it promises
 //!
-//! - **Who it is.** A connection is a member's whose key the handshake proved; there is no authority, and no session is resumed. Nothing is
-//!   sent to who answers at a member's address with another key.
+//! - **Who it is.** A connection is a member's whose key the handshake proved; there is no authority, and no session is
+//!   resumed. Nothing is sent to a process at a member's address that has another key.
 //! - **One network.** Settings that differ are refused by name, at both ends ([`Greeting`]).
-//! - **A place for each member.** A member has one connection, the newest. Connections that have not greeted have a small room of their own,
-//!   and two seconds for the whole greeting.
-//! - **Bounds in bytes.** What waits for a member has at most 8 MiB, and a frame that does not fit is dropped. A member that sends more than
-//!   16 MB or 5,000 frames a second, or takes more than half a processor to verify, is read slower.
-//! - **A turn for each member.** An [`Inbox`] has a bounded queue for each member, from which one thread takes in turn.
-//! - **Silence ends a link.** Heartbeats go both ways; a link that is silent for [`SILENCE`] is begun anew, with the name resolved again.
-//! - **Forgers** ([`Connection::verify`] says `PermissionDenied`) are refused for a second, which doubles up to a minute.
+//! - **A place for each member.** A member has one connection, the newest. Connections that have not greeted have a
+//!   small room of their own, and two seconds for the whole greeting.
+//! - **Bounds in bytes.** What waits for a member has at most 8 MiB, and a frame that does not fit is dropped. A member
+//!   that sends more than 16 MB or 5,000 frames a second, or takes more than half a processor to verify, is read
+//!   slower.
+//! - **A turn for each member.** An [`Inbox`] has a bounded queue for each member, from which one thread takes
+//!   round-robin.
+//! - **Silence ends a link.** Heartbeats go both ways; a link that is silent for [`SILENCE`] is begun anew, with the
+//!   name resolved again.
+//! - **Forgers** ([`Connection::verify`] says `PermissionDenied`) are refused for a second, which doubles up to a
+//!   minute.
 //!
 //! Frames may be lost, and those of two connections of one member come in any order: ask again for what matters.
 

@@ -1,7 +1,8 @@
 //! The link to another member: a thread that begins the connection, greets, and writes what waits.
 //!
-//! A name is resolved at each attempt. Where nothing waits, a heartbeat is written, and the other side answers heartbeats with single bytes. A link from which none has come for
-//! [`SILENCE`] is begun anew: packets that are dropped on the way end no connection by themselves.
+//! A name is resolved at each attempt. Where nothing waits, a heartbeat is written, and the other side replies to heartbeats with single
+//! bytes. A link from which none has come for [`SILENCE`] is begun anew: packets that are dropped on the way end no connection by
+//! themselves.
 
 use crate::address::Address;
 use crate::send_queue::SendQueue;
@@ -11,13 +12,14 @@ use simplex_view_state::Participant;
 use simplex_wire::HEARTBEAT_FRAME;
 use std::io::{self, Write};
 use std::sync::Arc;
+use std::sync::atomic::{AtomicU64, Ordering::Relaxed};
 use std::thread;
 use std::time::{Duration, Instant};
 use tracing::{debug, warn};
 
 /// How long a peer is waited for before it is tried again: from the first to the longest.
 const BACKOFF: (Duration, Duration) = (Duration::from_millis(20), Duration::from_secs(1));
-/// How long a frame that can't be sent is of use.
+/// How long a frame is stored that can't be sent.
 const FRESH: Duration = Duration::from_secs(1);
 /// How often each side of a link shows that it is there.
 pub const HEARTBEAT: Duration = Duration::from_millis(500);
@@ -26,29 +28,44 @@ const LOOK: Duration = Duration::from_millis(100);
 /// How often it is logged at most that a peer refuses, or is refused.
 pub(crate) const LOGGED: Duration = Duration::from_secs(10);
 
-/// Begins the thread of a link. It ends once the queue is closed.
-pub(crate) fn begin(
-    to: Participant,
-    address: &Address,
-    credentials: &Arc<Credentials>,
-    watch: &Arc<dyn Watch>,
-) -> io::Result<Arc<SendQueue>> {
-    let queue = Arc::new(SendQueue::default());
-    let (address, credentials, watch, frames) = (address.clone(), credentials.clone(), watch.clone(), queue.clone());
-    thread::Builder::new()
-        .name(format!("to {}", to.get()))
-        .spawn(move || keep(to, &address, &credentials, &*watch, &frames))?;
-    Ok(queue)
+/// The link to another member: what waits to be sent, and which connection is open.
+#[derive(Debug, Default)]
+pub(crate) struct Link {
+    /// The frames that wait.
+    pub queue: SendQueue,
+    /// How often a connection was begun or has ended: an odd number while there is one.
+    changes: AtomicU64,
 }
 
-fn keep(to: Participant, address: &Address, credentials: &Credentials, watch: &dyn Watch, frames: &SendQueue) {
+impl Link {
+    /// Returns the number of the connection, from 1; `None` while there is none.
+    pub fn connection(&self) -> Option<u64> {
+        let changes = self.changes.load(Relaxed);
+        (changes % 2 == 1).then_some(changes / 2 + 1)
+    }
+}
+
+/// Begins the thread of a link. It ends once the queue is closed.
+pub(crate) fn begin(to: Participant, address: &Address, credentials: &Arc<Credentials>, watch: &Arc<dyn Watch>) -> io::Result<Arc<Link>> {
+    let link = Arc::new(Link::default());
+    let (address, credentials, watch, kept) = (address.clone(), credentials.clone(), watch.clone(), link.clone());
+    thread::Builder::new()
+        .name(format!("to {}", to.get()))
+        .spawn(move || keep(to, &address, &credentials, &*watch, &kept))?;
+    Ok(link)
+}
+
+fn keep(to: Participant, address: &Address, credentials: &Credentials, watch: &dyn Watch, link: &Link) {
     let (mut wait, mut logged) = (BACKOFF.0, None::<Instant>);
-    while !frames.is_closed() {
+    while !link.queue.is_closed() {
         let begun = Instant::now();
         match credentials.connect(to, address) {
             Ok(mut session) => {
+                link.changes.fetch_add(1, Relaxed);
                 watch.connected(to);
-                if let Err(error) = write_frames(&mut session, frames) {
+                let ended = write_frames(&mut session, &link.queue);
+                link.changes.fetch_add(1, Relaxed);
+                if let Err(error) = ended {
                     debug!(peer = to.get(), %error, "a connection ended");
                 }
             }
@@ -64,11 +81,11 @@ fn keep(to: Participant, address: &Address, credentials: &Credentials, watch: &d
         }
         thread::sleep(wait);
         wait = (wait * 2).min(BACKOFF.1);
-        frames.drop_older(FRESH);
+        link.queue.drop_older(FRESH);
     }
 }
 
-/// Whether a connection ended since the two sides are not those that they have to be, or have settings that differ.
+/// Returns whether a connection ended since the two sides are not those that they have to be, or have settings that differ.
 pub(crate) fn is_refusal(error: &io::Error) -> bool {
     matches!(error.kind(), io::ErrorKind::PermissionDenied | io::ErrorKind::InvalidInput)
 }

@@ -3,9 +3,8 @@
 use crate::accept::{self, Doors};
 use crate::address::Address;
 use crate::budget::Bucket;
-use crate::link;
+use crate::link::{self, Link};
 use crate::receive::Receiver;
-use crate::send_queue::SendQueue;
 use crate::session::Credentials;
 use crate::watch::Watch;
 use simplex_view_state::Participant;
@@ -41,9 +40,9 @@ impl Places {
     }
 }
 
-/// Another member: what waits for it, and what it may still be served.
+/// Another member: the link to it, and what it may still be served.
 struct Peer {
-    queue: Arc<SendQueue>,
+    link: Arc<Link>,
     served: Mutex<Bucket>,
 }
 
@@ -75,7 +74,7 @@ impl Peers {
                 None
             } else {
                 Some(Peer {
-                    queue: link::begin(index, address, &credentials, &watch)?,
+                    link: link::begin(index, address, &credentials, &watch)?,
                     served: Mutex::new(Bucket::new(SERVED.0, SERVED.1, Instant::now())),
                 })
             });
@@ -92,10 +91,16 @@ impl Peers {
         self.peers.len()
     }
 
+    /// Returns the number of the open connection to a member, counted from 1; `None` while there is none. What was sent over an earlier one
+    /// may be lost.
+    pub fn connection(&self, to: Participant) -> Option<u64> {
+        self.peers.get(to.get() as usize)?.as_ref()?.link.connection()
+    }
+
     /// Sends a frame to a member; nothing to this one. What does not fit its queue is dropped: all can be asked for again.
     pub fn send(&self, to: Participant, frame: Arc<Vec<u8>>) {
         if let Some(Some(peer)) = self.peers.get(to.get() as usize)
-            && !peer.queue.push(Instant::now() + self.delay, frame)
+            && !peer.link.queue.push(Instant::now() + self.delay, frame)
         {
             self.watch.dropped(to);
         }
@@ -124,7 +129,7 @@ impl Peers {
         is_left
     }
 
-    /// Whether a member may still be served, so that what it asks for is worth looking up.
+    /// Returns whether a member may still be served, so that what it asks for is worth looking up.
     pub fn may_serve(&self, to: Participant) -> bool {
         let peer = self.peers.get(to.get() as usize).and_then(Option::as_ref);
         peer.is_some_and(|it| locked(&it.served).take(0.0, Instant::now()))
@@ -138,7 +143,7 @@ fn locked(it: &Mutex<Bucket>) -> std::sync::MutexGuard<'_, Bucket> {
 impl Drop for Peers {
     fn drop(&mut self) {
         for peer in self.peers.iter().flatten() {
-            peer.queue.close();
+            peer.link.queue.close();
         }
     }
 }

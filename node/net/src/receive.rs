@@ -5,7 +5,7 @@ use std::io;
 
 /// Takes the connections of members.
 pub trait Receiver: Send + Sync + 'static {
-    /// What takes one connection's frames.
+    /// The receiver of one connection's frames.
     type Connection: Connection;
 
     /// A member has connected, and greeted.
@@ -14,7 +14,7 @@ pub trait Receiver: Send + Sync + 'static {
 
 /// Takes the frames of one connection, on the thread of that connection.
 pub trait Connection {
-    /// What a frame is, once it is verified.
+    /// A frame, once it is verified.
     type Message;
 
     /// Reads and verifies a frame. The time that this takes counts against what the member may take of this host. `None` where it is

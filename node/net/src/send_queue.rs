@@ -6,7 +6,7 @@ use std::time::{Duration, Instant};
 
 /// How many bytes wait for a peer at most.
 const MOST_BYTES: usize = 8 << 20;
-/// What a frame costs beside its bytes.
+/// The cost of a frame beside its bytes.
 const A_FRAME: usize = 64;
 /// How many bytes are written to a peer at once, about.
 const BATCH: usize = 64 << 10;
@@ -72,7 +72,7 @@ impl SendQueue {
         }
     }
 
-    /// Drops the frames that have waited for longer than this: a peer that is back asks for what it lacks.
+    /// Drops the frames that have waited for longer than this: a peer that is back asks for what it misses.
     pub fn drop_older(&self, longest: Duration) {
         let mut frames = self.lock();
         while frames.queue.front().is_some_and(|(due, _)| due.elapsed() > longest) {
@@ -86,7 +86,7 @@ impl SendQueue {
         self.arrival.notify_all();
     }
 
-    /// Whether it is closed.
+    /// Returns whether it is closed.
     pub fn is_closed(&self) -> bool {
         self.lock().is_closed
     }

@@ -9,7 +9,7 @@ use std::net::{TcpStream, ToSocketAddrs};
 use std::sync::Arc;
 use std::time::{Duration, Instant};
 
-/// After how long without a byte a link is given up.
+/// After how long without a byte a link is closed.
 pub const SILENCE: Duration = Duration::from_secs(2);
 /// How long a new connection may take to greet, as a whole: the handshake and both greetings.
 pub const GREETING: Duration = Duration::from_secs(2);
@@ -41,11 +41,11 @@ impl Credentials {
         &self.members
     }
 
-    /// Begins a connection to a member. A name is resolved now, and its addresses are tried in turn.
+    /// Begins a connection to a member. A name is resolved now, and its addresses are tried one after another.
     ///
     /// # Errors
     ///
-    /// `PermissionDenied` where another one answers, `InvalidInput` where its settings differ, and those of the network.
+    /// `PermissionDenied` where another process replies, `InvalidInput` where its settings differ, and those of the network.
     pub fn connect(&self, to: Participant, address: impl ToSocketAddrs) -> io::Result<Session> {
         let addresses = address.to_socket_addrs()?;
         let until = Instant::now() + GREETING;
@@ -67,7 +67,8 @@ impl Credentials {
     ///
     /// # Errors
     ///
-    /// `PermissionDenied` where it is no other member's. With the member, `InvalidInput` where its settings differ. And those of the network.
+    /// `PermissionDenied` where it is no other member's. With the member, `InvalidInput` where its settings differ. And those of the
+    /// network.
     pub fn accept(&self, stream: TcpStream) -> Result<(Participant, Session), (Option<Participant>, io::Error)> {
         let until = Instant::now() + GREETING;
         stream.set_nodelay(true).map_err(|error| (None, error))?;

@@ -1,7 +1,7 @@
 //! TLS 1.3 between members, by OpenSSL: both sides show a certificate whose key is a member's, and the handshake proves that they have it.
 //!
-//! A certificate is made at the start, signed by the member's own key, and says nothing but that key: there is no authority. The member list
-//! is what it is compared with, so its name, its dates and its extensions are not looked at.
+//! A certificate is made at the start, signed by the member's own key, and says nothing but that key: there is no authority. The member
+//! list is what it is compared with, so its name, its dates and its extensions are not looked at.
 
 use crate::members::Members;
 use openssl::asn1::Asn1Time;
@@ -21,7 +21,7 @@ use std::time::{Duration, Instant};
 /// A connection to a member whose key was compared with the list: what is read and written is encrypted.
 pub type Encrypted = openssl::ssl::SslStream<Timed>;
 
-/// What handshakes take: this node's certificate, and the members' keys.
+/// The credentials of handshakes: this node's certificate, and the members' keys.
 pub struct Tls {
     members: Arc<Members>,
     context: SslContext,
@@ -48,7 +48,7 @@ impl Tls {
         })
     }
 
-    /// Shakes hands with the member that this node has connected to. An error where another one answers, or none does until then.
+    /// Shakes hands with the member that this node has connected to. An error where another process replies, or none does until then.
     pub fn connect(&self, to: Participant, stream: TcpStream, until: Instant) -> io::Result<Encrypted> {
         let session = self.session(move |members, key| members.member_of(key) == Some(to))?;
         session.connect(Timed::new(stream, until)).map_err(failed)

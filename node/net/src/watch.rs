@@ -1,8 +1,8 @@
-//! What a host may count.
+//! Events that a host may count.
 
 use simplex_view_state::Participant;
 
-/// Is told what happens to connections, to count it. Each call does nothing by default, and comes from any thread.
+/// Receives what happens to connections, to count it. Each call does nothing by default, and comes from any thread.
 pub trait Watch: Send + Sync + 'static {
     /// A connection to a member was begun.
     fn connected(&self, _to: Participant) {}

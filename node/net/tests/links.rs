@@ -163,7 +163,7 @@ fn frames_arrive_in_order_from_the_member_that_sent_them() {
     let network = Network::new();
     let endpoints: Vec<Endpoint> = (0..3).map(|index| network.begin(index)).collect();
     let texts: Vec<String> = (0..100).map(|it| format!("frame {it}")).collect();
-    // (a frame is of use for a second, so the link has to be there)
+    // (a frame is stored for a second, so the link has to be there)
     comes(|| (endpoints[0].counts.connected.load(Relaxed) == 2).then_some(()));
     for text in &texts {
         endpoints[0].peers.send(member(1), Arc::new(framed(text)));
@@ -177,7 +177,7 @@ fn frames_arrive_in_order_from_the_member_that_sent_them() {
     endpoints[0].peers.send(member(7), Arc::new(framed("to nobody")));
 }
 
-/// What a member asked for is counted where it is sent, however fast the machine is.
+/// A member's request is counted where it is sent, however fast the machine is.
 #[test]
 fn a_member_is_served_16_megabytes_at_once_and_8_a_second() {
     let endpoint = Network::new().begin(0);
@@ -270,12 +270,13 @@ fn a_member_that_sends_forgeries_is_refused_and_may_come_back() {
     assert_eq!(received, (member(1), b"back".to_vec()));
 }
 
-/// A member ends and begins again: the others dial it again, without being told.
+/// A member ends and begins again: the others dial it again by themselves.
 #[test]
 fn a_link_is_begun_anew_once_its_member_is_back() {
     let network = Network::new();
     let first = network.begin(0);
-    for _ in 0..2 {
+    for number in 1..=2 {
+        comes(|| first.peers.connection(member(1)).is_none().then_some(()));
         // (it is played by hand, as a process that ends lets its port go)
         let listener = comes(|| TcpListener::bind(&network.places[1]).ok());
         let credentials = network.credentials(1, &SETTINGS);
@@ -290,7 +291,10 @@ fn a_link_is_begun_anew_once_its_member_is_back() {
             session.read_exact(&mut bytes[..4]).expect("it is open");
             (bytes[..4] == [0, 0, 0, 4]).then_some(())
         });
+        assert_eq!(first.peers.connection(member(1)), Some(number));
     }
+    comes(|| first.peers.connection(member(1)).is_none().then_some(()));
+    assert_eq!([0, 7].map(|it| first.peers.connection(member(it))), [None; 2], "itself, and nobody");
 }
 
 #[test]

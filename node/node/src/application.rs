@@ -1,4 +1,4 @@
-//! What an engine asks of the application that it orders blocks for.
+//! The interface of an application that the engine orders blocks for.
 //!
 //! The application has a thread of its own ([`worker`]): it takes as long as it needs, and holds up neither the engine nor the disk.
 
@@ -14,12 +14,12 @@ use std::io;
 use std::sync::Arc;
 use std::sync::atomic::{AtomicBool, Ordering::Relaxed};
 
-/// Whether an answer is waited for still. Who works for long looks now and then, and answers `None` where it is not.
+/// Tells an application that nobody waits for its reply any more. A long piece of work looks now and then, and returns `None` then.
 #[derive(Clone, Debug, Default)]
 pub struct Cancelled(Arc<AtomicBool>);
 
 impl Cancelled {
-    /// Whether nobody waits for the answer any more.
+    /// Returns whether nobody waits for the reply any more.
     pub fn is_cancelled(&self) -> bool {
         self.0.load(Relaxed)
     }
@@ -29,28 +29,32 @@ impl Cancelled {
     }
 }
 
-/// What blocks hold, which are good, and what follows from them.
+/// An application: it makes the contents of blocks, verifies them and applies them.
 ///
 /// It is asked one thing at a time, on a thread of its own, and may take as long as it needs; what took too long is cancelled.
 ///
-/// - **All honest nodes have to answer alike.** [`verify`](Application::verify) and [`certify`](Application::certify) depend on the block and
-///   its ancestors alone, not on the clock, on chance or on this machine: a network whose applications contradict each other can stop for good.
-/// - **The state before a block is that of [`last`](Application::last), and on it all [`Ancestors`] in order.** They are not final yet, or not
-///   taken yet, and are passed with each question, also in the first one after a restart: the application need not remember any.
-/// - **A block may never become final**: `build`, `verify` and `certify` change nothing that lasts. What a block does is done in
-///   [`finalized`](Application::finalized).
-/// - **Over lifetimes it gets each final block once after its own [`last`](Application::last).** So it stores a block's effects and that it is
-///   the last one in one step. One that stores nothing gets all blocks again at each start.
+/// - **All honest nodes must return the same.** [`verify`](Application::verify) and [`certify`](Application::certify)
+///   depend on the block and its ancestors alone, not on the clock, on chance or on this machine: a network whose
+///   applications contradict each other can stop for good.
+/// - **The state before a block is that of [`last`](Application::last), and on it all [`Ancestors`] in order.** They
+///   are not final yet, or not taken yet, and are passed with each question, also in the first one after a restart: the
+///   application need not remember any.
+/// - **A block may never become final**: `build`, `verify` and `certify` change nothing that lasts. What a block does
+///   is done in [`finalized`](Application::finalized).
+/// - **Over lifetimes it gets each final block once after its own [`last`](Application::last).** So it stores a block's
+///   effects and that it is the last one in one step. One that stores nothing gets all blocks again at each start.
 pub trait Application: Send + 'static {
-    /// What a block holds that this node builds in a context, after these ancestors; `None` where it is cancelled, or has nothing to propose.
+    /// Returns what a block holds that this node builds in a context, after these ancestors; `None` where it is cancelled, or has nothing
+    /// to propose.
     fn build(&mut self, context: &Context, ancestors: &Ancestors, cancelled: &Cancelled) -> Option<Vec<u8>>;
 
-    /// Whether a block may be voted for: what it holds is good after its ancestors. `None` where it is cancelled, or the application can't tell
-    /// yet: this node does not vote for the block then.
+    /// Returns whether a block may be voted for: what it holds is good after its ancestors. `None` where it is cancelled, or the
+    /// application can't decide yet: it is asked again after each final block that it takes, and until then this node does not vote for the
+    /// block.
     fn verify(&mut self, block: &Block, ancestors: &Ancestors, cancelled: &Cancelled) -> Option<bool>;
 
-    /// Whether a notarized block may be built on. It is asked in all nodes, also in those that did not vote for it. `None` where it is
-    /// cancelled.
+    /// Returns whether a notarized block may be built on. It is asked in all nodes, also in those that did not vote for it. `None` where it
+    /// is cancelled.
     fn certify(&mut self, block: &Block, ancestors: &Ancestors, cancelled: &Cancelled) -> Option<bool>;
 
     /// Takes a finalized block: each once, each behind its parent.
@@ -66,8 +70,9 @@ pub trait Application: Send + 'static {
     /// How many blocks were taken.
     fn height(&self) -> u64;
 
-    /// Waits until the disk has all blocks that were taken, and returns how many those are. The archive may drop them from then on; where it
-    /// returns 0 the archive keeps all. It is asked each second.
+    /// Returns how many of the blocks that were taken the disk has. The archive may drop those from then on; where it returns 0 the archive
+    /// keeps all. It is asked each second, on the thread that builds and verifies: while it waits for the disk this node votes for no block.
+    /// So an application whose disk may be slow syncs on another thread, and returns what the disk had after the last sync that ended.
     ///
     /// # Errors
     ///
@@ -105,8 +110,8 @@ pub trait Application: Send + 'static {
         Ok(None)
     }
 
-    /// Takes a snapshot in place of the state that it has, which is of an earlier block. All of `bytes` were verified. Where the process ends
-    /// meanwhile, the next one finds the old state or the new one. After it [`last`](Application::last) and
+    /// Takes a snapshot in place of the state that it has, which is of an earlier block. All of `bytes` were verified. Where the process
+    /// ends meanwhile, the next one finds the old state or the new one. After it [`last`](Application::last) and
     /// [`height`](Application::height) are those of the manifest.
     ///
     /// # Errors

@@ -1,8 +1,9 @@
-//! The archive: all final blocks by their heights, in segments on the disk ([`crate::segments`]), for peers that lag and for the application.
+//! The archive: all final blocks by their heights, in segments on the disk ([`crate::segments`]), for peers that lag and for the
+//! application.
 //!
 //! It is written once and in order, by a thread of its own ([`keeper`]). A record is the block's height, eight bytes, the length of its
-//! finalization and that, and the block. Each batch that is appended ends with a block whose finalization is here: so a peer can verify what
-//! it is sent. It is pruned by whole segments, and never beyond what the application has on the disk.
+//! finalization and that, and the block. Each batch that is appended ends with a block whose finalization is here: so a peer can verify
+//! what it is sent. It is pruned by whole segments, and never beyond what the application has on the disk.
 
 mod asks;
 pub mod keeper;
@@ -32,7 +33,7 @@ pub struct Limits {
     pub most_bytes: Option<u64>,
 }
 
-/// What the archive has behind a view.
+/// The archive's blocks above a view.
 #[derive(Debug)]
 pub enum Behind {
     /// Blocks, up to one whose finalization comes with them.
@@ -86,8 +87,8 @@ fn parse(body: &[u8]) -> io::Result<Entry> {
 }
 
 impl Archive {
-    /// Opens the archive of a folder. One that has no block goes on from this one. How many bytes of a last record that was cut off are left
-    /// out is the second answer.
+    /// Opens the archive of a folder. One that has no block continues from this one. The second result is how many bytes of a cut last
+    /// record are left out.
     pub fn open(folder: &Path, genesis: [u8; 32], limits: Limits, syncs: bool, start: Tail) -> io::Result<(Archive, u64)> {
         let (segments, cut) = Segments::open(&path(folder), genesis, limits.segment_bytes, syncs)?;
         let mut archive = Archive {
@@ -420,7 +421,7 @@ mod tests {
             tail_of(&entries[last as usize - 2]),
             "the last block of the segment before"
         );
-        again.append(&entries[last as usize - 1..]).expect("it goes on there");
+        again.append(&entries[last as usize - 1..]).expect("it continues there");
         assert_eq!(open(&folder).tail(), tail_of(&entries[59]));
         assert_eq!(
             again.block(View::new(120), entries[59].block.payload()).expect("a disk").as_ref(),

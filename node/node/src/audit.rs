@@ -1,4 +1,4 @@
-//! What is looked for after a run: chains that disagree, and votes of one member that contradict each other.
+//! The audit after a run: chains that disagree, and votes of one member that contradict each other.
 
 use crate::ledger::Link;
 use crate::trace::Line;

@@ -90,7 +90,7 @@ impl Blocks {
         self.by_payload.get(payload)
     }
 
-    /// Whether a block of the view is here.
+    /// Returns whether a block of the view is here.
     pub fn has_of(&self, view: View) -> bool {
         self.by_view.contains_key(&view)
     }

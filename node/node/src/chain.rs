@@ -9,7 +9,7 @@ pub use simplex_chain::Tail;
 
 /// A final block in its place.
 pub type Entry = simplex_chain::Entry<Block>;
-/// What is final, and not handed on yet.
+/// The final blocks that are not passed on yet.
 pub type FinalChain = simplex_chain::FinalChain<Block>;
 
 impl Store<Block> for Blocks {

@@ -1,9 +1,9 @@
-//! The clock of a life: milliseconds since it began.
+//! The clock of a lifetime: milliseconds since it began.
 
 use simplex_view_state::Moment;
 use std::time::{Duration, Instant};
 
-/// A clock that begins with a life of a node and never falls, whatever is done to the machine's.
+/// A clock that begins with a lifetime of a node and never falls, whatever is done to the machine's.
 #[derive(Clone, Copy, Debug)]
 pub struct Clock {
     begun: Instant,

@@ -4,10 +4,9 @@ use crate::settings::{Outcome, Settings};
 use crate::signer::guard::Owner;
 use crate::signer::{Local, Remote, Signer};
 use openssl::pkey::{Id, PKey, Private};
-use simplex_identity::NetworkName;
 use simplex_keys::PublicKeys;
 use simplex_net::Members;
-use simplex_view_state::{Certificate, Participant, Subject, Vote};
+use simplex_view_state::{Certificate, Namespace, Participant, Subject, Vote};
 use std::fs;
 use std::io::Write;
 use std::os::unix::fs::{OpenOptionsExt, PermissionsExt};
@@ -20,15 +19,14 @@ pub use simplex_keys::SIGNATURE;
 /// A signature.
 pub type Signature = [u8; SIGNATURE];
 
-/// The keys of all members, with the secret one of this node. Each vote is signed behind the network's name.
+/// The keys of all members, with the secret one of this node.
 pub struct Keys {
-    network: NetworkName,
     /// Which member this node is.
     pub me: Participant,
     /// The key of this node's links, and that of its votes too where no other process signs them.
     secret: PKey<Private>,
     signer: Box<dyn Signer>,
-    /// Whether the signer is the host's own: its signatures are verified before they leave.
+    /// True if the signer is the host's own: its signatures are verified before they leave.
     is_hosts: bool,
     public: PublicKeys,
     /// The public keys of the members' links.
@@ -66,13 +64,13 @@ impl Keys {
             )
             .into());
         }
+        let namespace = settings.identity()?.namespace();
         Ok(Keys {
-            network: settings.network.clone(),
             me: settings.me(),
             is_hosts: hosts.is_some(),
-            signer: signer(settings, &secret, hosts)?,
+            signer: signer(settings, &namespace, &secret, hosts)?,
             secret,
-            public: PublicKeys::new(settings.network.clone(), &public)?,
+            public: PublicKeys::new(namespace, &public)?,
             links,
             verified: AtomicU64::new(0),
         })
@@ -93,7 +91,7 @@ impl Keys {
         let signature = self.signer.sign(subject, text)?;
         if self.is_hosts && !self.is_good(self.me, text, &signature) {
             return Err(format!(
-                "the host's signer signed a vote by another key than that of member {}, or without the network's name before its text:                  `NetworkName::signed` makes what is to be signed",
+                "the host's signer signed a vote by another key than that of member {}, or signed another text than the vote's",
                 self.me.get()
             )
             .into());
@@ -101,15 +99,15 @@ impl Keys {
         Ok(signature)
     }
 
-    /// This node's signature on a text, which is signed behind the network's name: by its own key, which a signer's votes are not under.
-    pub fn sign(&self, text: &[u8]) -> Outcome<Signature> {
-        Local::new(self.network.clone(), self.secret.clone()).sign(&Subject::Nullify(Default::default()), text)
+    /// This node's signature on a vote in its network: by its own key, which a signer's votes are not under.
+    pub fn sign(&self, subject: &Subject) -> Outcome<Signature> {
+        Local::new(self.secret.clone()).sign(subject, &subject.text(self.public.namespace()))
     }
 
-    /// Whether a member of this network signed a text.
-    pub fn is_signed(&self, by: Participant, text: &[u8], signature: &[u8]) -> bool {
+    /// Returns whether a vote is its signer's, in this network.
+    pub fn is_signed_vote(&self, vote: &Vote) -> bool {
         self.verified.fetch_add(1, Relaxed);
-        self.is_good(by, text, signature)
+        self.public.is_vote(vote)
     }
 
     fn is_good(&self, by: Participant, text: &[u8], signature: &[u8]) -> bool {
@@ -121,32 +119,27 @@ impl Keys {
         self.verified.load(Relaxed)
     }
 
-    /// Whether a vote is its signer's.
-    pub fn is_signed_vote(&self, vote: &Vote) -> bool {
-        self.is_signed(vote.signer, &vote.subject.encode(), &vote.signature)
-    }
-
     /// The votes in a certificate, whose signatures are not verified yet. `None` where it is none that an engine makes: its bytes are
     /// signatures on its subject, of just as many different members as it takes, by rising index.
     pub fn votes_in(&self, it: &Certificate) -> Option<Vec<Vote>> {
         self.public.votes_in(it)
     }
 
-    /// Whether a certificate is one that an engine makes of good votes.
+    /// Returns whether a certificate is one that an engine makes of good votes.
     pub fn is_certificate(&self, it: &Certificate) -> bool {
         self.votes_in(it)
             .is_some_and(|votes| votes.iter().all(|it| self.is_signed_vote(it)))
     }
 }
 
-/// Whether the owner of a public key, in hexadecimal digits, signed a text in a network.
-pub fn is_signed_by(network: &NetworkName, key: &str, text: &[u8], signature: &[u8]) -> bool {
-    let keys = raw_key(key).ok().and_then(|key| PublicKeys::new(network.clone(), &[key]).ok());
-    keys.is_some_and(|keys| keys.is_signed(Participant::new(0), text, signature))
+/// Returns whether the owner of a public key, in hexadecimal digits, signed a vote on a subject in a network.
+pub fn is_signed_by(namespace: Namespace, key: &str, subject: &Subject, signature: &[u8]) -> bool {
+    let keys = raw_key(key).ok().and_then(|key| PublicKeys::new(namespace, &[key]).ok());
+    keys.is_some_and(|keys| keys.is_signed(Participant::new(0), &subject.text(&namespace), signature))
 }
 
 /// Who signs the votes of this member: the host's own signer, the process that the settings name, or this process.
-fn signer(settings: &Settings, secret: &PKey<Private>, hosts: Option<Box<dyn Signer>>) -> Outcome<Box<dyn Signer>> {
+fn signer(settings: &Settings, namespace: &Namespace, secret: &PKey<Private>, hosts: Option<Box<dyn Signer>>) -> Outcome<Box<dyn Signer>> {
     let has_link = settings.members[settings.index as usize].link.is_some();
     let socket = match (hosts, &settings.signer) {
         (Some(_), Some(socket)) => {
@@ -165,10 +158,10 @@ fn signer(settings: &Settings, secret: &PKey<Private>, hosts: Option<Box<dyn Sig
             )
             .into());
         }
-        (None, None) => return Ok(Box::new(Local::new(settings.network.clone(), secret.clone()))),
+        (None, None) => return Ok(Box::new(Local::new(secret.clone()))),
     };
     let owner = Owner {
-        network: settings.network.clone(),
+        namespace: *namespace,
         epoch: settings.protocol.epoch,
         key: raw_key(&settings.members[settings.index as usize].key)?,
     };
@@ -210,8 +203,8 @@ pub fn raw_key(hex: &str) -> Outcome<[u8; 32]> {
     Ok(raw)
 }
 
-/// Whether a public key is one of the few points under which others than its owner can sign: by its y coordinate, that of a multiple of
-/// the curve's torsion, in each of its encodings.
+/// Returns whether a public key is one of the few points under which others than its owner can sign: by its y coordinate, that of a
+/// multiple of the curve's torsion, in each of its encodings.
 fn is_of_small_order(key: &[u8; 32]) -> bool {
     const OF_ORDER_EIGHT: [&str; 2] = [
         "26e8958fc2b227b045c3f489f2ef98f0d5dfac05d3c63339b13802886d53fc05",
@@ -231,7 +224,7 @@ fn wipe(secret: &mut [u8]) {
     std::hint::black_box(secret);
 }
 
-/// Makes a key, writes the secret one to a new file that only its owner reads, and answers the public one.
+/// Makes a key, writes the secret one to a new file that only its owner reads, and returns the public one.
 pub fn make_key(path: &Path) -> Outcome<String> {
     let secret = PKey::generate_ed25519()?;
     let mut file = fs::OpenOptions::new()
@@ -255,15 +248,14 @@ mod tests {
     /// The keys of each of so many members.
     fn members(count: u32) -> Vec<Keys> {
         let secret: Vec<_> = (0..count).map(|_| PKey::generate_ed25519().expect("a key")).collect();
-        let name = || NetworkName::try_from("test".to_owned()).expect("a name");
+        const NAMESPACE: Namespace = Namespace::new([9; 32]);
         let public_of = |it: &PKey<Private>| it.raw_public_key().expect("a key").try_into().expect("32 bytes");
         let public: Vec<[u8; 32]> = secret.iter().map(public_of).collect();
         let keys_of = |(index, secret): (u32, &PKey<Private>)| Keys {
-            network: name(),
             me: Participant::new(index),
             secret: secret.clone(),
-            signer: Box::new(Local::new(name(), secret.clone())),
-            public: PublicKeys::new(name(), &public).expect("keys"),
+            signer: Box::new(Local::new(secret.clone())),
+            public: PublicKeys::new(NAMESPACE, &public).expect("keys"),
             links: Vec::new(),
             is_hosts: false,
             verified: AtomicU64::new(0),
@@ -280,7 +272,7 @@ mod tests {
         Vote {
             subject,
             signer: keys.me,
-            signature: keys.sign(&subject.encode()).expect("a signature").to_vec(),
+            signature: keys.sign(&subject).expect("a signature").to_vec(),
         }
     }
 
@@ -300,7 +292,13 @@ mod tests {
     fn what_the_library_makes_of_votes_is_a_certificate() {
         let members = members(4);
         let count = 4.try_into().expect("not 0");
-        let config = Config::new(count, Some(members[0].me), Epoch::new(1), Digest::default());
+        let config = Config::new(
+            *members[0].public.namespace(),
+            count,
+            Some(members[0].me),
+            Epoch::new(1),
+            Digest::default(),
+        );
         let now = Moment::from_millis(0);
         let mut engine = Engine::start(&config, &Options::default(), now).expect("good settings");
         let mut made = Vec::new();

@@ -1,4 +1,4 @@
-//! What a node's engine does, as a trace that `simplex-view` draws.
+//! The events of a node's engine, as a trace that `simplex-view` draws.
 
 use crate::settings::{Outcome, Settings};
 use simplex_trace::{Event, FetchKind, Header, Line, Observed, Observer, Queue, TraceFile, VERSION};
@@ -21,8 +21,8 @@ struct Open {
 }
 
 impl Events {
-    /// The trace of a lifetime that begins with this number of entries in its journal. Returns an error where the file can't be written, or holds
-    /// something else than a trace.
+    /// The trace of a lifetime that begins with this number of entries in its journal. Returns an error where the file can't be written, or
+    /// holds something else than a trace.
     pub fn open(settings: &Settings, entries: u64) -> Outcome<Events> {
         let Some(path) = &settings.events else {
             return Ok(Events(None));
@@ -32,12 +32,12 @@ impl Events {
         Ok(Events(Some(open)))
     }
 
-    /// What an input says, before the engine handles it.
+    /// Returns what an input says, before the engine handles it.
     pub fn before(&self, input: &Input) -> Option<Observed> {
         self.0.as_ref()?.observer.before(input)
     }
 
-    /// Writes what an input said, once the engine returned whether it was of use.
+    /// Writes what an input said, once the engine returned whether it was ignored.
     pub fn after(&mut self, observed: Option<Observed>, is_of_use: bool) {
         if let (Some(open), Some(observed)) = (&mut self.0, observed)
             && let Some(event) = open.observer.after(observed, is_of_use)

@@ -63,12 +63,13 @@ impl Evidence {
     pub fn verify(&self, settings: &Settings) -> Result<String, String> {
         let (signer, epoch) = (self.first.signer, Epoch::new(settings.protocol.epoch));
         let member = settings.members.get(signer.get() as usize).ok_or("its signer is no member")?;
+        let namespace = settings.identity().map_err(|error| error.to_string())?.namespace();
         for vote in [&self.first, &self.second] {
-            if vote.signer != signer || !is_signed_by(&settings.network, &member.key, &vote.subject.encode(), &vote.signature) {
-                return Err(format!("member {signer} did not sign both votes"));
-            }
             if !is_sound(&vote.subject, epoch) {
                 return Err(format!("a vote is not of epoch {epoch}"));
+            }
+            if vote.signer != signer || !is_signed_by(namespace, &member.key, &vote.subject, &vote.signature) {
+                return Err(format!("member {signer} did not sign both votes"));
             }
         }
         let view = self.first.subject.round().view;
@@ -77,7 +78,7 @@ impl Evidence {
     }
 }
 
-/// What two votes of one member are, where no honest member signs both.
+/// Returns what two votes of one member are, where no honest member signs both.
 fn contradiction(first: &Subject, second: &Subject) -> Option<&'static str> {
     let are_rivals = |one: &Proposal, other: &Proposal| one.round == other.round && one != other;
     match (first, second) {
@@ -196,7 +197,7 @@ mod tests {
         Vote {
             subject,
             signer: keys.me,
-            signature: keys.sign(&subject.encode()).expect("a signature").to_vec(),
+            signature: keys.sign(&subject).expect("a signature").to_vec(),
         }
     }
 

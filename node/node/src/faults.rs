@@ -5,7 +5,7 @@ use std::collections::BTreeSet;
 use std::fs;
 use std::path::PathBuf;
 
-/// What a faulty node does.
+/// A fault of a node.
 #[derive(Clone, Copy, PartialEq, Eq, Debug, Deserialize, Serialize, clap::ValueEnum)]
 #[serde(rename_all = "lowercase")]
 pub enum Fault {
@@ -35,11 +35,11 @@ pub enum Stage {
     Aside,
 }
 
-/// What is tried on a node.
+/// A trial of a node.
 #[derive(Clone, Debug, Default, Deserialize, Serialize)]
 #[serde(deny_unknown_fields, default)]
 pub struct Trial {
-    /// What it does wrong.
+    /// The node's fault.
     pub fault: Option<Fault>,
     /// How long each frame that it sends is on its way, in milliseconds.
     pub delay_ms: u64,
@@ -49,8 +49,8 @@ pub struct Trial {
     pub block_bytes: Option<usize>,
     /// Where the process ends at once, as by SIGKILL, amid the installation of a snapshot.
     pub dies_at: Option<Stage>,
-    /// A file with the members whose links are cut, by index: to `3` nothing is sent, and nothing is taken from it; to `>3` nothing is sent.
-    /// While the file is there, this holds.
+    /// A file with the members whose links are cut, by index: to `3` nothing is sent, and nothing is taken from it; to `>3` nothing is
+    /// sent. While the file is there, this holds.
     pub cut: Option<PathBuf>,
 }
 

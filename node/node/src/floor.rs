@@ -1,6 +1,6 @@
 //! A file with a finalized proposal and its certificate: where a node begins that has no journal.
 //!
-//! It begins with eight letters and a version. Then come the text of the certificate's votes and its bytes.
+//! It begins with eight letters and a version. Then come the bytes of the certificate's subject and its own.
 
 use crate::crypto::raw_key;
 use crate::settings::{Outcome, Settings};
@@ -9,8 +9,8 @@ use simplex_view_state::{Certificate, CertificateKind, Config, Engine, Finalizat
 use std::fs;
 
 const NAME: &[u8; 8] = b"simplexf";
-/// From 3 on the votes of the certificate are signed behind the network's name.
-const VERSION: u8 = 3;
+/// From 4 on the votes of the certificate are signed in the network's namespace.
+const VERSION: u8 = 4;
 
 /// Where a node begins: genesis, or the finalized proposal whose certificate the settings name.
 pub fn read(settings: &Settings) -> Outcome<Floor> {
@@ -18,7 +18,7 @@ pub fn read(settings: &Settings) -> Outcome<Floor> {
         return Ok(Floor::Genesis(settings.identity()?.genesis()));
     };
     let members = settings.members.iter().map(|it| raw_key(&it.key)).collect::<Outcome<Vec<_>>>()?;
-    let keys = PublicKeys::new(settings.network.clone(), &members)?;
+    let keys = PublicKeys::new(settings.identity()?.namespace(), &members)?;
     let bytes = fs::read(path).map_err(|error| format!("{}: {error}", path.display()))?;
     match parse(&bytes).map_err(|error| format!("{}: {error}", path.display()))? {
         it if keys.is_certificate(&Certificate::Finalization(it.clone())) => Ok(Floor::Finalized(it)),
@@ -54,7 +54,7 @@ pub fn of(settings: &Settings) -> Outcome<Vec<u8>> {
     let folder = &settings.data;
     let none = || format!("{}: there is no journal", simplex_journal::path(folder).display());
     let recovered = simplex_journal::read(folder, &settings.identity()?)?.ok_or_else(none)?;
-    let config: Config = settings.config(read(settings)?);
+    let config: Config = settings.config(read(settings)?)?;
     let engine = Engine::resume(
         &config,
         &Options::default(),

@@ -21,9 +21,9 @@ const NO_ROOM: Duration = Duration::from_millis(50);
 pub struct Request {
     /// `GET`, `POST` ..
     pub method: String,
-    /// What is asked for: `/metrics`.
+    /// The requested path: `/metrics`.
     pub path: String,
-    /// What was sent.
+    /// The bytes that were sent.
     pub body: Vec<u8>,
 }
 
@@ -34,7 +34,7 @@ pub struct Reply {
     pub status: u16,
     /// The type of the body: `text/plain`.
     pub kind: &'static str,
-    /// What is sent.
+    /// The text of the response.
     pub body: String,
 }
 

@@ -1,4 +1,4 @@
-//! What waits for the thread that owns the member: the messages of its peers, and the events of the process.
+//! The events for the thread that owns the member: messages of its peers, and events of the process.
 
 use crate::application::requests::Reply;
 use crate::application::worker::Answer;
@@ -9,18 +9,18 @@ use std::time::Duration;
 
 pub use simplex_net::Put;
 
-/// What comes to the thread that owns the member.
+/// An event for the thread that owns the member.
 #[derive(Debug)]
 pub enum Event {
     /// A message, verified as far as it can be without the member, and from whom.
     Message(Participant, Message),
-    /// What the application answered.
+    /// The application replied.
     Answered(Answer),
-    /// What the application replied of snapshots.
+    /// The application replied about snapshots.
     Replied(Reply),
     /// These final blocks are in the archive.
     Archived(Vec<Entry>),
-    /// A thread of the process can't go on, and so the process can't.
+    /// A thread of the process can't continue, and so the process can't.
     Failed(String),
     /// The process is to end.
     Stop,
@@ -46,12 +46,12 @@ impl Inbox {
         self.0.tell(event);
     }
 
-    /// What comes next, within some time.
+    /// Returns what comes next, within some time.
     pub fn take(&self, within: Duration) -> Option<Event> {
         self.0.take(within)
     }
 
-    /// The application's next answer, within some time. All else stays.
+    /// The application's next reply, within some time. All else stays.
     pub fn take_answer(&self, within: Duration) -> Option<Answer> {
         match self.0.take_own(within, |it| matches!(it, Event::Answered(_)))? {
             Event::Answered(answer) => Some(answer),
@@ -59,7 +59,7 @@ impl Inbox {
         }
     }
 
-    /// Whether nobody takes messages any more.
+    /// Returns whether nobody takes messages any more.
     pub fn is_closed(&self) -> bool {
         self.0.is_closed()
     }

@@ -21,7 +21,7 @@ pub fn init(settings: &Settings) -> Outcome {
     let folder = &settings.data;
     test_free(folder)?;
     let (identity, floor) = (settings.identity()?, floor::read(settings)?);
-    let mut engine = simplex_journal::engine(None, &settings.config(floor), &Options::default())?;
+    let mut engine = simplex_journal::engine(None, &settings.config(floor)?, &Options::default())?;
     let (mut journal, recovered) = Journal::open(folder, &identity, true)?;
     if recovered.is_some() {
         return Err(holds(folder, "journal").into());
@@ -45,7 +45,7 @@ fn test_free(folder: &Path) -> Outcome {
     Ok(())
 }
 
-/// Whether an `init` makes such a file before the journal. What is in `journal.new` is compared where it is written.
+/// Returns whether an `init` makes such a file before the journal. What is in `journal.new` is compared where it is written.
 fn is_of_init(entry: &DirEntry) -> io::Result<bool> {
     let (name, metadata) = (entry.file_name(), entry.metadata()?);
     Ok(metadata.is_file() && (name == "journal.new" || name == "lock" && metadata.len() == 0))

@@ -7,7 +7,7 @@ use crate::settings::Turns;
 use simplex_view_state::{Certificate, Participant, Proposal, Subject, View, Vote};
 use std::collections::{BTreeMap, BTreeSet};
 
-/// What was seen of the proposals of each view.
+/// The proposals that were seen of each view.
 pub struct LeaderVotes {
     turns: Turns,
     views: BTreeMap<View, Seen>,
@@ -24,7 +24,7 @@ struct Seen {
     is_shown: bool,
 }
 
-/// What is to be done after a vote.
+/// The messages that follow from a vote.
 #[derive(Default, Debug, PartialEq, Eq)]
 pub struct Found {
     /// Two votes of one leader to notarize two proposals of a view: once a view.

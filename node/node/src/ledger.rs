@@ -4,6 +4,7 @@
 
 mod restore;
 pub mod snapshots;
+mod synced;
 
 use crate::application::{Ancestors, Application, Cancelled};
 use crate::named::{named, not_stored};
@@ -12,11 +13,12 @@ use crate::start::Start;
 use simplex_view_state::{Context, Digest, View};
 use simplex_wire::{Block, Manifest, digest, now_us};
 use snapshots::{BOND, Bond, Snapshots};
-use std::fs::{self, File, OpenOptions};
-use std::io::{self, Read, Seek, SeekFrom, Write};
+use std::fs::{File, OpenOptions};
+use std::io::{self, BufRead, BufReader, Read, Seek, SeekFrom, Write};
 use std::path::{Path, PathBuf};
 use std::thread::sleep;
 use std::time::{Duration, Instant};
+use synced::Synced;
 
 /// How many bytes a block holds, where nothing else is said.
 const CONTENT: usize = 256;
@@ -53,25 +55,54 @@ pub fn path(folder: &Path) -> PathBuf {
     folder.join("chain")
 }
 
-/// The finalized chain that a folder has. A last line that was cut off is left out; any other line that is none is an error, which names it.
-pub fn read_chain(folder: &Path) -> io::Result<Vec<Link>> {
-    let path = path(folder);
-    let bytes = match fs::read(&path) {
-        Ok(bytes) => bytes,
-        Err(error) if error.kind() == io::ErrorKind::NotFound => return Ok(Vec::new()),
-        Err(error) => return Err(named(&path)(error)),
-    };
-    let whole = bytes.split_inclusive(|it| *it == b'\n').filter(|it| it.ends_with(b"\n"));
-    let links = (1..).zip(whole).map(|(number, line)| {
-        let link = std::str::from_utf8(line).ok().and_then(read_link);
-        link.ok_or_else(|| {
+/// The lines of a folder's chain, one after another.
+struct Lines {
+    path: PathBuf,
+    /// None where there is no chain.
+    file: Option<BufReader<File>>,
+    /// How many lines were read.
+    count: u64,
+}
+
+impl Lines {
+    fn of(folder: &Path) -> io::Result<Lines> {
+        let path = path(folder);
+        let file = match File::open(&path) {
+            Ok(file) => Some(BufReader::new(file)),
+            Err(error) if error.kind() == io::ErrorKind::NotFound => None,
+            Err(error) => return Err(named(&path)(error)),
+        };
+        Ok(Lines { path, file, count: 0 })
+    }
+}
+
+impl Iterator for Lines {
+    type Item = io::Result<Link>;
+
+    fn next(&mut self) -> Option<io::Result<Link>> {
+        let mut line = Vec::new();
+        if let Err(error) = self.file.as_mut()?.read_until(b'\n', &mut line) {
+            return Some(Err(named(&self.path)(error)));
+        }
+        if !line.ends_with(b"\n") {
+            return None;
+        }
+        self.count += 1;
+        let link = std::str::from_utf8(&line).ok().and_then(read_link);
+        Some(link.ok_or_else(|| {
             io::Error::other(format!(
-                "{}: line {number} is damaged: move the file away, and the node writes it again from its archive",
-                path.display()
+                "{}: line {} is damaged: move the file away, and the node writes it again from its archive",
+                self.path.display(),
+                self.count
             ))
-        })
-    });
-    links.collect()
+        }))
+    }
+}
+
+/// The finalized chain that a folder has. A last line that was cut off is left out; any other line that is none is an error, which names
+/// it.
+pub fn read_chain(folder: &Path) -> io::Result<Vec<Link>> {
+    Lines::of(folder)?.collect()
 }
 
 /// The last lines of a folder's chain, at most so many, for who watches a node. Those that are none are left out.
@@ -113,7 +144,7 @@ pub struct Options {
     pub snapshot_blocks: u64,
     /// How many bytes a block holds, beside a snapshot that it binds.
     pub block_bytes: usize,
-    /// How long each answer takes, in a trial.
+    /// How long each reply takes, in a trial.
     pub works_for: Duration,
 }
 
@@ -137,7 +168,7 @@ impl Options {
         }
     }
 
-    /// What a block binds that is of the form of one.
+    /// Returns what a block binds that is of the form of one.
     fn bond_of(&self, block: &Block) -> Option<Bond> {
         Bond::parse(block.content().get(self.block_bytes..)?)
     }
@@ -154,6 +185,7 @@ pub struct Ledger {
     file: File,
     last: (View, Digest),
     height: u64,
+    synced: Synced,
     salt: u64,
     options: Options,
     /// None where the chain begins at a floor: others have more blocks before it.
@@ -166,19 +198,22 @@ fn floor_path(folder: &Path) -> PathBuf {
 }
 
 impl Ledger {
-    /// Goes on from the chain that a node's folder has, or from the block where the node starts.
+    /// Continues from the chain that a node's folder has, or from the block where the node starts.
     pub fn open(start: &Start, options: Options) -> Outcome<Ledger> {
         let folder = &start.folder;
-        let chain = read_chain(folder)?;
+        let (mut height, mut whole, mut last) = (0, 0, start.block);
+        // (a chain may be longer than the memory)
+        for link in Lines::of(folder)? {
+            let link = link?;
+            (height, whole, last) = (height + 1, whole + written(&link).len() as u64, link.block()?);
+        }
         let path = path(folder);
         let is_new = !path.exists();
         if is_new && start.block.0 > View::GENESIS {
             File::create(floor_path(folder)).map_err(named(folder))?;
         }
-        let last = chain.last().map_or(Ok(start.block), Link::block)?;
         let file = OpenOptions::new().create(true).append(true).open(&path).map_err(named(&path))?;
-        let whole: usize = chain.iter().map(|link| written(link).len()).sum();
-        file.set_len(whole as u64).map_err(named(&path))?;
+        file.set_len(whole).map_err(named(&path))?;
         if is_new {
             // Its name is on the disk before any of its lines counts.
             File::open(folder).and_then(|it| it.sync_all()).map_err(not_stored(folder))?;
@@ -186,13 +221,14 @@ impl Ledger {
         let is_whole = !floor_path(folder).exists();
         Ok(Ledger {
             snapshots: is_whole
-                .then(|| Snapshots::open(folder, options.snapshot_blocks, &chain))
+                .then(|| Snapshots::open(folder, options.snapshot_blocks, Lines::of(folder)?))
                 .transpose()?,
             folder: folder.clone(),
             path,
             file,
             last,
-            height: chain.len() as u64,
+            height,
+            synced: Synced::default(),
             salt: u64::from(start.me.get()) << 32,
             options,
         })
@@ -280,8 +316,7 @@ impl Application for Ledger {
     }
 
     fn durable(&mut self) -> io::Result<u64> {
-        self.file.sync_data().map_err(not_stored(&self.path))?;
-        Ok(self.height)
+        self.synced.next(&self.file, self.height).map_err(not_stored(&self.path))
     }
 
     fn bound(&self, block: &Block) -> Option<Digest> {

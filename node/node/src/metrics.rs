@@ -1,4 +1,4 @@
-//! What is counted and measured, in Prometheus' text format: times in seconds and sizes in bytes.
+//! Metrics, in Prometheus' text format: times in seconds and sizes in bytes.
 
 mod durations;
 mod server;
@@ -15,7 +15,7 @@ use std::sync::atomic::{AtomicU64, Ordering::Relaxed};
 pub struct Exported {
     /// The name that it is served under.
     pub name: String,
-    /// What it is multiplied by, to be in seconds or bytes.
+    /// The factor from the stored number to seconds or bytes.
     pub scale: f64,
 }
 
@@ -37,7 +37,7 @@ fn exported(name: &str, kind: &str) -> Exported {
 
 macro_rules! counters {
     ($($(#[doc = $help:literal])+ $name:ident: $kind:literal,)+) => {
-        /// What a node counts. Each is written by one thread or added to by several, and read at any time.
+        /// The counters of a node. Each is written by one thread or added to by several, and read at any time.
         #[derive(Default, Debug)]
         pub struct Counters {
             $($(#[doc = $help])+ pub $name: AtomicU64,)+

@@ -1,22 +1,13 @@
-//! What waits for a block that is not here: blocks are asked of one member after another until they come.
+//! Missing blocks: each is asked of one member after another until it comes ([`asks`]).
+
+mod asks;
 
 use crate::application::worker::Kind;
+use asks::{Asks, Members};
 use simplex_view_state::{Context, Digest, Moment, Participant, Proposal, View};
 use std::collections::{BTreeMap, BTreeSet, HashSet};
 
-/// After how long a block is asked for again, in milliseconds: at first, and at most.
-const RETRY_MS: (u64, u64) = (100, 3200);
-
-/// A block that is asked for: whose turn it is, and when.
-#[derive(Clone, Copy)]
-struct BlockRequest {
-    view: View,
-    next: Moment,
-    peer: Participant,
-    wait_ms: u64,
-}
-
-/// What the application is to be asked once a block is here.
+/// The question that the application gets once a block is here.
 #[derive(Clone, Copy, PartialEq, Eq, Debug)]
 pub enum Pending {
     /// To build in a context.
@@ -39,21 +30,20 @@ impl Pending {
 
 /// The questions that wait for blocks, and the blocks that are asked for.
 pub struct MissingBlocks {
-    me: Participant,
-    members: u32,
-    /// What waits, and for which block: a proposal's own, or that of an ancestor.
+    members: Members,
+    /// The questions that wait, and for which block: a proposal's own, or that of an ancestor.
     questions: BTreeMap<(View, Kind), (Pending, (View, Digest))>,
     /// The block that the finalized chain waits for.
     of_chain: Option<Digest>,
-    wanted: BTreeMap<Digest, BlockRequest>,
+    /// The blocks that are asked for, each with its view.
+    wanted: BTreeMap<Digest, (View, Asks)>,
 }
 
 impl MissingBlocks {
     /// Nothing waits at this member of so many.
     pub fn new(me: Participant, members: u32) -> MissingBlocks {
         MissingBlocks {
-            me,
-            members,
+            members: Members::new(me, members),
             questions: BTreeMap::new(),
             of_chain: None,
             wanted: BTreeMap::new(),
@@ -87,7 +77,7 @@ impl MissingBlocks {
         }
     }
 
-    /// What the chain waited for is asked for no longer, where nothing else waits for it.
+    /// Stops asking for the block that the chain waited for, unless something else waits for it.
     fn drop_unneeded(&mut self, payload: Option<Digest>) {
         let is_needed = |payload: &Digest| self.questions.values().any(|(_, block)| block.1 == *payload);
         if let Some(payload) = payload.filter(|it| !is_needed(it)) {
@@ -97,15 +87,20 @@ impl MissingBlocks {
 
     /// A block is asked for, of this member first. What is asked for already stays as it is.
     pub fn want(&mut self, view: View, payload: Digest, peer: Participant, now: Moment) {
-        self.wanted.entry(payload).or_insert(BlockRequest {
-            view,
-            next: now,
-            peer,
-            wait_ms: RETRY_MS.0,
-        });
+        self.wanted.entry(payload).or_insert((view, Asks::begin(peer, now)));
     }
 
-    /// Whether a block is asked for.
+    /// The open connection to a member has this number; with none it is asked for nothing.
+    pub fn connected(&mut self, member: Participant, connection: Option<u64>) {
+        self.members.connected(member, connection);
+    }
+
+    /// A member was heard of again, after a silence: it is asked anew.
+    pub fn returned(&mut self, member: Participant) {
+        self.members.returned(member);
+    }
+
+    /// Returns whether a block is asked for.
     pub fn wants(&self, payload: &Digest) -> bool {
         self.wanted.contains_key(payload)
     }
@@ -120,7 +115,7 @@ impl MissingBlocks {
         self.wanted.len()
     }
 
-    /// Whether no block is asked for.
+    /// Returns whether no block is asked for.
     pub fn is_empty(&self) -> bool {
         self.wanted.is_empty()
     }
@@ -150,27 +145,12 @@ impl MissingBlocks {
         self.wanted.retain(|payload, _| needed.contains(payload));
     }
 
-    /// The blocks that are to be asked for now, and of whom. Each stands there once, and again after a while, for the next member.
+    /// The blocks that are to be asked for now, and of whom.
     pub fn due(&mut self, now: Moment) -> Vec<(View, Digest, Participant)> {
-        let (me, members) = (self.me, self.members);
-        let is_due = |request: &BlockRequest| request.next <= now;
-        let asked = self
-            .wanted
-            .iter_mut()
-            .filter(|(_, request)| is_due(request))
-            .map(|(payload, request)| {
-                let peer = if request.peer == me { next_of(me, members) } else { request.peer };
-                request.peer = next_of(peer, members);
-                request.next = Moment::from_millis(now.as_millis() + request.wait_ms);
-                request.wait_ms = (2 * request.wait_ms).min(RETRY_MS.1);
-                (request.view, *payload, peer)
-            });
-        asked.filter(|(_, _, peer)| *peer != me).collect()
+        let members = &mut self.members;
+        let due = |(payload, (view, asks)): (&Digest, &mut (View, Asks))| Some((*view, *payload, asks.due(members, now)?));
+        self.wanted.iter_mut().filter_map(due).collect()
     }
-}
-
-fn next_of(peer: Participant, members: u32) -> Participant {
-    Participant::new((peer.get() + 1) % members)
 }
 
 #[cfg(test)]
@@ -197,19 +177,21 @@ mod tests {
         missing.want(proposal.view(), proposal.payload, peer, now);
     }
 
+    /// The missing blocks of a member, which is connected to all others.
+    fn connected(me: u32, members: u32) -> MissingBlocks {
+        let mut missing = MissingBlocks::new(Participant::new(me), members);
+        (0..members).for_each(|it| missing.connected(Participant::new(it), Some(1)));
+        missing
+    }
+
     #[test]
     fn each_other_member_is_asked_in_turn_until_the_block_comes() {
-        let mut missing = MissingBlocks::new(Participant::new(2), 4);
+        let mut missing = connected(2, 4);
         let lacking = proposal(5, 7);
         judge(&mut missing, lacking, Participant::new(1), at(50));
         assert!(missing.due(at(49)).is_empty());
-        let (mut peers, mut now) = (Vec::new(), 50);
-        for turn in 0..6 {
-            peers.extend(missing.due(at(now)).into_iter().map(|it| it.2.get()));
-            now += RETRY_MS.0 << turn;
-            assert!(missing.due(at(now - 1)).is_empty(), "later and later");
-        }
-        assert_eq!(peers, [1, 3, 0, 1, 3, 0]);
+        let peers: Vec<u32> = (50..2000).flat_map(|now| missing.due(at(now))).map(|it| it.2.get()).collect();
+        assert_eq!(peers[..6], [1, 3, 0, 1, 3, 0]);
         assert_eq!(missing.arrived(&lacking.payload), [Pending::Certify(lacking)]);
         assert!(missing.due(at(99_999)).is_empty() && missing.is_empty());
     }

@@ -17,7 +17,7 @@ use std::sync::atomic::{AtomicU16, Ordering};
 use std::thread::sleep;
 use std::time::{Duration, Instant};
 
-/// How long a node has to end when it is told to.
+/// How long a node has to end when it is asked to.
 const ENDS_WITHIN: Duration = Duration::from_secs(60);
 /// How long a node has to reply with what it counts, on a machine that does much else.
 const REPLIES_WITHIN: Duration = Duration::from_secs(5);
@@ -29,9 +29,9 @@ pub struct Plan {
     pub nodes: u32,
     /// How the protocol is run.
     pub protocol: Protocol,
-    /// Whether votes wait for the disk.
+    /// True if votes wait for the disk.
     pub sync: bool,
-    /// What the nodes of these indices do wrong.
+    /// The faults of the nodes of these indices.
     pub faults: Vec<(u32, Fault)>,
     /// How long each frame is on its way, in milliseconds.
     pub delay_ms: u64,
@@ -44,7 +44,7 @@ pub struct Plan {
 /// Nodes that run.
 pub struct Network {
     plan: Plan,
-    /// That no other run uses the folder.
+    /// While it exists, no other run uses the folder.
     _folder: RunFolder,
     settings: Vec<Settings>,
     children: Vec<Option<Child>>,
@@ -114,7 +114,7 @@ impl Network {
         self.plan.folder.join(index.to_string())
     }
 
-    /// Changes a node's settings, for its next life.
+    /// Changes a node's settings, for its next lifetime.
     pub fn set(&mut self, index: u32, change: impl FnOnce(&mut Settings)) -> Outcome {
         change(&mut self.settings[index as usize]);
         self.write_settings(index)
@@ -213,7 +213,7 @@ impl Network {
         self.children[index as usize].as_ref().map(Child::id)
     }
 
-    /// Whether a node has ended by itself.
+    /// Returns whether a node has ended by itself.
     pub fn has_ended(&mut self, index: u32) -> Outcome<bool> {
         match &mut self.children[index as usize] {
             None => Ok(false),
@@ -243,12 +243,12 @@ impl Network {
         Ok(fs::write(self.plan.folder.join(format!("{from}.cut")), format!(">{to}"))?)
     }
 
-    /// What a node counts, at one moment; `None` where it does not reply.
+    /// Returns what a node counts, at one moment; `None` where it does not reply.
     pub fn metrics(&self, index: u32) -> Option<Metrics> {
         get_metrics(self.settings[index as usize].metrics?).map(Metrics)
     }
 
-    /// What a node counts under a name; `None` where it does not reply.
+    /// Returns what a node counts under a name; `None` where it does not reply.
     pub fn metric(&self, index: u32, name: &str) -> Option<u64> {
         self.metrics(index)?.get(name)
     }
@@ -331,7 +331,7 @@ fn make_members(plan: &Plan, addresses: &[SocketAddr]) -> Outcome<Vec<Peer>> {
     (0..plan.nodes).map(member).collect()
 }
 
-/// What a node counts, all read at one moment.
+/// The counters of a node, all read at one moment.
 pub struct Metrics(String);
 
 impl Metrics {
@@ -355,7 +355,7 @@ impl Drop for Network {
     }
 }
 
-/// Where the search for free ports goes on in this process.
+/// Where the search for free ports continues in this process.
 static NEXT_PORT: AtomicU16 = AtomicU16::new(0);
 
 /// An address of this machine that is this process's own: networks of other processes take other ones, so a node that begins late finds
@@ -365,7 +365,7 @@ fn own_address() -> Ipv4Addr {
     Ipv4Addr::new(127, 128 | high, middle, low)
 }
 
-/// Addresses of this machine that nobody listens at, each handed out once.
+/// Addresses of this machine that nobody listens at, each returned once.
 fn free_addresses(count: usize) -> Outcome<Vec<SocketAddr>> {
     let mut addresses = Vec::new();
     for _ in 0..20_000 {
@@ -390,7 +390,7 @@ fn get_metrics(address: SocketAddr) -> Option<String> {
     Some(text)
 }
 
-/// The program of a node that stands beside this one.
+/// The program of a node, beside this one.
 pub fn program_beside() -> Outcome<PathBuf> {
     let program = std::env::current_exe()?.with_file_name("simplex-node");
     if !program.exists() {

@@ -25,7 +25,7 @@ fn locked<T>(it: &Mutex<T>) -> MutexGuard<'_, T> {
     it.lock().unwrap_or_else(|it| it.into_inner())
 }
 
-/// What a node with these settings and keys begins connections with, and takes those of others.
+/// Makes the credentials with which a node of these settings and keys begins connections, and accepts those of others.
 pub fn credentials(settings: &Settings, keys: &Keys) -> Outcome<Credentials> {
     let (identity, protocol) = (settings.identity()?, &settings.protocol);
     let greeting = Greeting::new(&[
@@ -84,14 +84,19 @@ impl Peers {
         *locked(&self.cuts) = cuts;
     }
 
-    /// Whether nothing is taken from a member.
+    /// Returns whether nothing is taken from a member.
     pub fn is_cut_from(&self, member: Participant) -> bool {
         locked(&self.cuts).from.contains(&member.get())
     }
 
-    /// Whether nothing is sent to a member.
+    /// Returns whether nothing is sent to a member.
     fn is_cut_to(&self, member: Participant) -> bool {
         locked(&self.cuts).to.contains(&member.get())
+    }
+
+    /// Returns the number of the open connection to a member; `None` while there is none.
+    pub fn connection(&self, to: Participant) -> Option<u64> {
+        self.links.connection(to)
     }
 
     /// Sends a message to a member.
@@ -114,7 +119,7 @@ impl Peers {
         self.links.count()
     }
 
-    /// Whether a member may still be served, so that what it asks for is worth looking up.
+    /// Returns whether a member may still be served, so that what it asks for is worth looking up.
     pub fn may_serve(&self, to: Participant) -> bool {
         self.links.may_serve(to)
     }

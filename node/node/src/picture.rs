@@ -7,7 +7,7 @@ use std::fmt::Write as _;
 /// How a kill is shown in a cell.
 const KILLED: char = 'k';
 
-/// What each member was seen to vote in each view, and what was finalized.
+/// The votes of each member in each view, as they were seen, and the finalized views.
 pub struct Grid {
     members: u32,
     faulty: BTreeSet<u32>,

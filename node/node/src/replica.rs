@@ -1,6 +1,6 @@
-//! The one thread that owns the engine: it tells it events as they come, and carries out what it hands out.
+//! The one thread that owns the engine: it passes events to it as they come, and carries out its outputs.
 //!
-//! A turn tells all events that wait, and polls until nothing follows: what is recorded goes to the journal, what others see and stands
+//! A turn passes all events that wait, and polls until nothing follows: new entries go to the journal, and what others see and comes
 //! behind that waits, and what the application is asked goes to its thread. Then the disk is waited for, once for all of that, and what
 //! waits leaves, in order. A disk or an engine that fails ends the process; what was not stored was not sent.
 
@@ -42,7 +42,7 @@ use simplex_journal::Journal;
 use simplex_view_state::{
     CertificateKind, Context, Digest, Engine, EngineError, Input, Output, Participant, Proposal, Subject, TimeoutReason, View, Views, Vote,
 };
-use simplex_wire::{Block, Message};
+use simplex_wire::{Block, Message, Range};
 use std::collections::{BTreeMap, BTreeSet};
 use std::sync::Arc;
 use std::sync::atomic::Ordering::Relaxed;
@@ -53,23 +53,23 @@ use tracing::info;
 const MOST_EVENTS: usize = 256;
 /// How long a turn waits at most: absent leaders and slow peers are looked for so often.
 const LONGEST_WAIT: Duration = Duration::from_millis(50);
-/// How often a turn goes on with what follows, before events are taken again.
+/// How often a turn continues with what follows, before events are taken again.
 const MOST_ROUNDS: usize = 32;
 /// How many views ahead of the current one a proposal may come: so early the engine keeps it.
 const EARLY_VIEWS: u64 = 8;
-/// What a replica is made of.
+/// The parts of a replica.
 pub struct Parts {
     /// The settings.
     pub settings: Settings,
     /// The keys.
     pub keys: Arc<Keys>,
-    /// What the reading threads know.
+    /// The state that reading threads need.
     pub horizon: Arc<Horizon>,
-    /// What is counted.
+    /// The counters.
     pub counters: Arc<Counters>,
     /// The other members.
     pub peers: Arc<Peers>,
-    /// What waits for this thread.
+    /// The events for this thread.
     pub inbox: Arc<Inbox>,
     /// The engine, whose first output was carried out.
     pub engine: Engine,
@@ -83,7 +83,7 @@ pub struct Parts {
     pub tail: Tail,
     /// The thread of the application.
     pub application: Worker,
-    /// The clock of this life.
+    /// The clock of this lifetime.
     pub clock: Clock,
 }
 
@@ -93,7 +93,7 @@ pub struct Replica {
     turns: Turns,
     trace: Option<Trace>,
     events: Events,
-    /// What waits for blocks.
+    /// The questions that wait for blocks.
     missing: MissingBlocks,
     /// The blocks that wait to be built.
     pace: Pace,
@@ -101,27 +101,29 @@ pub struct Replica {
     passed: (View, Digest),
     /// The context of the block that the application builds.
     building: Option<Context>,
-    /// What the application is asked of a view, and of which block.
+    /// The open questions to the application by view, each with the block's digest.
     asked: BTreeMap<(Kind, View), Digest>,
-    /// What others see and stands behind a record that the disk may not have yet, in order.
+    /// The outputs that others see, in order, whose record the disk may not have yet.
     leaving: Vec<Output>,
     /// When each member was heard of last.
     heard: Vec<Instant>,
-    /// The last view whose leader was given up since it was not heard of.
+    /// The last view whose leader was skipped, since nothing came from it.
     given_up: View,
     /// The last view that this member was seen to vote to nullify.
     nullified: View,
     /// The proposals of leaders, compared with what others vote for.
     leader_votes: LeaderVotes,
-    /// Whose contradictions were told of: once a view, or a faulty member could fill the log.
+    /// The members whose contradictions were logged: once a view, or a faulty member could fill the log.
     shown: BTreeSet<(View, Participant)>,
     /// The file of evidence.
     evidence: Collected,
     /// The views whose leaders were found to have proposed twice.
     proposed_twice: BTreeSet<View>,
-    /// What is final, and not in the archive yet.
+    /// The final blocks that are not in the archive yet.
     chain: FinalChain,
-    /// What is asked for of the finalized chain.
+    /// Ranges of peers that end above the last finalized view: one behind each view at most.
+    ahead: Vec<Range>,
+    /// The requests for final blocks.
     catch_up: CatchUp,
     lag: Lag,
     /// How far the node is with a snapshot of peers.
@@ -150,7 +152,7 @@ impl Replica {
             trace: parts.settings.trace.as_deref().map(Trace::open).transpose()?,
             events: Events::open(&parts.settings, parts.journal.entries())?,
             missing: MissingBlocks::new(parts.settings.me(), members),
-            pace: Pace::new(Duration::from_millis(parts.settings.protocol.pace_ms)),
+            pace: parts.settings.pace(),
             passed: (parts.tail.view, parts.tail.payload),
             building: None,
             asked: BTreeMap::new(),
@@ -163,6 +165,7 @@ impl Replica {
             evidence: Collected::of(&parts.settings.data),
             proposed_twice: BTreeSet::new(),
             chain,
+            ahead: Vec::new(),
             catch_up: CatchUp::new(parts.settings.me(), members),
             lag: Lag::none(),
             state_sync: StateSync::Idle,
@@ -175,7 +178,7 @@ impl Replica {
         })
     }
 
-    /// Runs until it is told to stop.
+    /// Runs until it is asked to stop.
     pub fn run(mut self) -> Outcome {
         self.deliver()?;
         let mut is_settled = self.settle()?;
@@ -211,7 +214,8 @@ impl Replica {
     /// How long a turn may wait for events: until the engine or a build is due.
     fn longest_wait(&self) -> Duration {
         let wake = self.parts.clock.until(self.parts.engine.wake());
-        let build = self.pace.wait(Instant::now()).unwrap_or(LONGEST_WAIT);
+        let current = self.parts.engine.views().map_or(View::GENESIS, |it| it.current);
+        let build = self.pace.wait(Instant::now(), current).unwrap_or(LONGEST_WAIT);
         let broadcast = self.until_broadcast().unwrap_or(LONGEST_WAIT);
         wake.min(build).min(broadcast).min(LONGEST_WAIT)
     }
@@ -238,7 +242,7 @@ impl Replica {
         Ok(self.parts.engine.views().ok_or(EngineError::Failed)?)
     }
 
-    /// Tells the engine. Whether it was of use.
+    /// Passes an input to the engine, and returns whether it was taken.
     fn handle(&mut self, input: Input) -> Outcome<bool> {
         let now = self.parts.clock.now();
         let seen = self.events.before(&input);
@@ -273,7 +277,7 @@ impl Replica {
     }
 
     fn take_message(&mut self, from: Participant, message: Message) -> Outcome {
-        self.heard[from.get() as usize] = Instant::now();
+        self.hear(from);
         match message {
             Message::Proposal(vote, block) => self.take_proposal(vote, block),
             Message::Vote(vote) => self.take_vote(vote),
@@ -313,8 +317,8 @@ impl Replica {
         self.take_vote(vote)
     }
 
-    /// A leader may sign as many proposals as it likes. So of each view that is not far ahead the first block is kept, and others where they
-    /// are asked for; and of those that come early the first is told, since the engine keeps a few of all leaders together.
+    /// A leader may sign as many proposals as it likes. So of each view that is not far ahead the first block is kept, and others where
+    /// they are asked for; and of those that come early the first is passed, since the engine stores a few of all leaders together.
     fn take_proposed(&mut self, from: Participant, proposal: Proposal, block: Block) -> Outcome {
         let view = proposal.view();
         let is_first = !self.parts.blocks.has_of(view);
@@ -389,8 +393,8 @@ impl Replica {
     }
 
     /// Polls until nothing follows. What others see waits until the disk has the record before it; all else is carried out at once, so that
-    /// one wait serves what comes of it too. A final proposal waits for the record of the whole turn, in which its finalization is stored:
-    /// so the chain is never ahead of the journal.
+    /// one wait serves what follows from it too. A final proposal waits for the record of the whole turn, in which its finalization is
+    /// stored: so the chain is never ahead of the journal.
     fn poll_all(&mut self) -> Outcome {
         while let Some(output) = self.poll()? {
             if let Output::Broadcast(it) = &output {
@@ -448,7 +452,7 @@ impl Replica {
         Ok(())
     }
 
-    /// Waits for the disk, and lets go what stands behind it, in order.
+    /// Waits for the disk, and sends what waited for it, in order.
     fn leave(&mut self) -> Outcome {
         self.sync()?;
         for output in std::mem::take(&mut self.leaving) {
@@ -472,7 +476,7 @@ impl Replica {
             Output::Verify(context, proposal) => self.verify(context, proposal)?,
             Output::Build(context) => {
                 self.missing.stop_build(context.round.view);
-                self.pace.ask(context);
+                self.pace.ask(context, Instant::now());
                 self.build_due()?;
             }
             Output::Certify(proposal) => self.certify(proposal)?,
@@ -495,7 +499,7 @@ impl Replica {
     }
 }
 
-/// Whether other members see what comes of it.
+/// Returns whether other members see its effect.
 fn is_seen(output: &Output) -> bool {
     matches!(output, Output::Vote(_) | Output::Broadcast(_) | Output::Fetch(_))
 }

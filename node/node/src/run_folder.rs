@@ -9,9 +9,9 @@ use std::path::{Path, PathBuf};
 /// The file that says that a run made the folder. A run that uses the folder holds a lock on it.
 const MARKER: &str = ".simplex-local";
 const MARKED: &str = "simplex-local made this folder. Each run removes the files of the run before.\n";
-/// What a run writes beside a node's folder, by the ending of the name.
+/// The files that a run writes beside a node's folder, by the ending of the name.
 const OF_A_NODE: [&str; 7] = ["pem", "toml", "log", "votes", "cut", "floor", "trace"];
-/// What a node writes in its own folder.
+/// The files that a node writes in its own folder.
 const IN_A_NODE: [&str; 8] = [
     "journal",
     "journal.new",
@@ -87,7 +87,8 @@ fn lock(folder: &Path) -> Outcome<File> {
     Ok(marker)
 }
 
-/// What an earlier run left in a folder, what a folder holds before the folder itself. The first file that no node writes is an error.
+/// Returns what an earlier run left in a folder, what a folder holds before the folder itself. The first file that no node writes is an
+/// error.
 fn left_by_a_run(folder: &Path) -> Outcome<Vec<PathBuf>> {
     let mut found = Vec::new();
     for entry in fs::read_dir(folder)? {
@@ -107,7 +108,7 @@ fn left_by_a_run(folder: &Path) -> Outcome<Vec<PathBuf>> {
     Ok(found)
 }
 
-/// What a node left in its folder, and in the folders of segments there.
+/// Returns what a node left in its folder, and in the folders of segments there.
 fn left_by_a_node(folder: &Path) -> Outcome<Vec<PathBuf>> {
     let mut found = Vec::new();
     for entry in fs::read_dir(folder)? {

@@ -1,7 +1,7 @@
 //! Files that only grow: records one behind another, each with a checksum, in segments of some megabytes that are removed as a whole.
 //!
 //! A segment's name is the number of its first record, in twenty digits. It begins with a head of [`HEAD`] bytes. A record is the length of
-//! its body and a CRC-32 of length and body, four bytes each, and the body. Nothing that stands is written again. A crash may cut the last
+//! its body and a CRC-32 of length and body, four bytes each, and the body. No byte is written again. A crash may cut the last
 //! records off: what has no good checksum at the end of the last segment is cut away.
 
 use crate::named::{named, not_stored};
@@ -12,9 +12,9 @@ use std::path::{Path, PathBuf};
 
 const NAME: &[u8; 8] = b"simplexb";
 const VERSION: u8 = 1;
-/// How many bytes stand before a segment's first record: eight letters, a version, the digest of genesis, and a CRC-32 of all that.
+/// How many bytes precede a segment's first record: eight letters, a version, the digest of genesis, and a CRC-32 of all that.
 pub const HEAD: u64 = 8 + 1 + 32 + 4;
-/// What a record has beside its body.
+/// The bytes of a record beside its body.
 pub const BESIDE: u64 = 8;
 
 /// Segments in a folder of their own.
@@ -36,7 +36,7 @@ pub type Found<'a> = (u64, u64, &'a [u8]);
 
 impl Segments {
     /// Opens the segments of a folder, which is made where it is not there. A last record that was cut off is cut away; how many bytes that
-    /// were is the second answer. A file that is no segment of this network is an error.
+    /// were is the second result. A file that is no segment of this network is an error.
     pub fn open(folder: &Path, genesis: [u8; 32], longest: u64, syncs: bool) -> io::Result<(Segments, u64)> {
         if !folder.exists() {
             fs::create_dir_all(folder).map_err(not_stored(folder))?;
@@ -87,7 +87,7 @@ impl Segments {
         Ok(length - whole)
     }
 
-    /// Whether a segment's head is zeros: a power cut came before it was on the disk, and so before any record.
+    /// Returns whether a segment's head is zeros: a power cut came before it was on the disk, and so before any record.
     fn is_blank(&self, number: u64) -> io::Result<bool> {
         let mut found = [0; HEAD as usize];
         File::open(self.path(number))?.read_exact(&mut found)?;
@@ -156,8 +156,8 @@ impl Segments {
         Ok(())
     }
 
-    /// Removes the last segment where it has no record and the next record, of this number, is not the one that it was begun for: a power cut
-    /// took those that were written to it.
+    /// Removes the last segment where it has no record and the next record, of this number, is not the one that it was begun for: a power
+    /// cut took those that were written to it.
     pub fn remove_empty(&mut self, next: u64) -> io::Result<()> {
         if let Some((&number, &length)) = self.lengths.last_key_value()
             && length <= HEAD
@@ -252,12 +252,12 @@ fn number_of(name: &std::ffi::OsStr) -> Option<u64> {
     (name.len() == 20 && name.bytes().all(|it| it.is_ascii_digit())).then(|| name.parse().ok())?
 }
 
-/// Whether a file's name is that of a segment.
+/// Returns whether a file's name is that of a segment.
 pub fn is_segment(name: &std::ffi::OsStr) -> bool {
     number_of(name).is_some()
 }
 
-/// Whether an error says that records are damaged, and the disk did read them.
+/// Returns whether an error says that records are damaged, and the disk did read them.
 pub fn is_damage(error: &io::Error) -> bool {
     matches!(error.kind(), io::ErrorKind::InvalidData | io::ErrorKind::UnexpectedEof)
 }

@@ -1,7 +1,8 @@
-//! What a node is told at its start: a TOML file. `node/node.toml` is one, with reasons.
+//! The settings of a node: a TOML file. `node/node.toml` is one, with reasons.
 
 use crate::crypto::raw_key;
 use crate::faults::Trial;
+use crate::pace::Pace;
 use serde::{Deserialize, Serialize};
 use simplex_identity::{Identity, NetworkName, members_digest};
 use simplex_net::Address;
@@ -12,14 +13,15 @@ use std::num::NonZeroU32;
 use std::path::{Path, PathBuf};
 use std::time::Duration;
 
-/// A result whose error is told to whoever started the process.
+/// A result whose error is printed to whoever started the process.
 pub type Outcome<T = ()> = Result<T, Box<dyn std::error::Error>>;
 
 /// The settings of one node.
 #[derive(Clone, Debug, Deserialize, Serialize)]
 #[serde(deny_unknown_fields)]
 pub struct Settings {
-    /// The network's name. It begins each vote that members sign, so it has to be the same for all of them, and another one for each network.
+    /// The network's name. The namespace of each vote is drawn from it, so it has to be the same for all members, and another one for each
+    /// network.
     pub network: NetworkName,
     /// Which of the members this node is: its place in `members`, from 0.
     pub index: u32,
@@ -27,14 +29,14 @@ pub struct Settings {
     pub data: PathBuf,
     /// The file of its secret key, as `simplex-node keygen` makes it.
     pub key: PathBuf,
-    /// The socket of the process that signs this member's votes, `simplex-node signer`; by default the node signs them itself. With it `key` is
-    /// the secret key of the node's links, whose public one is the member's `link`.
+    /// The socket of the process that signs this member's votes, `simplex-node signer`; by default the node signs them itself. With it
+    /// `key` is the secret key of the node's links, whose public one is the member's `link`.
     pub signer: Option<PathBuf>,
     /// Where this node listens; by default at its own address among the members. It differs where others dial it by another one.
     pub listen: Option<Address>,
     /// Where metrics are served, by HTTP, to whoever asks; nowhere by default.
     pub metrics: Option<SocketAddr>,
-    /// Whether a vote waits until the disk has it. Without it, a machine that loses power may vote twice.
+    /// True if a vote waits until the disk has it. Without it, a machine that loses power may vote twice.
     #[serde(default = "yes")]
     pub sync: bool,
     /// Has no effect: each node refuses to begin without a journal. Settings of earlier releases name it.
@@ -55,10 +57,10 @@ pub struct Settings {
     /// The certificate of a finalized proposal from which a node begins that has no journal: `floor` of another node's folder. Genesis by
     /// default.
     pub floor: Option<PathBuf>,
-    /// Where more final views than these are missing, or blocks that peers have pruned, the node takes the application's state of its peers in
-    /// place of the blocks. By default it never does.
+    /// Where more final views than these are missing, or blocks that peers have pruned, the node takes the application's state of its peers
+    /// in place of the blocks. By default it never does.
     pub state_sync: Option<u64>,
-    /// What is tried on this node; by default nothing is.
+    /// The trial of this node; by default there is none.
     #[serde(default)]
     pub trial: Trial,
 }
@@ -101,11 +103,11 @@ impl Peer {
     }
 }
 
-/// What all members have to agree on, and the times of a member.
+/// The settings that all members must share, and the times of a member.
 #[derive(Clone, Debug, Deserialize, Serialize)]
 #[serde(deny_unknown_fields, default)]
 pub struct Protocol {
-    /// The epoch. Votes of another one are of no use.
+    /// The epoch. Votes of another one are ignored.
     pub epoch: u64,
     /// How many views in a row have the same leader.
     pub term_length: NonZeroU32,
@@ -123,6 +125,9 @@ pub struct Protocol {
     pub view_retention: u64,
     /// The least time between two blocks that this node builds, in milliseconds; 0 builds as soon as one is asked for.
     pub pace_ms: u64,
+    /// How long a build in a handoff waits: of the first view of this member's term, before the last view of the term before is certified.
+    /// 0 builds at once. A leader before this one that proposes two blocks costs this member its view, if it has built on the wrong one.
+    pub handoff_wait_ms: u64,
     /// After how many blocks the ledger has another snapshot for peers, the same for all members; 0 makes none.
     pub snapshot_blocks: u64,
 }
@@ -139,6 +144,7 @@ impl Default for Protocol {
             inactivity_ms: 3000,
             view_retention: 64,
             pace_ms: 0,
+            handoff_wait_ms: 0,
             snapshot_blocks: 1000,
         }
     }
@@ -239,11 +245,12 @@ impl Settings {
         NonZeroU32::new(self.members.len() as u32).expect("this node is one of them")
     }
 
-    /// The settings of its member in the library, from a floor.
-    pub fn config(&self, floor: Floor) -> Config {
+    /// The settings of its member in the library, from a floor. A public key that is none is an error.
+    pub fn config(&self, floor: Floor) -> Outcome<Config> {
         let it = &self.protocol;
         let stall = (it.optimistic_views > 0).then(|| Duration::from_millis(it.certification_timeout_ms));
-        let mut config = Config::new(self.count(), Some(self.me()), Epoch::new(it.epoch), Digest::default());
+        let (namespace, epoch) = (self.identity()?.namespace(), Epoch::new(it.epoch));
+        let mut config = Config::new(namespace, self.count(), Some(self.me()), epoch, Digest::default());
         config.terms = Terms {
             length: it.term_length,
             optimistic_views: ViewDelta::new(it.optimistic_views),
@@ -258,15 +265,18 @@ impl Settings {
             timeout: Duration::from_millis(it.inactivity_ms),
             budget: None,
         });
-        config
+        Ok(config)
     }
 
     /// Who leads which views.
     pub fn turns(&self) -> Turns {
-        Turns {
-            members: self.count(),
-            term_length: self.protocol.term_length,
-        }
+        Turns::new(self.count(), self.protocol.term_length)
+    }
+
+    /// How long builds wait.
+    pub(crate) fn pace(&self) -> Pace {
+        let (least, handoff) = (self.protocol.pace_ms, self.protocol.handoff_wait_ms);
+        Pace::new(Duration::from_millis(least), Duration::from_millis(handoff), self.turns())
     }
 
     /// After how long without a message a leader counts as absent.
@@ -275,8 +285,8 @@ impl Settings {
     }
 }
 
-/// The members in turn, a term each. The engine knows it of the views that it keeps; this is for all views, and for threads that don't own
-/// the engine.
+/// The turns of the members, a term each. The engine knows them of the views that it tracks; this is for all views, and for threads that
+/// don't own the engine.
 #[derive(Clone, Copy, Debug)]
 pub struct Turns {
     members: NonZeroU32,
@@ -284,6 +294,16 @@ pub struct Turns {
 }
 
 impl Turns {
+    /// The turns of so many members, with this many views a term.
+    pub fn new(members: NonZeroU32, term_length: NonZeroU32) -> Turns {
+        Turns { members, term_length }
+    }
+
+    /// Returns whether a view is the first one of its term.
+    pub fn begins_term(&self, view: View) -> bool {
+        view.get() % u64::from(self.term_length.get()) == 1 % u64::from(self.term_length.get())
+    }
+
     /// Who leads a view.
     pub fn leader(&self, view: View) -> Participant {
         let term = view.get().saturating_sub(1) / u64::from(self.term_length.get());

@@ -11,12 +11,11 @@ use crate::crypto::Signature;
 use crate::settings::Outcome;
 use openssl::pkey::{PKey, Private};
 use openssl::sign::Signer as Signing;
-use simplex_identity::NetworkName;
 use simplex_view_state::Subject;
 
 /// Signs the votes of one member.
 pub trait Signer: Send + Sync {
-    /// The signature on a vote's text, behind the network's name.
+    /// The signature on a vote's text, which begins with the namespace of the network.
     ///
     /// # Errors
     ///
@@ -26,20 +25,19 @@ pub trait Signer: Send + Sync {
 
 /// A signer with the key in this process. The engine's own record is what keeps it from contradictions.
 pub struct Local {
-    network: NetworkName,
     secret: PKey<Private>,
 }
 
 impl Local {
-    /// A signer with this key, in this network.
-    pub fn new(network: NetworkName, secret: PKey<Private>) -> Local {
-        Local { network, secret }
+    /// A signer with this key.
+    pub fn new(secret: PKey<Private>) -> Local {
+        Local { secret }
     }
 }
 
 impl Signer for Local {
     fn sign(&self, _: &Subject, text: &[u8]) -> Outcome<Signature> {
-        let signature = Signing::new_without_digest(&self.secret)?.sign_oneshot_to_vec(&self.network.signed(text))?;
+        let signature = Signing::new_without_digest(&self.secret)?.sign_oneshot_to_vec(text)?;
         Ok(signature.try_into().map_err(|_| "an ed25519 signature has 64 bytes")?)
     }
 }

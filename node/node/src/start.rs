@@ -27,7 +27,7 @@ use std::sync::Arc;
 use std::thread;
 use tracing::{info, warn};
 
-/// Where an application begins: what it is told when it is opened.
+/// The beginning of an application: what it receives when it is opened.
 #[derive(Clone, Debug)]
 pub struct Start {
     /// The node's folder, which this process has for itself. The application may keep files in it under names of its own: not `journal`,
@@ -42,19 +42,20 @@ pub struct Start {
 
 /// Runs a node until a signal ends it (SIGINT or SIGTERM), or an error does.
 ///
-/// The application is opened once the folder is this process's alone. It gets the final blocks that it lacks before the node begins.
+/// The application is opened once the folder is this process's alone. It gets the final blocks that it does not have before the node
+/// begins.
 ///
 /// # Errors
 ///
 /// Where the node must not begin, says what to do: [`init`](crate::init()) did not make its folder; its journal is lost, older, damaged or
-/// another member's; another process has its folder; a key file may be read by others. While it runs: the disk refuses, or the application returned an error or panicked. Nothing was sent
-/// that is not stored, so the node may be run again.
+/// another member's; another process has its folder; a key file may be read by others. While it runs: the disk refuses, or the application
+/// returned an error or panicked. Nothing was sent that is not stored, so the node may be run again.
 pub fn run<A: Application>(settings: Settings, application: impl FnOnce(&Start) -> Outcome<A>) -> Outcome {
     run_until_signal(open(settings, application)?)
 }
 
-/// Runs a node as [`run`] does, whose votes a signer of the host's own signs: by a key in other hardware, say. The settings name no `signer`;
-/// where the node has not the member's key, `key` is that of its links, and the member's public one is its `link`.
+/// Runs a node as [`run`] does, whose votes a signer of the host's own signs: by a key in other hardware, say. The settings name no
+/// `signer`; where the node has not the member's key, `key` is that of its links, and the member's public one is its `link`.
 ///
 /// # Errors
 ///
@@ -138,7 +139,7 @@ fn open_by<A: Application>(
     Ok((replica, inbox))
 }
 
-/// What a node goes on from: all that it stored, which was tested against each other.
+/// All that a node stored, its parts tested against each other.
 struct Stored<A> {
     keys: Arc<Keys>,
     recovered: Recovered,
@@ -162,7 +163,7 @@ impl<A: Application> Stored<A> {
         let (mut journal, recovered) = Journal::open(&settings.data, identity, settings.sync)?;
         let recovered = recovered.ok_or_else(|| no_journal(&settings.data))?;
         let floor = floor::read(settings)?;
-        let mut engine = simplex_journal::engine(Some(&recovered), &settings.config(floor.clone()), &Options::default())?;
+        let mut engine = simplex_journal::engine(Some(&recovered), &settings.config(floor.clone())?, &Options::default())?;
         let views = engine.views().ok_or(EngineError::Failed)?;
         let start = Start {
             folder: settings.data.clone(),
@@ -218,8 +219,8 @@ fn no_journal(folder: &Path) -> String {
     )
 }
 
-/// Refuses a journal that is older than the application's chain. The application gets a block only after the journal holds the finalization,
-/// so one that is ahead shows that an earlier journal was put back.
+/// Refuses a journal that is older than the application's chain. The application gets a block only after the journal holds the
+/// finalization, so one that is ahead shows that an earlier journal was put back.
 fn test_application(folder: &Path, application: &impl Application, finalized: View) -> Outcome {
     let (height, last) = (application.height(), application.last().0);
     if height == 0 || last <= finalized {
@@ -263,8 +264,8 @@ fn place_of(settings: &Settings, identity: &Identity) -> Place {
     }
 }
 
-/// The archive, whose blocks the application gets that it lacks. The archive is written first, so the application may be behind it; and it is
-/// ahead of one of older blocks than a snapshot of this height that it took.
+/// The archive, from which the application gets the blocks that it does not have. The archive is written first, so the application may be
+/// behind it; and it is ahead of one of older blocks than a snapshot of this height that it took.
 fn open_archive(settings: &Settings, identity: &Identity, application: &mut impl Application, replaced: Option<u64>) -> Outcome<Archive> {
     let (view, payload) = application.last();
     let tail = Tail {
@@ -289,7 +290,7 @@ fn open_archive(settings: &Settings, identity: &Identity, application: &mut impl
 /// The segments in which a block is looked for that bound a snapshot: in older ones it is not needed, since another one was bound.
 const LAST_SEGMENTS: usize = 4;
 
-/// What peers are served of snapshots, from those on that blocks of the archive have bound.
+/// Returns what peers are served of snapshots, from those on that blocks of the archive have bound.
 fn responder(settings: &Settings, archive: &Archive, application: &mut impl Application) -> Responder {
     let mut responder = Responder::new(settings.data.clone(), settings.trial.clone());
     if let Err(error) = archive.each_of_last(LAST_SEGMENTS, |block| responder.note(block, application)) {
@@ -326,7 +327,7 @@ fn tell(recovered: &Recovered, views: &Views) {
     info!(cut, entries, current, finalized, "begun");
 }
 
-/// Begins the journal of a life, from the engine's first output on: the whole record, in place of all that was stored.
+/// Begins the journal of a lifetime, from the engine's first output on: the whole record, in place of all that was stored.
 pub(crate) fn begin_journal(engine: &mut Engine, journal: &mut Journal, now: Moment) -> Outcome {
     match engine.poll(now)? {
         Some(Output::Replace(entries)) => Ok(journal.replace(&entries)?),

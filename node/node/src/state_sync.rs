@@ -1,12 +1,13 @@
-//! State sync: a node that lacks more final blocks than it wants to fetch, or blocks that its peers have pruned, takes the application's state
-//! of its peers in their place.
+//! State sync: a node that misses more final blocks than it is set to fetch, or blocks that its peers have pruned, takes the application's
+//! state of its peers in their place.
 //!
-//! 1. It asks all others for a snapshot. What one offers is verified: a finalization of n - f members, blocks that are linked to it, of which
-//!    the lowest binds the snapshot's manifest. So a member can offer an old snapshot, and no false one.
-//! 2. Of those that were offered in a second it fetches the highest one, in [`pieces`], of all others at once. Each piece has the digest that
-//!    the manifest says. Who sends another one, or none, is asked no more.
-//! 3. The pieces are in a file, which is installed ([`installation`]) once the journal has a finalization that is no lower than the snapshot:
-//!    so the journal, which stays as it is, is never behind the application.
+//! 1. It asks all others for a snapshot. What one offers is verified: a finalization of n - f members, blocks that are
+//!    linked to it, of which the lowest binds the snapshot's manifest. So a member can offer an old snapshot, and no
+//!    false one.
+//! 2. Of those that were offered in a second it fetches the highest one, in [`pieces`], of all others at once. Each
+//!    piece has the digest that the manifest says. Who sends another one, or none, is asked no more.
+//! 3. The pieces are in a file, which is installed ([`installation`]) once the journal has a finalization that is no
+//!    lower than the snapshot: so the journal, which stays as it is, is never behind the application.
 //!
 //! All the while the node votes. The blocks after the snapshot come as they do for any node that lags.
 
@@ -23,7 +24,7 @@ use std::time::{Duration, Instant};
 
 /// How often others are asked for snapshots, until one has a good one.
 pub const ASKED_EVERY: Duration = Duration::from_secs(2);
-/// How long after the first good offer another one may be chosen.
+/// How long after the first good offer another one may be chosen, where not all members that are not faulty have offered one.
 pub const CHOSEN_AFTER: Duration = Duration::from_secs(1);
 /// How long blocks are not asked for while others are asked for snapshots.
 pub const BLOCKS_WAIT: Duration = Duration::from_secs(10);
@@ -33,7 +34,7 @@ pub const STALLED: Duration = Duration::from_secs(60);
 /// A snapshot that a finalized block binds.
 #[derive(Clone, Debug)]
 pub struct Offer {
-    /// What it is of.
+    /// The manifest of the snapshot.
     pub manifest: Arc<Manifest>,
     /// The manifest's digest.
     pub digest: Digest,
@@ -59,6 +60,10 @@ pub enum StateSync {
         best: Option<(Instant, Offer)>,
         /// Who offered one since others were asked last.
         offered: BTreeSet<Participant>,
+        /// Who offered a good one.
+        good: BTreeSet<Participant>,
+        /// How many of them are enough.
+        enough: usize,
     },
     /// Pieces are fetched.
     Fetching(Box<Fetch>),
@@ -80,20 +85,23 @@ pub struct Fetch {
 }
 
 impl StateSync {
-    /// Begins to ask.
-    pub fn begin() -> StateSync {
+    /// Begins to ask. Once so many members have offered good ones, the highest of them is chosen.
+    pub fn begin(enough: usize) -> StateSync {
         StateSync::Asking {
             begun: Instant::now(),
             since: Instant::now(),
             asked: None,
             best: None,
             offered: BTreeSet::new(),
+            good: BTreeSet::new(),
+            enough,
         }
     }
 
-    /// Takes a good offer, where one is asked for. The highest one counts.
-    pub fn offered(&mut self, offer: Offer) {
-        let StateSync::Asking { best, .. } = self else { return };
+    /// Takes a good offer of a member, where one is asked for. The highest one counts.
+    pub fn offered(&mut self, from: Participant, offer: Offer) {
+        let StateSync::Asking { best, good, .. } = self else { return };
+        good.insert(from);
         match best {
             Some((_, other)) if other.manifest.height >= offer.manifest.height => {}
             Some((_, other)) => *other = offer,
@@ -101,18 +109,20 @@ impl StateSync {
         }
     }
 
-    /// The offer that is chosen now, if it is time.
-    pub fn chosen(&self) -> Option<Offer> {
+    /// The offer that is chosen now, if it is time, and who offered one.
+    pub fn chosen(&self) -> Option<(Offer, BTreeSet<Participant>)> {
         match self {
             StateSync::Asking {
                 best: Some((since, offer)),
+                good,
+                enough,
                 ..
-            } if since.elapsed() >= CHOSEN_AFTER => Some(offer.clone()),
+            } if since.elapsed() >= CHOSEN_AFTER || good.len() >= *enough => Some((offer.clone(), good.clone())),
             _ => None,
         }
     }
 
-    /// Whether others are to be asked for snapshots now.
+    /// Returns whether others are to be asked for snapshots now.
     pub fn is_to_ask(&mut self) -> bool {
         match self {
             StateSync::Asking { asked, offered, .. } if asked.is_none_or(|it| it.elapsed() >= ASKED_EVERY) => {
@@ -124,7 +134,7 @@ impl StateSync {
         }
     }
 
-    /// Whether others were asked for so long in vain that it is to be said, which it is once in such a time.
+    /// Returns whether others were asked for so long in vain that it is to be said, which it is once in such a time.
     pub fn is_in_vain(&mut self) -> bool {
         match self {
             StateSync::Asking { since, best: None, .. } if since.elapsed() >= STALLED => {
@@ -135,7 +145,7 @@ impl StateSync {
         }
     }
 
-    /// Whether a snapshot comes in place of the blocks that are lacking, so that these are not asked for.
+    /// Returns whether a snapshot comes in place of the missing blocks, so that these are not asked for.
     pub fn spares_blocks(&self) -> bool {
         match self {
             StateSync::Idle => false,
@@ -144,7 +154,7 @@ impl StateSync {
         }
     }
 
-    /// Whether a member's offer is looked at: one of each, each time that they are asked.
+    /// Returns whether a member's offer is looked at: one of each, each time that they are asked.
     pub fn takes_offer_of(&mut self, from: Participant) -> bool {
         match self {
             StateSync::Asking { offered, .. } => offered.insert(from),
@@ -152,7 +162,7 @@ impl StateSync {
         }
     }
 
-    /// Whether the application takes a snapshot: until it has, no final block is handed on.
+    /// Returns whether the application takes a snapshot: until it has, no final block is passed on.
     pub fn is_restoring(&self) -> bool {
         matches!(self, StateSync::Restoring(_))
     }
@@ -166,13 +176,13 @@ impl StateSync {
     }
 }
 
-/// Whether a node that lacks so many final views takes a snapshot: `above` is its setting, and `pruned` of the others, of which at most
-/// `faulty` lie, have pruned the next block.
+/// Returns whether a node that misses so many final views takes a snapshot: `above` is its setting, and `pruned` of the
+/// others, of which at most `faulty` lie, have pruned the next block.
 pub fn is_wanted(above: Option<u64>, lacking: u64, pruned: usize, others: usize, faulty: usize) -> bool {
     above.is_some_and(|above| lacking > above || is_pruned(pruned, others, faulty))
 }
 
-/// Whether so many of the others have pruned a block that the rest may all be down, or lie, as at most `faulty` of them are.
+/// Returns whether so many of the others have pruned a block that the rest may all be down, or lie, as at most `faulty` of them are.
 pub fn is_pruned(pruned: usize, others: usize, faulty: usize) -> bool {
     others > 0 && pruned >= (others - faulty.min(others)).max(1)
 }
@@ -195,14 +205,14 @@ mod tests {
 
     #[test]
     fn of_what_is_offered_the_highest_counts_after_a_while() {
-        let mut it = StateSync::begin();
+        let mut it = StateSync::begin(3);
         assert!(!it.is_in_vain());
         assert!(it.is_to_ask() && !it.is_to_ask());
         let of = Participant::new;
         assert!(it.takes_offer_of(of(2)) && it.takes_offer_of(of(3)) && !it.takes_offer_of(of(2)));
         assert!(!StateSync::Idle.takes_offer_of(of(2)));
         for height in [20, 60, 40] {
-            it.offered(offer(height));
+            it.offered(of(2), offer(height));
         }
         assert!(it.chosen().is_none());
         let StateSync::Asking {
@@ -212,7 +222,18 @@ mod tests {
             panic!("{it:?}")
         };
         *since -= CHOSEN_AFTER;
-        assert_eq!(it.chosen().map(|it| it.manifest.height), Some(60));
+        assert_eq!(it.chosen().map(|it| it.0.manifest.height), Some(60));
+    }
+
+    #[test]
+    fn once_enough_members_have_offered_the_highest_is_chosen_at_once() {
+        let (mut it, of) = (StateSync::begin(2), Participant::new);
+        it.offered(of(2), offer(20));
+        it.offered(of(2), offer(30));
+        assert!(it.chosen().is_none());
+        it.offered(of(0), offer(10));
+        let chosen = it.chosen().map(|(it, by)| (it.manifest.height, by));
+        assert_eq!(chosen, Some((30, [of(0), of(2)].into())));
     }
 
     #[test]

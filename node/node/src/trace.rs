@@ -29,7 +29,7 @@ pub struct Line {
 }
 
 impl Trace {
-    /// Goes on with a file. A last line that a crash cut off goes: the next one would run into it.
+    /// Continues with a file. A last line that a crash cut off goes: the next one would run into it.
     pub fn open(path: &Path) -> io::Result<Trace> {
         let file = OpenOptions::new().create(true).append(true).open(path).map_err(named(path))?;
         let end = fs::read(path).map_err(named(path))?.iter().rposition(|it| *it == b'\n');

@@ -11,8 +11,8 @@ pub fn kind_of(subject: &Subject) -> CertificateKind {
     }
 }
 
-/// Whether a subject is one that honest members sign: of the epoch, of no genesis, its parent below it. A vote of another epoch beside one
-/// of this would look like a contradiction.
+/// Returns whether a subject is one that honest members sign: of the epoch, of no genesis, its parent below it. A vote of another epoch
+/// beside one of this would look like a contradiction.
 pub fn is_sound(subject: &Subject, epoch: Epoch) -> bool {
     let round = subject.round();
     let is_below = match subject {

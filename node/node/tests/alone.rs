@@ -151,13 +151,13 @@ fn of_a_leader_that_signs_many_blocks_one_is_kept() {
         let (vote, block) = others.proposal(2, 1, content);
         others.send(1, &Message::Proposal(vote, block.bytes().to_vec()));
     }
-    // The second one is evidence; those after it tell nothing, and are dropped by the reader.
+    // The second one is evidence; those after it add nothing, and the reader drops them.
     others.comes_to("contradictions", 1);
     assert_eq!(stored_blocks(&others.network.data(0)), 2 * blocks_of_one);
     let log = fs::read_to_string(others.network.log(0)).expect("a log");
     assert!(
         log.contains("first_signature") && log.contains("second_signature"),
-        "the evidence is told"
+        "the evidence is logged"
     );
     others.end();
 }
@@ -197,7 +197,7 @@ fn shows_the_evidence(others: Others, first: &Vote, second: &Vote) {
     for vote in [first, second] {
         assert!(
             log.contains(&hex(&vote.signature)),
-            "the signature on {:?} is lacking: {log}",
+            "the signature on {:?} is missing: {log}",
             vote.subject
         );
     }
@@ -335,6 +335,30 @@ fn a_peer_is_served_the_final_blocks_that_it_asks_for() {
         _ => false,
     };
     assert!(others.hears(SOON, is_served), "it does not send blocks 2 and 3");
+    others.end();
+}
+
+/// A peer that is ahead sends blocks up to a higher view than the node knows to be final. The archive must not be ahead of the journal: the
+/// next start would take the journal for an older one, and refuse it.
+#[test]
+fn blocks_up_to_a_higher_final_view_are_taken_once_the_journal_has_that_view() {
+    let mut others = Others::around_a_node("range-ahead");
+    let blocks = chain(others.genesis, 1..4, 256);
+    let known = others.certificate(&[1, 2, 3], Subject::Finalize(blocks[1].1));
+    others.send(1, &Message::Certificate(known));
+    let (first, after) = asked_range(&others);
+    let range = Range {
+        after,
+        certificate: others.certificate(&[1, 2, 3], Subject::Finalize(blocks[2].1)),
+        blocks: blocks.iter().rev().map(|(block, _)| block.clone()).collect(),
+    };
+    others.send(first as usize, &Message::Range(range));
+    others.comes_to("height", 3);
+    others.network.kill(0).expect("a process");
+    others.network.begin(0).expect("a process");
+    let has = |name| others.network.wait_until(&[0], name, 3, SOON);
+    let log = || fs::read_to_string(others.network.log(0)).expect("a log");
+    assert!(has("height") && has("last_finalized"), "{}", log());
     others.end();
 }
 

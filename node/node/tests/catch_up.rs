@@ -38,7 +38,7 @@ fn log(network: &Network, index: u32) -> String {
 }
 
 fn count(network: &Network, index: u32, name: &str) -> u64 {
-    network.metric(index, name).expect("it answers")
+    network.metric(index, name).expect("a reply")
 }
 
 fn ends_well(mut network: Network) {
@@ -114,7 +114,7 @@ fn long_blocks_come_at_a_steady_rate() {
     ends_well(network);
 }
 
-/// The members have pruned what node 3 lacks, whose process has ended: so many blocks it has.
+/// The members have pruned what node 3 misses, whose process has ended with so many blocks.
 fn pruned(name: &str) -> (Network, u64) {
     let mut network = network(name, 4);
     for index in 0..4 {
@@ -136,7 +136,7 @@ fn pruned(name: &str) -> (Network, u64) {
     (network, height)
 }
 
-/// Node 3 has so many blocks, and says that it lacks the next one.
+/// Node 3 has so many blocks, and logs that the next one is missing.
 fn says_what_it_lacks(network: &Network, height: u64) {
     let is_told = network.wait_until(&[3], "missing_height", height + 1, SOON);
     let said = log(network, 3);
@@ -249,7 +249,7 @@ fn a_segment_that_is_damaged_and_needed_is_named() {
     network.begin(0).expect("a process");
     let begun = Instant::now();
     while !network.has_ended(0).expect("a process") {
-        assert!(begun.elapsed() < SOON, "it goes on");
+        assert!(begun.elapsed() < SOON, "it continues");
         std::thread::sleep(Duration::from_millis(20));
     }
     let said = log(&network, 0);
@@ -275,7 +275,7 @@ fn a_chain_with_bytes_that_are_no_text_is_named_and_written_again_from_the_archi
     network.begin(0).expect("a process");
     let begun = Instant::now();
     while !network.has_ended(0).expect("a process") {
-        assert!(begun.elapsed() < SOON, "it goes on");
+        assert!(begun.elapsed() < SOON, "it continues");
         std::thread::sleep(Duration::from_millis(20));
     }
     let said = log(&network, 0);

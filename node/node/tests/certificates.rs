@@ -38,7 +38,7 @@ fn a_certificate_is_sent_to_the_members_that_lack_it() {
     others.end();
 }
 
-/// Of four members one may be faulty: of two that sent a certificate one is honest, and has sent it to all.
+/// One of four members may be faulty: of two that sent a certificate one is honest, and has sent it to all.
 #[test]
 fn a_certificate_that_an_honest_member_sent_is_not_sent_again() {
     let mut others = Others::around_a_node("enough");

@@ -1,5 +1,6 @@
-//! A network of four under one fault after another, for as long as `SIMPLEX_CHAOS` says, in minutes: kills, torn ends of files, stops, pauses,
-//! partitions, links that are cut one way or slow, and a member that floods. After each the network heals soon, and in the end all agree.
+//! A network of four under one fault after another, for as long as `SIMPLEX_CHAOS` says, in minutes: kills, torn ends of files, stops,
+//! pauses, partitions, links that are cut one way or slow, and a member that floods. After each the network heals soon, and in the end all
+//! agree.
 //!
 //! `tests/node/node.py --chaos MINUTES` runs it; `SIMPLEX_SEED` chooses the faults.
 
@@ -146,7 +147,7 @@ impl Chaos {
             assert!(begun.elapsed() < Duration::from_secs(60), "it does not stop");
             sleep(Duration::from_millis(20));
         }
-        self.healed.entry("told to stop, and ended").or_default().push(begun.elapsed());
+        self.healed.entry("asked to stop, and ended").or_default().push(begun.elapsed());
         self.pause();
         self.network.begin(node).expect("a process");
         "stopped, and begun again"
@@ -272,7 +273,7 @@ fn append(path: PathBuf, bytes: &[u8]) {
     file.write_all(bytes).expect("a disk");
 }
 
-/// What a member that floods sends: a vote of its own of many views, an ask, and a vote in another's name.
+/// Returns what a member that floods sends: a vote of its own of many views, an ask, and a vote in another's name.
 fn flooding(keys: &simplex_node::crypto::Keys, view: u64, number: u64) -> Message {
     let round = Round {
         epoch: Epoch::new(1),
@@ -282,7 +283,7 @@ fn flooding(keys: &simplex_node::crypto::Keys, view: u64, number: u64) -> Messag
     let vote = |signer| Vote {
         subject,
         signer: Participant::new(signer),
-        signature: keys.sign(&subject.encode()).expect("a signature").to_vec(),
+        signature: keys.sign(&subject).expect("a signature").to_vec(),
     };
     match number % 1000 {
         0 => Message::Vote(vote(0)),

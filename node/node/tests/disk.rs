@@ -9,6 +9,7 @@ use others::Others;
 use simplex_node::audit::{contradictions, disagreements};
 use simplex_node::network::{Network, Plan, folder_of};
 use simplex_node::settings::{Protocol, Settings};
+use simplex_view_state::Subject;
 use simplex_wire::Message;
 use std::collections::BTreeMap;
 use std::fs::{self, OpenOptions};
@@ -166,8 +167,8 @@ fn sent_votes_are_stored(network: &Network, refusal: &str) {
     }
 }
 
-/// Node 0's disk refuses each of these calls in turn. It ends with an error that names the file and what to do; after a power cut it has
-/// each vote that it sent, and continues.
+/// Node 0's disk refuses each of these calls, one after another. It ends with an error that names the file and what to do; after a power
+/// cut it has each vote that it sent, and continues.
 fn ends_and_continues(name: &str, refusals: &[(String, &str)]) {
     let mut network = Network::new(plan(name)).expect("keys and settings");
     let disk = Disk::of(&network);
@@ -367,8 +368,8 @@ fn a_folder_that_init_made_is_on_the_disk() {
     fs::remove_dir_all(network.folder()).expect("a folder");
 }
 
-/// Wherever `simplex-node init` is killed, the next one makes the folder, all of which is on the disk then. Once the journal has its name the
-/// next one says to run the node.
+/// Wherever `simplex-node init` is killed, the next one makes the folder, all of which is on the disk then. Once the journal has its name
+/// the next one says to run the node.
 #[test]
 fn an_init_that_was_killed_at_any_call_is_made_again() {
     let mut network = Network::new(plan("disk-init-killed")).expect("keys and settings");
@@ -398,6 +399,39 @@ fn an_init_that_was_killed_at_any_call_is_made_again() {
     });
     assert!(calls_of_init > Some(10) && refused == 1, "{calls_of_init:?}, {refused} refused");
     fs::remove_dir_all(network.folder()).expect("a folder");
+}
+
+/// The application's thread verifies and judges blocks, and each second it says what the disk has of the chain.
+#[test]
+fn a_disk_that_stores_the_chain_slowly_holds_up_no_vote() {
+    let mut others = Others::around_a_node_begun_by(
+        "disk-slow-chain",
+        |_| (),
+        |network| {
+            let mut variables = Disk::of(network).variables(None);
+            variables.push(("DISK_DELAYS", "0/chain 600000".to_owned()));
+            network.begin_with_variables(0, &variables).expect("a process");
+        },
+    );
+    let blocks = members::chain(others.genesis, 1..5, 256);
+    let (first, proposal) = &blocks[0];
+    let certificate = others.certificate(&[1, 2, 3], Subject::Finalize(*proposal));
+    others.gives(&certificate, first);
+    others.comes_to("height", 1);
+    for (leader, (block, proposal)) in (1..).zip(&blocks[1..]) {
+        // (so long after the last time it is asked again)
+        sleep(Duration::from_millis(1100));
+        let vote = others.vote(leader, Subject::Notarize(*proposal));
+        others.send(leader, &Message::Proposal(vote.clone(), block.bytes().to_vec()));
+        let is_voted = others.hears(
+            SOON,
+            |_, message| matches!(message, Message::Vote(it) if it.subject == vote.subject),
+        );
+        assert!(is_voted, "it does not vote in view {}: {}", block.view, log(&others.network));
+        let certificate = others.certificate(&[1, 2, 3], vote.subject);
+        others.send(1, &Message::Certificate(certificate));
+    }
+    others.end();
 }
 
 /// Blocks that wait for the disk are not archived yet.

@@ -1,5 +1,5 @@
 //! Networks of processes under faults. After each: the finalized chains agree, no honest node signed two votes that contradict each other,
-//! and views go on being finalized soon.
+//! and views are finalized again soon.
 //!
 //! `SIMPLEX_LONG=1` kills fifty times in place of six.
 
@@ -68,7 +68,7 @@ fn logs(network: &Network) -> String {
     (0..network.lives.len() as u32).map(last).collect::<Vec<_>>().join("\n--\n")
 }
 
-/// These nodes go on: they all finalize some views more.
+/// These nodes continue: they all finalize some views more.
 fn goes_on(network: &Network, nodes: &[u32]) {
     let view = network.highest(nodes) + 5;
     assert!(
@@ -114,7 +114,7 @@ fn with_fault(name: &str, fault: Fault) {
     ends_well(network, 1);
 }
 
-/// Of seven members too few get one of the two blocks for a certificate: each honest one learns of the other from its peers.
+/// Too few of seven members get one of the two blocks for a certificate: each honest one learns of the other from its peers.
 #[test]
 fn a_leader_that_proposes_twice_is_seen_by_each_honest_node() {
     for nodes in [4, 7] {
@@ -199,7 +199,7 @@ fn a_clock_that_jumps_an_hour() {
     jumps.protocol.inactivity_ms = 60_000;
     let mut network = Network::new(jumps).expect("keys and settings");
     (0..3).for_each(|index| network.begin(index).expect("a process"));
-    let given_up = |index| network.metric(index, "nullifies").expect("it answers");
+    let given_up = |index| network.metric(index, "nullifies").expect("a reply");
     let begun = Instant::now();
     let [first, half, before, after, last] = [2, 50, 98, 102, 150].map(|view| {
         assert!(network.wait_for(&[0, 1, 2], view, START), "view {view}: {}", logs(&network));
@@ -321,7 +321,7 @@ fn a_disk_that_is_full() {
     assert!(network.wait_for(&[1, 2, 3], 5, START), "{}", logs(&network));
     let begun = Instant::now();
     while !network.has_ended(0).expect("a process") {
-        assert!(begun.elapsed() < START, "it can't store, so it must not go on");
+        assert!(begun.elapsed() < START, "it can't store, so it must not continue");
         sleep(Duration::from_millis(100));
     }
     assert!(fs::read_to_string(network.log(0)).expect("a log").contains("simplex-node: "));
@@ -403,7 +403,7 @@ fn text_of(path: &Path) -> &str {
     path.to_str().expect("a path of letters")
 }
 
-/// Runs the program, which has to end soon, and answers what it said.
+/// Runs the program, which has to end soon, and returns what it wrote.
 fn run(arguments: &[&str], is_good: bool) -> String {
     let mut child = Command::new(env!("CARGO_BIN_EXE_simplex-node"))
         .args(arguments)
@@ -415,7 +415,7 @@ fn run(arguments: &[&str], is_good: bool) -> String {
     while child.try_wait().expect("a process").is_none() {
         if begun.elapsed() > SOON {
             child.kill().expect("a process");
-            panic!("it goes on: {arguments:?}");
+            panic!("it continues: {arguments:?}");
         }
         sleep(Duration::from_millis(20));
     }
@@ -425,7 +425,7 @@ fn run(arguments: &[&str], is_good: bool) -> String {
     said
 }
 
-/// Node 3's application takes a minute for each answer, unless nobody waits for it any more: it votes for no block, and the node follows.
+/// Node 3's application takes a minute for each reply, unless nobody waits for it any more: it votes for no block, and the node follows.
 #[test]
 fn an_application_that_is_slow_holds_up_its_own_votes_alone() {
     let mut network = Network::new(plan("application", 4)).expect("keys and settings");
@@ -434,7 +434,7 @@ fn an_application_that_is_slow_holds_up_its_own_votes_alone() {
     assert!(network.wait_for(&[0, 1, 2, 3], 5, START), "{}", logs(&network));
     for _ in 0..2 {
         goes_on(&network, &[0, 1, 2, 3]);
-        let height = network.metric(0, "height").expect("it answers");
+        let height = network.metric(0, "height").expect("a reply");
         assert!(network.wait_until(&[3], "height", height, SOON), "{}", logs(&network));
     }
     assert_eq!(network.metric(3, "proposals"), Some(0));

@@ -1,5 +1,5 @@
-//! What a member that floods costs the others in final blocks: three nodes, and a fourth member, which the test plays, that votes for nothing. In turn
-//! it is quiet, and sends each of them as much as they read.
+//! The cost of a member that floods, in final blocks of the others: three nodes, and a fourth member, which the test plays, that votes for
+//! nothing. In turn it is quiet, and sends each of them as much as they read.
 //!
 //! It measures for minutes, so `SIMPLEX_LONG` runs it.
 
@@ -56,7 +56,7 @@ fn frames(kind: &str, keys: &Keys, view: u64) -> Vec<u8> {
     let signed = |subject: Subject| Vote {
         subject,
         signer: keys.me,
-        signature: keys.sign(&subject.encode()).expect("a signature").to_vec(),
+        signature: keys.sign(&subject).expect("a signature").to_vec(),
     };
     let proposal = |ahead: u64| {
         let context = Context {
@@ -84,7 +84,7 @@ fn frames(kind: &str, keys: &Keys, view: u64) -> Vec<u8> {
 
 /// How many final blocks each application gets in a window, at least.
 fn blocks(network: &Network) -> u64 {
-    let heights = || HONEST.map(|index| network.metric(index, "height").expect("it answers"));
+    let heights = || HONEST.map(|index| network.metric(index, "height").expect("a reply"));
     let before = heights();
     sleep(WINDOW);
     let grown = heights().into_iter().zip(before).map(|(after, before)| after - before);

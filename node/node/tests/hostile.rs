@@ -77,7 +77,7 @@ impl Attacked {
         Vote {
             subject,
             signer: Participant::new(signer as u32),
-            signature: self.keys[signer].sign(&subject.encode()).expect("a signature").to_vec(),
+            signature: self.keys[signer].sign(&subject).expect("a signature").to_vec(),
         }
     }
 
@@ -97,7 +97,7 @@ impl Attacked {
         Certificate::of(subject, bytes)
     }
 
-    /// Whether the node goes from view to view while a member sends certificates.
+    /// Returns whether the node goes from view to view while a member sends certificates.
     fn goes_through(&self, link: &Link, views: std::ops::Range<u64>) {
         let last = views.end;
         for view in views {
@@ -108,7 +108,7 @@ impl Attacked {
     }
 
     fn counts(&self, name: &str) -> u64 {
-        self.network.metric(0, name).expect("it answers")
+        self.network.metric(0, name).expect("a reply")
     }
 
     fn comes_to(&self, name: &str, least: u64) {
@@ -162,7 +162,7 @@ fn processor_time(of: &str) -> Duration {
     Duration::from_millis(10 * ticks.map(|it| it.parse::<u64>().expect("a number")).sum::<u64>())
 }
 
-/// Strangers take all file descriptors of the process: it waits, in place of trying without end, and goes on once they are gone.
+/// Strangers take all file descriptors of the process: it waits, in place of trying without end, and continues once they are gone.
 #[test]
 fn a_node_without_file_descriptors_waits_and_takes_members_again() {
     let attacked = Attacked::begin_by("descriptors", |network| network.begin_with_few_files(0, 50));
@@ -261,7 +261,7 @@ fn a_link_without_heartbeats_is_begun_anew() {
             Err(_) => sleep(Duration::from_millis(10)),
         }
     }
-    assert_eq!(accepted.len(), 2, "nobody answered on the first one");
+    assert_eq!(accepted.len(), 2, "nobody replied on the first one");
     attacked.end();
 }
 
@@ -504,7 +504,7 @@ fn asks_for_final_blocks_are_served_within_a_share() {
         flood.write_all(&asks.collect::<Vec<u8>>()).expect("it reads");
         sleep(Duration::from_millis(50));
     }
-    // 16 MB at once, and 8 MB a second, in answers of 1 MB.
+    // 16 MB at once, and 8 MB a second, in replies of 1 MB.
     let (most, served) = (16 + 8 * (begun.elapsed().as_secs() + 1) + 2, attacked.counts("served"));
     assert!(served < most, "{served} of at most {most}");
     assert!(attacked.counts("resident_kb") < MOST_KB, "{} kB", attacked.counts("resident_kb"));

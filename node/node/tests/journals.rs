@@ -120,12 +120,12 @@ fn a_node_whose_disk_is_not_mounted_is_refused() {
     assert!(!data.exists(), "nothing is made");
     fs::rename(&elsewhere, &data).expect("a disk");
     network.begin(0).expect("a process");
-    assert!(network.wait_until(&[0], "height", 3, SOON), "it goes on");
+    assert!(network.wait_until(&[0], "height", 3, SOON), "it continues");
     network.stop().expect("it stops");
     end(network);
 }
 
-/// What a folder holds: the names, and what is in the files.
+/// Returns what a folder holds: the names, and what is in the files.
 fn held(folder: &Path) -> Vec<(OsString, Vec<u8>)> {
     let entries = fs::read_dir(folder).expect("a folder").map(|it| it.expect("an entry"));
     let mut held: Vec<_> = entries
@@ -192,7 +192,8 @@ fn init_makes_the_folder_of_a_new_member_once() {
     end(network);
 }
 
-/// An `init` that was interrupted leaves a lock, and part of the file that becomes the journal. Other files of these names stay as they are.
+/// An `init` that was interrupted leaves a lock, and part of the file that becomes the journal. Other files of these names stay as they
+/// are.
 #[test]
 fn init_takes_a_folder_that_an_interrupted_init_left_and_no_other_one() {
     let network = network("init-again", 1);

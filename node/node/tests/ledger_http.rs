@@ -32,7 +32,7 @@ fn network(name: &str) -> Network {
     network
 }
 
-/// What a node answers: the status, and the body.
+/// Returns a node's reply: the status, and the body.
 fn asked(network: &Network, node: u32, method: &str, path: &str, body: &str) -> Option<(u16, Value)> {
     let at = fs::read_to_string(network.data(node).join("http")).ok()?;
     let mut stream = TcpStream::connect(at).ok()?;
@@ -46,14 +46,14 @@ fn asked(network: &Network, node: u32, method: &str, path: &str, body: &str) -> 
     Some((status, serde_json::from_str(answer.split("\r\n\r\n").nth(1)?).ok()?))
 }
 
-/// Posts a transaction once the node answers, and returns the status.
+/// Posts a transaction once the node replies, and returns the status.
 fn post(network: &Network, node: u32, from: &str, to: &str, amount: u64, number: u64) -> u16 {
     let body = json!({"from": from, "to": to, "amount": amount, "number": number}).to_string();
     let until = Instant::now() + SOON;
     loop {
         match asked(network, node, "POST", "/transactions", &body) {
             Some((status, _)) => return status,
-            None => assert!(Instant::now() < until, "node {node} does not answer"),
+            None => assert!(Instant::now() < until, "node {node} does not reply"),
         }
         sleep(Duration::from_millis(50));
     }

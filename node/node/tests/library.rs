@@ -19,11 +19,17 @@ fn program(name: &str) -> PathBuf {
     program
 }
 
-/// What a node's application printed in all its lifetimes.
+/// Returns what a node's application printed in all its lifetimes.
 fn printed(network: &Network, index: u32) -> Vec<String> {
     let log = fs::read_to_string(network.log(index)).expect("a log");
     let lines = log.lines().filter(|it| it.contains("hello from member"));
     lines.map(str::to_owned).collect()
+}
+
+/// Lets the archive drop blocks early.
+fn keep_little(settings: &mut simplex_node::Settings) {
+    settings.archive.segment_bytes = 2000;
+    settings.archive.most_bytes = Some(5000);
 }
 
 #[test]
@@ -39,17 +45,11 @@ fn four_nodes_order_the_blocks_of_an_application_of_thirty_lines() {
     };
     let mut network = Network::new(plan).expect("keys and settings");
     // The application has nothing on the disk, so the archive drops no block, however long it gets.
-    for index in 0..4 {
-        let small = |it: &mut simplex_node::Settings| {
-            it.archive.segment_bytes = 2000;
-            it.archive.most_bytes = Some(5000);
-        };
-        network.set(index, small).expect("settings");
-    }
+    (0..4).for_each(|index| network.set(index, keep_little).expect("settings"));
     network.begin_all().expect("processes");
     let log = |network: &Network| fs::read_to_string(network.log(0)).unwrap_or_default();
     assert!(network.wait_until(&[0, 1, 2, 3], "height", 60, SOON), "{}", log(&network));
-    let archive = network.metric(0, "archive_bytes").expect("it answers");
+    let archive = network.metric(0, "archive_bytes").expect("a reply");
     assert!(archive > 10_000, "{archive} bytes");
     // It stores nothing, so its next lifetime prints the chain from the first block on.
     network.kill(0).expect("a process");
@@ -71,8 +71,8 @@ fn four_nodes_order_the_blocks_of_an_application_of_thirty_lines() {
     fs::remove_dir_all(network.folder()).expect("a folder");
 }
 
-/// Kills four nodes at once. The first two vote to nullify their view before the other two are there, so a certified block may stay without a
-/// finalization.
+/// Kills four nodes at once. The first two vote to nullify their view before the other two are there, so a certified block may stay without
+/// a finalization.
 fn crash_all(network: &mut Network, first: [u32; 2], second: [u32; 2]) {
     let ids = [0, 1, 2, 3].map(|index| network.process(index).expect("it runs").to_string());
     assert!(Command::new("kill").arg("-KILL").args(ids).status().expect("a program").success());
@@ -82,7 +82,7 @@ fn crash_all(network: &mut Network, first: [u32; 2], second: [u32; 2]) {
     second.iter().for_each(|index| network.begin(*index).expect("a process"));
 }
 
-/// The application answers only where it is shown all ancestors; and after a crash of all nodes none of them remembers a block.
+/// The application replies only where it is shown all ancestors; and after a crash of all nodes none of them remembers a block.
 #[test]
 fn four_nodes_continue_after_each_crash_of_all_of_them_with_an_application_that_needs_all_ancestors() {
     const ALL: [u32; 4] = [0, 1, 2, 3];
@@ -128,7 +128,7 @@ fn four_nodes_continue_after_each_crash_of_all_of_them_with_an_application_that_
 #[test]
 fn four_hosts_of_parts_deliver_the_same_blocks() {
     let folder = std::env::temp_dir().join(format!("simplex-parts-{}", std::process::id()));
-    // (a member that fetches what it lacks too often is cut off, and never has all)
+    // (a member that fetches missing blocks too often is cut off, and never has all)
     let run = || {
         let mut command = Command::new("timeout");
         command

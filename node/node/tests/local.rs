@@ -32,13 +32,13 @@ fn local(words: &[&str]) -> Command {
     command
 }
 
-/// What a run wrote to its output and to its errors.
+/// Returns what a run wrote to its output and to its errors.
 fn texts(done: &Output) -> (String, String) {
     let text = |bytes: &[u8]| String::from_utf8_lossy(bytes).into_owned();
     (text(&done.stdout), text(&done.stderr))
 }
 
-/// What a run says that has to succeed.
+/// Returns what a run says that has to succeed.
 fn succeeds(words: &[&str]) -> String {
     let done = local(words).output().expect("a process");
     let (out, errors) = texts(&done);
@@ -147,12 +147,12 @@ fn signal(child: &Child, name: &str) {
 fn wait(child: &mut Child) {
     let begun = Instant::now();
     while child.try_wait().expect("a process").is_none() {
-        assert!(begun.elapsed() < SOON, "it goes on");
+        assert!(begun.elapsed() < SOON, "it continues");
         sleep(Duration::from_millis(20));
     }
 }
 
-/// Whether a node's process still has its folder.
+/// Returns whether a node's process still has its folder.
 fn runs(data: &Path) -> bool {
     let lock = File::open(data.join("lock")).expect("it began");
     matches!(lock.try_lock(), Err(TryLockError::WouldBlock))
@@ -189,7 +189,7 @@ fn a_signal_ends_all_its_nodes() {
     let left: Vec<&PathBuf> = data.iter().filter(|it| runs(it)).collect();
     // Those that are left would run for ever.
     (0..4).for_each(|index| end_node_of(&folder.join(format!("{index}.toml"))));
-    assert!(left.is_empty(), "they go on: {left:?}");
+    assert!(left.is_empty(), "they continue: {left:?}");
 }
 
 #[test]
@@ -220,7 +220,7 @@ fn the_shares_of_a_lifetime_are_no_more_than_all_of_it() {
     assert!(said.contains("node 0, last lifetime: "), "{said}");
 }
 
-/// What a node counts, as it serves that.
+/// Returns what a node counts, as it serves that.
 fn metrics_of(address: SocketAddr) -> Option<String> {
     let mut stream = TcpStream::connect(address).ok()?;
     stream.write_all(b"GET /metrics HTTP/1.1\r\n\r\n").ok()?;

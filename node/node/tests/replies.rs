@@ -47,7 +47,7 @@ fn a_fast_reply_is_waited_for_before_the_disk_is() {
 fn a_slow_application_is_waited_for_once_at_most() {
     let network = alone("slow", 5);
     comes_to(&network, "height", 30);
-    let counts = network.metrics(0).expect("it answers");
+    let counts = network.metrics(0).expect("a reply");
     let [awaited, missed] = ["awaited_replies", "missed_replies"].map(|name| counts.get(name).expect("it is counted"));
     assert!(awaited == 0 && missed <= 1, "{awaited} replies came in time, {missed} did not");
     end(network);

@@ -9,7 +9,7 @@ use simplex_node::settings::Protocol;
 use simplex_node::signer::guard::Owner;
 use simplex_node::signer::{Local, Remote};
 use simplex_node::{Outcome, Settings, Signature, Signer, Start, open_with_signer, run_with_signer};
-use simplex_view_state::{Digest, Epoch, Proposal, Round, Subject, View};
+use simplex_view_state::{Digest, Epoch, Namespace, Proposal, Round, Subject, View};
 use std::fs;
 use std::path::PathBuf;
 use std::process::{Child, Command, Stdio};
@@ -61,13 +61,19 @@ impl Signed {
         }
     }
 
+    fn namespace(&self) -> Namespace {
+        let settings = Settings::read(&self.network.config(0)).expect("settings");
+        settings.identity().expect("keys").namespace()
+    }
+
     fn path(&self, name: &str) -> PathBuf {
         self.network.folder().join(name)
     }
 
     fn command(&self, socket: &str, more: &[&str]) -> Command {
         let mut command = Command::new(env!("CARGO_BIN_EXE_simplex-node"));
-        command.args(["signer", "--network", "local", "--key"]).arg(self.path("0.pem"));
+        command.args(["signer", "--namespace", &self.namespace().to_string(), "--key"]);
+        command.arg(self.path("0.pem"));
         command
             .arg("--guard")
             .arg(self.path("guard"))
@@ -92,7 +98,7 @@ impl Signed {
     /// The signer, as anybody who can open the socket reaches it.
     fn remote(&self) -> Remote {
         let owner = Owner {
-            network: "local".to_owned().try_into().expect("a name"),
+            namespace: self.namespace(),
             epoch: 1,
             key: raw_key(&self.key).expect("a key"),
         };
@@ -106,7 +112,7 @@ impl Drop for Signed {
     }
 }
 
-/// What a process says that has to end with an error.
+/// Returns what a process says that has to end with an error.
 fn refusal(mut command: Command) -> String {
     let mut child = command.stderr(Stdio::piped()).spawn().expect("a process");
     let begun = Instant::now();
@@ -147,7 +153,7 @@ fn a_node_votes_by_its_signer_also_where_that_is_killed_and_begun_again() {
     }
     signed.network.stop().expect("they stop");
     let guard = fs::read_to_string(signed.path("guard")).expect("a file");
-    assert!(guard.lines().count() > 15 && guard.starts_with("simplex-signer 1 local 1 "));
+    assert!(guard.lines().count() > 15 && guard.starts_with(&format!("simplex-signer 2 {} 1 ", signed.namespace())));
     assert!(simplex_node::audit::disagreements(&signed.network.chains().expect("chains")).is_empty());
     signed.kill();
     fs::remove_dir_all(signed.network.folder()).expect("a folder");
@@ -158,7 +164,8 @@ fn a_node_votes_by_its_signer_also_where_that_is_killed_and_begun_again() {
 fn a_signer_signs_no_two_votes_that_contradict_each_other() {
     let mut signed = Signed::new("contradicts");
     signed.begin(&["--begin-at", "10"]);
-    let sign = |remote: &Remote, subject: Subject| remote.sign(&subject, &subject.encode()).map_err(|it| it.to_string());
+    let namespace = signed.namespace();
+    let sign = |remote: &Remote, subject: Subject| remote.sign(&subject, &subject.text(&namespace)).map_err(|it| it.to_string());
     for _ in 0..2 {
         let remote = signed.remote();
         let first = sign(&remote, Subject::Notarize(proposal(12, 7))).expect("it signs");
@@ -171,10 +178,15 @@ fn a_signer_signs_no_two_votes_that_contradict_each_other() {
         sign(&remote, Subject::Finalize(proposal(12, 7))).expect("it signs");
         assert!(refused(Subject::Nullify(round(12))).contains("never both"));
         assert!(refused(Subject::Nullify(round(9))).contains("nothing below view 10"));
-        let text = remote
-            .sign(&Subject::Nullify(round(13)), b"a handshake, or any text")
-            .map_err(|it| it.to_string());
-        assert!(text.expect_err("it is refused").contains("no vote"));
+        let other = Subject::Nullify(round(13));
+        for text in [
+            &b"a handshake, or any text"[..],
+            &other.encode(),
+            &other.text(&Namespace::new([1; 32])),
+        ] {
+            let text = remote.sign(&other, text).map_err(|it| it.to_string());
+            assert!(text.expect_err("it is refused").contains("no vote of this network"));
+        }
         signed.kill();
         signed.begin(&[]);
     }
@@ -230,7 +242,7 @@ fn hosted(signed: &Signed, key: &str, count: &Arc<AtomicUsize>) -> (Settings, Co
     settings.signer = None;
     let pem = fs::read(signed.path(key)).expect("a key");
     let secret = PKey::private_key_from_pem(&pem).expect("a key");
-    let local = Local::new(settings.network.clone(), secret);
+    let local = Local::new(secret);
     (
         settings,
         Counted {

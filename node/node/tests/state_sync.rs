@@ -66,7 +66,7 @@ fn logs(network: &Network) -> String {
 }
 
 fn count(network: &Network, index: u32, name: &str) -> u64 {
-    network.metric(index, name).expect("it answers")
+    network.metric(index, name).expect("a reply")
 }
 
 /// The others finalize blocks until they have pruned those after node 3's last one. (Beside their archives they have the last 64 blocks.)
@@ -115,7 +115,7 @@ fn a_node_that_joins_late_begins_with_a_snapshot_of_its_peers() {
     assert_eq!(count(&network, 3, "state_syncs"), 1, "{}", log(&network, 3));
     let first = count(&network, 3, "archive_first");
     assert!(first > 40 && first % 40 == 1, "its archive begins with block {first}");
-    // Its next lifetime goes on from what it stored.
+    // Its next lifetime continues from what it stored.
     network.kill(3).expect("a process");
     network.begin(3).expect("a process");
     catches_up(&network);
@@ -170,8 +170,8 @@ fn signal(network: &Network, index: u32, name: &str) {
     assert!(Command::new("kill").args([name, &process]).status().expect("a process").success());
 }
 
-/// A process stands still until the others have pruned what it lacks; then another member ends, so that nothing is final without the votes of
-/// the first one. It takes a snapshot of a network that stands still, and votes again.
+/// A process is stopped until the others have pruned what it misses; then another member ends, so that nothing is final without the votes
+/// of the first one. It takes a snapshot of a network in which nothing is final meanwhile, and votes again.
 #[test]
 fn a_member_that_is_needed_and_lacks_pruned_blocks_takes_a_snapshot_and_votes() {
     let mut network = network("needed-state");
@@ -208,7 +208,7 @@ fn a_crash_amid_the_installation_of_a_snapshot_costs_nothing() {
         network.begin(3).expect("a process");
         let begun = Instant::now();
         while !network.has_ended(3).expect("a process") {
-            assert!(begun.elapsed() < SOON, "{stage:?}: it goes on: {}", log(&network, 3));
+            assert!(begun.elapsed() < SOON, "{stage:?}: it continues: {}", log(&network, 3));
             std::thread::sleep(Duration::from_millis(20));
         }
         network.set(3, |it| it.trial.dies_at = None).expect("settings");
@@ -281,7 +281,7 @@ impl Chain {
     }
 }
 
-/// What a member that is played replies: 1 lies, 2 sends no piece, and a certificate of too few votes, and 3 is honest.
+/// Returns what a member that is played replies: 1 lies, 2 sends no piece, and a certificate of too few votes, and 3 is honest.
 fn reply(others: &Others, chain: &Chain, member: u32, message: &Message) -> Option<Message> {
     let bound_in = chain.blocks.len() as u64 - 1;
     match (member, message) {

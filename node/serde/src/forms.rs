@@ -1,4 +1,4 @@
-//! What values are written as.
+//! The forms in which values are written.
 
 use serde::{Deserialize, Serialize};
 use simplex_view_state::{
@@ -7,7 +7,7 @@ use simplex_view_state::{
 
 /// A value that has a form of serde.
 pub trait Value: Sized {
-    /// What it is written as.
+    /// The form in which it is written.
     type Form;
 
     /// Returns its form.

@@ -94,7 +94,8 @@ mod tests {
     use super::*;
     use serde_json::{Value as Json, json};
     use simplex_view_state::{
-        Certificate, Config, Digest, EntryCount, Epoch, Member, Moment, Participant, Proposal, Round, Stored, Subject, View, Vote,
+        Certificate, Config, Digest, EntryCount, Epoch, Member, Moment, Namespace, Participant, Proposal, Round, Stored, Subject, View,
+        Vote,
     };
 
     /// Writes a value as this JSON, and reads it back.
@@ -147,7 +148,13 @@ mod tests {
         ] {
             is_refused::<Digest>(wrong);
         }
-        let config = Config::new(4.try_into().expect("4"), None, Epoch::new(1), Digest::default());
+        let config = Config::new(
+            Namespace::new([1; 32]),
+            4.try_into().expect("4"),
+            None,
+            Epoch::new(1),
+            Digest::default(),
+        );
         let stored = Member::start(&config, Moment::default()).expect("settings").stored();
         let hex: String = stored.to_bytes().iter().map(|it| format!("{it:02x}")).collect();
         is_written_as(stored, json!(hex));

@@ -1,10 +1,10 @@
-//! What builds and judges blocks.
+//! The application, which builds and judges blocks.
 
 use crate::block::Block;
 use simplex_view_state::{Context, View};
 
-/// An application on top of an [`EngineHost`](crate::EngineHost). What it keeps in memory survives a crash of the simulated process, as if it
-/// was on a disk; an application that wants otherwise forgets in [`Application::begin`].
+/// An application on top of an [`EngineHost`](crate::EngineHost). What it keeps in memory survives a crash of the simulated process, as if
+/// it was on a disk; an application that wants otherwise forgets in [`Application::begin`].
 pub trait Application {
     /// A process lifetime begins.
     fn begin(&mut self) {}

@@ -10,7 +10,7 @@ pub struct Block {
     pub view: View,
     /// The view and the digest of the block below it.
     pub parent: (View, Digest),
-    /// What the application put into it.
+    /// The application's part of it.
     pub content: u64,
 }
 
@@ -38,7 +38,7 @@ impl Block {
         Digest::new(digest)
     }
 
-    /// Whether a proposal is for this block: view, parent's view and payload are equal.
+    /// Returns whether a proposal is for this block: view, parent's view and payload are equal.
     pub fn is_of(&self, proposal: &Proposal) -> bool {
         proposal.view() == self.view && proposal.parent == self.parent.0 && proposal.payload == self.digest()
     }

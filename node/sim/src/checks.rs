@@ -1,4 +1,4 @@
-//! What no network may do whose faulty members are few enough.
+//! The laws that no network may break whose faulty members are few enough.
 
 use crate::block::Block;
 use crate::message::Message;
@@ -153,7 +153,7 @@ impl Checks {
         left_out.or_else(|| above.and_then(|it| self.left_out(proposal, &it)))
     }
 
-    /// Whether the chain of a proposal leaves out one below. What is not known of blocks is no violation.
+    /// Returns whether the chain of a proposal leaves out one below. What is not known of blocks is no violation.
     fn left_out(&self, lower: &Proposal, upper: &Proposal) -> Option<Violation> {
         let mut block = self.blocks.get(&upper.payload)?;
         while block.parent.0 > lower.view() {

@@ -19,12 +19,12 @@ const EARLY_VIEWS: u64 = 8;
 /// After how many milliseconds a missing block is asked for again.
 const ASK_AGAIN: u64 = 250;
 
-/// What a member has stored: it survives a crash.
+/// A member's disk: it survives a crash.
 #[derive(Clone, Debug, Default)]
 pub struct Disk {
     /// The bytes of the journal.
     pub journal: Vec<u8>,
-    /// What is stored beside it; `None` of a member that never began.
+    /// The numbers beside the journal; `None` of a member that never began.
     pub stored: Option<Stored>,
     blocks: HashMap<Digest, Block>,
     views_of_blocks: BTreeSet<u64>,
@@ -37,7 +37,7 @@ impl Disk {
     }
 }
 
-/// What waits for a block.
+/// A question that waits for a block.
 #[derive(Clone, Debug)]
 enum Pending {
     Verify(Context, Proposal),
@@ -55,7 +55,7 @@ impl Pending {
 /// A host that does what an honest host has to do, with an application on top.
 #[derive(Debug)]
 pub struct EngineHost<A> {
-    /// What it has stored.
+    /// Its disk.
     pub disk: Disk,
     /// The application.
     pub application: A,
@@ -237,7 +237,8 @@ impl<A: Application> EngineHost<A> {
         self.handle(Input::Vote(vote), now, effects)
     }
 
-    /// Passes the finalized chain to the application, block by block, as far as the blocks are here. Returns the first block that is missing.
+    /// Passes the finalized chain to the application, block by block, as far as the blocks are here. Returns the first block that is
+    /// missing.
     fn deliver(&mut self) -> Option<Digest> {
         let target = self.finalized.filter(|it| it.view() > self.delivered.0)?;
         let (mut fresh, mut payload) = (Vec::new(), target.payload);
@@ -282,7 +283,7 @@ impl<A: Application> EngineHost<A> {
         Ok(())
     }
 
-    /// The current view and when its leader is given up; `None` where it is this member, or was given up.
+    /// The current view and when its leader is skipped; `None` where it is this member, or was skipped.
     fn leader_due(&self) -> Option<(View, Moment)> {
         let view = self.engine.as_ref()?.views()?.current;
         let leader = self.seat.leader(view);

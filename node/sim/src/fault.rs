@@ -1,4 +1,4 @@
-//! What faulty members do.
+//! The faults of members.
 
 use crate::block::Block;
 use crate::host::Seat;
@@ -10,7 +10,7 @@ use simplex_view_state::{Certificate, Context, Participant, Proposal, Subject, V
 use std::collections::BTreeMap;
 use std::fmt;
 
-/// What a faulty member sends in place of its honest host, which runs all the time. It can sign votes of its own alone.
+/// The messages of a faulty member in place of its honest host, which runs all the time. It can sign votes of its own alone.
 pub trait Fault {
     /// Returns what is sent in place of a message.
     fn send(&mut self, sent: Sent, insider: &mut Insider) -> Vec<Sent>;

@@ -1,5 +1,6 @@
-//! What runs around an engine.
+//! The host of an engine.
 
+use crate::keys::NAMESPACE;
 use crate::message::{Message, Sent};
 use crate::plan::Times;
 use simplex_trace::Event;
@@ -12,7 +13,8 @@ pub type HostError = Box<dyn std::error::Error>;
 /// The epoch of all simulations.
 pub(crate) const EPOCH: Epoch = Epoch::new(1);
 
-/// A member's host: what is around its engine. The simulation calls it with the moments of simulated time, in milliseconds, which never fall.
+/// A member's host: what is around its engine. The simulation calls it with the moments of simulated time, in milliseconds, which never
+/// fall.
 pub trait Host {
     /// Begins a process lifetime, from what is on the disk.
     fn begin(&mut self, now: Moment, effects: &mut Effects) -> Result<(), HostError>;
@@ -51,7 +53,7 @@ impl Seat {
     /// The settings of its engine.
     pub fn config(&self) -> Config {
         let stall = (self.optimistic_views > 0).then_some(self.times.certification);
-        let mut config = Config::new(self.members, Some(self.me), EPOCH, Digest::default());
+        let mut config = Config::new(NAMESPACE, self.members, Some(self.me), EPOCH, Digest::default());
         config.terms = Terms {
             length: self.term_length,
             optimistic_views: ViewDelta::new(self.optimistic_views),
@@ -75,7 +77,7 @@ impl Seat {
     }
 }
 
-/// What a host does to the world around it.
+/// The effects of a host on the world around it.
 #[derive(Debug)]
 pub struct Effects {
     me: Participant,

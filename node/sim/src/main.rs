@@ -14,8 +14,8 @@ use std::time::{Duration, Instant};
 
 type Failed = Box<dyn std::error::Error>;
 
-/// Plays a network of engines in simulated time, and checks that honest members agree and vote once. The same words give the same trace. The
-/// last line begins with `OK` or with `FAILED`, and the exit status is 0 or 1.
+/// Plays a network of engines in simulated time, and checks that honest members agree and vote once. The same words give the same trace.
+/// The last line begins with `OK` or with `FAILED`, and the exit status is 0 or 1.
 #[derive(Parser)]
 #[command(name = "simplex-sim", version)]
 struct Arguments {
@@ -25,7 +25,7 @@ struct Arguments {
     /// How many of the last members are faulty. More than (n - 1) / 3 may be, to see what follows.
     #[arg(long, default_value_t = 0)]
     faulty: u32,
-    /// What the faulty members do.
+    /// The fault of the faulty members.
     #[arg(long, value_enum, default_value_t = Byzantine::Equivocate)]
     byzantine: Byzantine,
     /// How long a message is on its way: a range, in milliseconds.
@@ -58,7 +58,7 @@ struct Arguments {
     /// The view that all honest members are to finalize.
     #[arg(long, default_value_t = 100)]
     views: u64,
-    /// What all chance follows from.
+    /// The seed of all randomness.
     #[arg(long, default_value_t = 1)]
     seed: u64,
     /// Writes all events into this file, for simplex-view. An earlier trace of simplex-sim is replaced, and any other file refused.
@@ -192,7 +192,7 @@ impl Writer {
     }
 }
 
-/// Whether a brief trace leaves an event out.
+/// Returns whether a brief trace leaves an event out.
 fn is_detail(event: &Event) -> bool {
     matches!(
         event,

@@ -1,4 +1,4 @@
-//! What members send each other.
+//! The messages between members.
 
 use crate::block::Block;
 use simplex_view_state::{Certificate, Digest, FetchKind, Participant, View, Vote};
@@ -37,6 +37,6 @@ pub struct Sent {
     pub from: Participant,
     /// Who gets it.
     pub to: Participant,
-    /// What it says.
+    /// The message.
     pub message: Message,
 }

@@ -11,7 +11,7 @@ use simplex_view_state::{Moment, Participant, Subject, View};
 use std::cmp::Ordering;
 use std::collections::BinaryHeap;
 
-/// For how many simulated milliseconds nothing new may be finalized before a simulation is given up: ten minutes.
+/// For how many simulated milliseconds nothing new may be finalized before a simulation is ended: ten minutes.
 const STANDSTILL: u64 = 600_000;
 
 /// Where the lines of a trace go.
@@ -28,7 +28,7 @@ pub enum Ended {
     Violated,
 }
 
-/// What came of a simulation.
+/// The outcome of a simulation.
 #[derive(Clone, PartialEq, Eq, Debug)]
 pub struct Outcome {
     /// Why it ended.
@@ -45,7 +45,7 @@ pub struct Outcome {
     pub violations: Vec<Violation>,
 }
 
-/// What comes at a moment.
+/// An occurrence at a moment.
 #[derive(Debug)]
 pub(crate) enum Occurrence {
     Message(Sent),
@@ -178,7 +178,8 @@ impl Simulation {
         self.queue.push(Planned { at, order, occurrence });
     }
 
-    /// Plays until all honest members finalized the plan's views, nothing moves, or a promise is broken. Each line of the trace is passed on.
+    /// Plays until all honest members finalized the plan's views, nothing moves, or a promise is broken. Each line of the trace is passed
+    /// on.
     pub fn run(mut self, trace: Tracer) -> Outcome {
         self.outcome.ended = loop {
             if !self.outcome.violations.is_empty() {
@@ -220,7 +221,7 @@ impl Simulation {
         self.members.iter().filter(|it| it.is_up).map(|it| it.wake).min()
     }
 
-    /// Goes on to a moment, and runs the hosts that wake then.
+    /// Continues to a moment, and runs the hosts that wake then.
     pub(crate) fn wake_up(&mut self, wake: u64, trace: Tracer) {
         self.now = self.now.max(wake);
         for index in 0..self.members.len() {

@@ -1,4 +1,4 @@
-//! What a simulation plays.
+//! The plan of a simulation.
 
 use crate::fault::Byzantine;
 use crate::host::{EPOCH, Seat};
@@ -18,7 +18,7 @@ pub struct Times {
     pub certification: Duration,
     /// After how long a vote to nullify is sent again.
     pub retry: Duration,
-    /// After how long without a message a leader is given up.
+    /// After how long without a message a leader is skipped.
     pub inactivity: Duration,
 }
 
@@ -61,14 +61,14 @@ impl Crash {
     pub const DOWN: u64 = 2000;
 }
 
-/// What a simulation plays. All times are simulated.
+/// The plan of a simulation. All times are simulated.
 #[derive(Clone, PartialEq, Eq, Debug)]
 pub struct Plan {
     /// How many members there are.
     pub members: NonZeroU32,
     /// How many of the last members are faulty.
     pub faulty: u32,
-    /// What they do.
+    /// Their fault.
     pub byzantine: Byzantine,
     /// How long a message is on its way, in milliseconds.
     pub latency: RangeInclusive<u64>,
@@ -88,7 +88,7 @@ pub struct Plan {
     pub times: Times,
     /// The view that all honest members finalize before the simulation ends.
     pub views: u64,
-    /// What all chance follows from.
+    /// The seed of all randomness.
     pub seed: u64,
 }
 
@@ -119,7 +119,7 @@ impl Plan {
         (self.members.get() - 1) / 3
     }
 
-    /// Whether a member is faulty.
+    /// Returns whether a member is faulty.
     pub fn is_faulty(&self, member: Participant) -> bool {
         member.get() >= self.members.get().saturating_sub(self.faulty)
     }

@@ -14,7 +14,7 @@ use simplex_view_state::Participant;
 /// After how many rounds a network counts as stuck.
 pub const MOST_ROUNDS: u64 = 20_000;
 
-/// What one seed's network took.
+/// The measurements of one seed's network.
 #[derive(Clone, PartialEq, Eq, Debug)]
 pub struct Measured {
     /// The seed.

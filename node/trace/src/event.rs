@@ -15,7 +15,7 @@ pub struct Line {
     pub member: Option<u32>,
     /// The view; 0 where the event is of none.
     pub view: u64,
-    /// What happened.
+    /// The event.
     #[serde(flatten)]
     pub event: Event,
 }
@@ -88,13 +88,13 @@ pub struct SignedVote {
     pub kind: VoteKind,
     /// Its view.
     pub view: u64,
-    /// The text that is signed.
+    /// The bytes of its subject. The text that is signed has the network's namespace before them.
     pub text: String,
     /// The signature.
     pub signature: String,
 }
 
-/// What happened.
+/// An event.
 #[derive(Clone, PartialEq, Eq, Debug, Serialize, Deserialize)]
 #[serde(tag = "event", rename_all = "snake_case")]
 pub enum Event {
@@ -129,12 +129,12 @@ pub enum Event {
     },
     /// The application verified the view's proposal.
     Verified {
-        /// Whether it is valid.
+        /// True if it is valid.
         is_valid: bool,
     },
     /// The application gave its verdict on the notarized proposal.
     Certified {
-        /// Whether it may be built on.
+        /// True if it may be built on.
         is_success: bool,
     },
     /// The member signed a vote and sent it to all.
@@ -212,7 +212,7 @@ pub enum Event {
     },
     /// A member that asked is served.
     FetchServed {
-        /// What it asked for.
+        /// The certificate that it asked for.
         certificate: FetchKind,
         /// Who asked.
         to: u32,
@@ -247,7 +247,7 @@ pub enum Event {
         bytes: u64,
         /// How many entries it has then.
         entries: u64,
-        /// Whether the bytes take the place of all that was stored: the record was pruned, or a lifetime begins.
+        /// True if the bytes take the place of all that was stored: the record was pruned, or a lifetime begins.
         #[serde(default, skip_serializing_if = "is_false")]
         is_replacement: bool,
     },

@@ -38,7 +38,7 @@ impl Header {
         self.members - self.members.saturating_sub(1) / 3
     }
 
-    /// Whether another header is of the same network: all but the source and the faulty members are equal.
+    /// Returns whether another header is of the same network: all but the source and the faulty members are equal.
     pub fn is_of_the_network_of(&self, other: &Header) -> bool {
         let network = |it: &Header| (it.members, it.term_length, it.optimistic_views, it.epoch);
         network(self) == network(other)

@@ -1,4 +1,4 @@
-//! What the members of a network did, as lines of JSON: the types ([`Line`], [`Event`]), a [`Reader`], a [`TraceFile`], a [`Queue`] whose
+//! Traces of a network's members, as lines of JSON: the types ([`Line`], [`Event`]), a [`Reader`], a [`TraceFile`], a [`Queue`] whose
 //! writer never blocks the thread that owns the engine, and an [`Observer`] that makes events of an engine's inputs and outputs.
 //!
 //! `docs/TRACE.md` of the repository describes the format.

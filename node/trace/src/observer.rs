@@ -15,15 +15,15 @@ pub type Observed = (u64, Event);
 /// Makes events of the inputs and outputs of one engine, for a lifetime.
 ///
 /// An engine does not report why it votes to nullify, nor which certificates it made itself: the observer concludes both from what came
-/// before. So a timeout's reason is the first of these that was seen: the host gave the view up; the application found its proposal invalid,
-/// or did not certify it; no proposal came (leader timeout); else the certification timeout.
+/// before. So a timeout's reason is the first of these that was seen: the host gave the view up; the application found its proposal
+/// invalid, or did not certify it; no proposal came (leader timeout); else the certification timeout.
 #[derive(Clone, Debug)]
 pub struct Observer {
     me: u32,
     term_length: u64,
     /// The views whose proposal came, or was built.
     proposed: BTreeSet<u64>,
-    /// Why a view was given up.
+    /// Why a view was abandoned.
     reasons: BTreeMap<u64, TimeoutReason>,
     /// The views that this member voted to nullify.
     nullified: BTreeSet<u64>,
@@ -51,7 +51,8 @@ impl Observer {
         }
     }
 
-    /// The event of an input; call it before the engine handles it. `None` where there is none, or where the input is the member's own vote.
+    /// The event of an input; call it before the engine handles it. `None` where there is none, or where the input is the member's own
+    /// vote.
     pub fn before(&self, input: &Input) -> Option<Observed> {
         match input {
             Input::Proposal { from, proposal } if from.get() != self.me => {
@@ -80,8 +81,8 @@ impl Observer {
         }
     }
 
-    /// Takes the event of an input, once the engine returned whether the input was of use. Returns the event that is written: messages that
-    /// came always, all else only where it was of use. A reason to give up is written with the vote that follows.
+    /// Takes the event of an input, once the engine returned whether the input was ignored. Returns the event that is written: messages
+    /// that came always, all else only where it was not ignored. A reason to abandon a view is written with the vote that follows.
     pub fn after(&mut self, observed: Observed, is_of_use: bool) -> Option<Observed> {
         let (view, event) = observed;
         match &event {
@@ -199,12 +200,12 @@ impl Observer {
     }
 
     /// Returns the votes that the engine withheld on the views that it has left since the last call. Call it before each poll, or at least
-    /// after each turn: a view that the engine gives up is explained by the last call before.
+    /// after each turn: the last call before explains why the engine abandons a view.
     pub fn watch(&mut self, engine: &Engine) -> Vec<Observed> {
         self.watch.look(engine)
     }
 
-    /// Whether fetches were opened that are not settled yet.
+    /// Returns whether fetches were opened that are not settled yet.
     pub fn has_fetches(&self) -> bool {
         !self.fetches.is_empty()
     }

@@ -57,7 +57,7 @@ impl From<io::Error> for ReadError {
 pub struct Trace {
     /// The network.
     pub header: Header,
-    /// What happened, in the order of the file.
+    /// The lines, in the order of the file.
     pub lines: Vec<Line>,
 }
 

@@ -91,7 +91,7 @@ fn withheld(engine: &Engine, view: u64) -> Vec<Observed> {
     KINDS.into_iter().filter_map(event).collect()
 }
 
-/// What an engine withheld on its current view when it was looked at last.
+/// The votes that an engine withheld on its current view when it was looked at last.
 #[derive(Clone, Debug, Default)]
 pub(crate) struct Watch {
     /// 0 before the first look.
@@ -136,14 +136,16 @@ mod tests {
     use super::*;
     use crate::event::TimeoutReason;
     use crate::observer::Observer;
-    use simplex_view_state::{Config, Digest, Epoch, Input, Moment, Nullification, Options, Output, Participant, Proposal, Round};
+    use simplex_view_state::{
+        Config, Digest, Epoch, Input, Moment, Namespace, Nullification, Options, Output, Participant, Proposal, Round,
+    };
 
     type Tested = Result<(), Box<dyn std::error::Error>>;
 
     /// The engine of member 3 of four, which leads no view before view 4, and its observer.
     fn watched() -> Result<(Engine, Observer), Box<dyn std::error::Error>> {
         let me = Participant::new(3);
-        let config = Config::new(4.try_into()?, Some(me), Epoch::new(1), Digest::default());
+        let config = Config::new(Namespace::new([1; 32]), 4.try_into()?, Some(me), Epoch::new(1), Digest::default());
         let engine = Engine::start(&config, &Options::default(), Moment::from_millis(0))?;
         Ok((engine, Observer::new(me, 1)))
     }
@@ -155,7 +157,7 @@ mod tests {
         }
     }
 
-    /// What is observed until an engine is quiet.
+    /// Returns what is observed until an engine is quiet.
     fn turn(engine: &mut Engine, observer: &mut Observer, now: Moment) -> Result<Vec<Observed>, core::EngineError> {
         let mut seen = observer.watch(engine);
         while let Some(output) = engine.poll(now)? {

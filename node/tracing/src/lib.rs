@@ -3,9 +3,9 @@
 //!
 //! ```
 //! use simplex_tracing::Traced;
-//! use simplex_view_state::{Config, Digest, Engine, Epoch, Moment, Options, Participant};
+//! use simplex_view_state::{Config, Digest, Engine, Epoch, Moment, Namespace, Options, Participant};
 //!
-//! let config = Config::new(4.try_into()?, Some(Participant::new(0)), Epoch::new(1), Digest::default());
+//! let config = Config::new(Namespace::new([1; 32]), 4.try_into()?, Some(Participant::new(0)), Epoch::new(1), Digest::default());
 //! let now = Moment::from_millis(0);
 //! let mut engine = Traced::new(Engine::start(&config, &Options::default(), now)?);
 //! while let Some(output) = engine.poll(now)? {                 // an event each
@@ -148,7 +148,7 @@ fn report(output: &Output) {
 #[cfg(test)]
 mod tests {
     use super::*;
-    use simplex_view_state::{Config, Digest, Epoch, Options, Participant, Round, View, Vote};
+    use simplex_view_state::{Config, Digest, Epoch, Namespace, Options, Participant, Round, View, Vote};
     use std::io::{self, Write};
     use std::sync::{Arc, Mutex};
     use tracing::Level;
@@ -181,6 +181,7 @@ mod tests {
 
     fn run() {
         let config = Config::new(
+            Namespace::new([1; 32]),
             1.try_into().expect("1"),
             Some(Participant::new(0)),
             Epoch::new(1),

@@ -6,7 +6,7 @@ use std::collections::HashMap;
 /// The member of an event of the network, and the other member of an event that has none.
 pub const NOBODY: u32 = u32::MAX;
 
-/// What happened. The page's `data.js` has the same list, in the same order.
+/// The kind of an event. The page's `data.js` has the same list, in the same order.
 #[derive(Clone, Copy, PartialEq, Eq, PartialOrd, Ord, Hash, Debug)]
 #[repr(u8)]
 pub enum Code {
@@ -63,13 +63,13 @@ pub struct Seen {
     pub other: u32,
     /// A number that depends on the code: a parent's view, bytes, a count, or the place of a text or of members in a table.
     pub value: u64,
-    /// What happened.
+    /// The kind.
     pub code: Code,
     /// Which of the view's proposals, from 1; 0 of none. Of a timeout and of a vote that is withheld the reason, of a fetch the kind.
     pub choice: u8,
 }
 
-/// What events name by their place in a table.
+/// The tables that events point into.
 #[derive(Debug, Default)]
 pub struct Tables {
     /// The proposals of each view.

@@ -1,10 +1,10 @@
-//! What is known of each view.
+//! The facts of each view.
 
 use crate::events::{Code, NOBODY, Seen};
 use crate::merge::Run;
 use std::collections::BTreeSet;
 
-/// What became of a view.
+/// The fate of a view.
 #[derive(Clone, Copy, PartialEq, Eq, Debug)]
 #[repr(u8)]
 pub enum Fate {
@@ -16,18 +16,18 @@ pub enum Fate {
     Lost,
 }
 
-/// What is known of a view.
+/// The facts of a view.
 #[derive(Clone, Debug)]
 pub struct Facts {
-    /// What became of it.
+    /// Its fate.
     pub fate: Fate,
     /// Which proposal is on the finalized chain, from 1; 0 of none.
     pub final_choice: u8,
     /// Which proposal was notarized, from 1; 0 of none.
     pub notarized: u8,
-    /// Whether any member has a nullification of just this view.
+    /// True if any member has a nullification of just this view.
     pub is_nullified: bool,
-    /// Whether any member has a finalization of it.
+    /// True if any member has a finalization of it.
     pub is_finalized: bool,
     /// When a proposal was begun to be built, or was sent, first.
     pub built: Option<u64>,
@@ -47,9 +47,9 @@ pub struct Facts {
     pub invalid: BTreeSet<u32>,
     /// Who did not certify it.
     pub not_certified: BTreeSet<u32>,
-    /// Whether the leader's own process sent a proposal.
+    /// True if the leader's own process sent a proposal.
     pub is_sent: bool,
-    /// What the leader could reach when the view was entered.
+    /// The leader's state when the view was entered.
     pub leader: LeaderState,
 }
 
@@ -177,7 +177,7 @@ impl Network {
     }
 }
 
-/// What is known of each view, from 0 on.
+/// Returns what is known of each view, from 0 on.
 pub fn of(run: &Run) -> Vec<Facts> {
     let mut facts = vec![Facts::new(); run.highest() as usize + 1];
     let mut network = Network {

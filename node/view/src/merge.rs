@@ -13,9 +13,9 @@ use std::path::PathBuf;
 pub struct Run {
     /// The network.
     pub header: Header,
-    /// What happened, in the order of time.
+    /// The events, in the order of time.
     pub events: Vec<Seen>,
-    /// What events name by their place.
+    /// The tables that events point into.
     pub tables: Tables,
     /// The first moment, in microseconds.
     pub begun: u64,

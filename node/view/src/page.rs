@@ -118,7 +118,7 @@ fn in_script(json: &str) -> String {
     json.replace('<', "\\u003c")
 }
 
-/// What the page knows besides its events.
+/// Returns what the page knows besides its events.
 fn data(run: &Run, facts: &[Facts], summary: &Summary) -> Result<String, serde_json::Error> {
     let (header, tables) = (&run.header, &run.tables);
     let views = 1..facts.len();

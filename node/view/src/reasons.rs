@@ -117,7 +117,7 @@ fn with_proposal(run: &Run, facts: &[Facts], view: usize) -> String {
     format!("{what}, and {} voted to nullify it{cut}{}", named(&it.nullifiers), reasons(it))
 }
 
-/// Why members did not vote to notarize: by their engines, else by why the view was given up.
+/// Why members did not vote to notarize: by their engines, else by why the view was abandoned.
 fn silent_words(it: &Facts, silent: &BTreeSet<u32>) -> String {
     let mut of_reason: BTreeMap<u8, BTreeSet<u32>> = BTreeMap::new();
     for (member, reason) in it.withheld.iter().filter(|it| silent.contains(&it.0)) {

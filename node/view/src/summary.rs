@@ -1,4 +1,4 @@
-//! What a page shows, counted.
+//! The counts that a page shows.
 
 use crate::events::Code;
 use crate::facts::{Facts, Fate};
@@ -6,7 +6,7 @@ use crate::merge::Run;
 use serde::Serialize;
 use std::fmt;
 
-/// What a page shows, counted.
+/// The counts that a page shows.
 #[derive(Clone, PartialEq, Debug, Serialize)]
 pub struct Summary {
     /// The highest view that an event is of.

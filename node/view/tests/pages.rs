@@ -64,7 +64,7 @@ fn named((parent, payload): (u64, &str)) -> String {
     format!(r#"{{"parent":{parent},"payload":"{payload}"}}"#)
 }
 
-/// What the page of a trace holds besides its events.
+/// Returns what the page of a trace holds besides its events.
 fn data(name: &str, text: &str) -> Value {
     let folder = scratch(name);
     let (trace, page) = (folder.join("run.trace"), folder.join("run.html"));

@@ -90,7 +90,7 @@ impl Block {
         &self.bytes
     }
 
-    /// What it holds.
+    /// Returns what it holds.
     pub fn content(&self) -> &[u8] {
         &self.bytes[HEAD..]
     }
@@ -100,7 +100,7 @@ impl Block {
         self.payload
     }
 
-    /// Whether it is the block of this proposal, in its place.
+    /// Returns whether it is the block of this proposal, in its place.
     pub fn is_of(&self, proposal: &Proposal) -> bool {
         self.view == proposal.round.view && self.parent.0 == proposal.parent
     }

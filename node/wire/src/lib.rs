@@ -1,8 +1,8 @@
-//! What members of a Simplex network send each other, as bytes.
+//! The messages between members of a Simplex network, as bytes.
 //!
-//! A [`Message`] is a vote, a proposal with its block, a certificate, a block, a range of final blocks, a snapshot of an application's state
-//! in pieces, or a request for one of them. A
-//! [`Block`] has a head that names its view and its parent, and content of the application. Messages go in frames, over any stream of bytes.
+//! A [`Message`] is a vote, a proposal with its block, a certificate, a block, a range of final blocks, a snapshot of an application's
+//! state in pieces, or a request for one of them. A [`Block`] has a head that names its view and its parent, and content of the
+//! application. Messages go in frames, over any stream of bytes.
 //!
 //! ```
 //! use simplex_view_state::{Context, Digest, Epoch, Participant, Proposal, Round, Subject, View, Vote};
@@ -19,7 +19,7 @@
 //!
 //! let frame = read_frame(&mut &stream[..])?.expect("no heartbeat");
 //! let Message::Proposal(vote, bytes) = Message::decode(&frame)? else { panic!("it is a proposal") };
-//! // Verify vote.signature on vote.subject.encode(), and that the block is the one that it names:
+//! // Verify vote.signature on vote.subject.text(&namespace), and that the block is the one that it names:
 //! let received = Block::decode(bytes)?;
 //! assert!(vote.proposal().is_some_and(|it| it.payload == received.payload() && received.is_of(&it)));
 //! assert_eq!(received.content(), b"a payment");
@@ -30,7 +30,8 @@
 //!
 //! - **One text each**: what is decoded encodes to the same bytes, and no other bytes decode to it.
 //! - **Bounded**: [`read_frame`] reads at most [`LONGEST`] bytes, and no message takes more memory than some times its bytes.
-//! - **No trust**: nothing is verified but the form. Signatures, digests and links are the host's to verify; [`Range::is_linked`] does so for
+//! - **No trust**: nothing is verified but the form. Signatures, digests and links are the host's to verify; [`Range::is_linked`] does so
+//!   for
 //!   the links of a range.
 //! - **Versioned**: members say [`VERSION`] in their greeting, and those of two versions refuse each other.
 //!

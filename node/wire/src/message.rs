@@ -9,8 +9,8 @@ use std::fmt;
 /// The version of all messages. Greetings say it, so members of two versions refuse each other.
 /// From 2 on certificates are as the library makes them of votes; from 3 on both sides of a link send heartbeats; from 4 on
 /// all that is signed begins with the network's name, and links are encrypted by TLS 1.3; from 5 on signatures have any length; from 6 on
-/// there are snapshots.
-pub const VERSION: u8 = 6;
+/// there are snapshots; from 7 on the text of each vote begins with the network's namespace in place of its name.
+pub const VERSION: u8 = 7;
 
 /// The longest block.
 pub const LONGEST_BLOCK: usize = (1 << 20) - 256;
@@ -79,7 +79,7 @@ pub struct Range {
 }
 
 impl Range {
-    /// Whether each block has the digest that the certificate, or the block on it, names, and stands below that.
+    /// Returns whether each block has the digest that the certificate, or the block on it, names, and is below that.
     pub fn is_linked(&self) -> bool {
         let is_falling = self
             .blocks

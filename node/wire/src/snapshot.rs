@@ -10,19 +10,19 @@ pub const PIECE: usize = 256 << 10;
 /// How many pieces a snapshot has at most: 4 GiB.
 pub const MOST_PIECES: usize = 16 << 10;
 
-/// What the digest of a manifest begins with: no block's digest is of such bytes.
+/// The beginning of the bytes whose digest a manifest has: no block's digest is of such bytes.
 const NAME: &[u8] = b"simplex snapshot";
 const HEAD: usize = 8 + 8 + 32 + 8;
 
-/// What a snapshot is of, and the digests of its pieces. A block binds a snapshot by its manifest's digest, so the pieces of one that a
-/// finalized block binds can come from anybody.
+/// The manifest of a snapshot: its block, and the digests of its pieces. A block binds a snapshot by its manifest's digest, so the pieces
+/// of one that a finalized block binds can come from anybody.
 #[derive(Clone, PartialEq, Eq, Debug)]
 pub struct Manifest {
     /// How many blocks the application had taken.
     pub height: u64,
     /// The last one's view.
     pub view: View,
-    /// That block's digest.
+    /// The digest of that block.
     pub payload: Digest,
     /// How many bytes the snapshot has.
     pub length: u64,
@@ -63,7 +63,7 @@ impl Manifest {
         (self.length.saturating_sub(begin)).min(PIECE as u64) as usize
     }
 
-    /// Whether bytes are a piece.
+    /// Returns whether bytes are a piece.
     pub fn is_piece(&self, index: u32, bytes: &[u8]) -> bool {
         self.pieces
             .get(index as usize)

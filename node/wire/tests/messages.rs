@@ -1,4 +1,4 @@
-//! What is written is read, and other bytes are refused.
+//! Messages that are written are read back, and other bytes are refused.
 
 use simplex_view_state::{Certificate, Context, Digest, Epoch, FetchKind, Participant, Proposal, Round, Subject, View, Vote};
 use simplex_wire::{

@@ -33,7 +33,7 @@ impl Transaction {
     }
 }
 
-/// What an account has, and the number of its next transaction.
+/// An account's balance, and the number of its next transaction.
 #[derive(Clone, Copy, Debug, Default, PartialEq, Eq, Serialize, Deserialize)]
 pub struct Account {
     pub balance: u64,
@@ -54,8 +54,8 @@ impl Accounts {
         self.0.get(name).copied().unwrap_or_default()
     }
 
-    /// Applies a transaction where its number is the sender's next and the sender has the amount; else nothing changes. Returns whether it is
-    /// applied. All nodes apply the same transactions in the same order, so they agree on this.
+    /// Applies a transaction where its number is the sender's next and the sender has the amount; else nothing changes. Returns whether it
+    /// is applied. All nodes apply the same transactions in the same order, so they agree on this.
     pub fn apply(&mut self, it: &Transaction) -> bool {
         let sender = self.get(&it.from);
         if it.number != sender.next || it.amount > sender.balance {

@@ -22,13 +22,13 @@ pub struct State {
     pub accounts: Accounts,
 }
 
-/// What the endpoint and the application share.
+/// The book that the endpoint and the application share.
 pub struct Book {
     pub state: State,
     pending: Vec<Transaction>,
 }
 
-/// What became of a transaction that was posted.
+/// The result of posting a transaction.
 #[derive(Clone, Copy, PartialEq, Eq, Debug)]
 pub enum Posted {
     /// It waits until this node leads. Lost where the process ends before: send it again.
@@ -69,7 +69,7 @@ pub struct Ledger {
 }
 
 impl Ledger {
-    /// Goes on from the state in the node's folder, or from genesis. A node that begins at a floor has no state of it, and is refused.
+    /// Continues from the state in the node's folder, or from genesis. A node that begins at a floor has no state of it, and is refused.
     pub fn open(start: &Start) -> Outcome<Ledger> {
         let path = start.folder.join("ledger.json");
         let state = match fs::read(&path) {

@@ -25,11 +25,11 @@ pub struct Host {
 impl Host {
     /// Takes the folder, and starts the member or resumes it from its journal.
     pub fn begin(keys: Arc<Keys>, places: &Places, folder: &Path) -> Outcome<Host> {
-        let identity = keys.identity(1, 1);
-        let (journal, recovered) = Journal::open(folder, &identity, true)?;
-        let engine = simplex_journal::engine(recovered.as_ref(), &keys.config(&identity)?, &Options::default())?;
+        let identity = keys.identity();
+        let (journal, recovered) = Journal::open(folder, identity, true)?;
+        let engine = simplex_journal::engine(recovered.as_ref(), &keys.config()?, &Options::default())?;
         let (messages, inbox) = Messages::new(keys.clone());
-        let peers = Peers::start(places, keys.credentials(&identity)?, messages, Arc::new(()))?;
+        let peers = Peers::start(places, keys.credentials()?, messages, Arc::new(()))?;
         let blocks = Delivery::new(Tail::genesis(identity.genesis())); // or behind the application's last block
         let (begun, delivered, last) = (Instant::now(), Vec::new(), engine.last_finalization()?);
         #[rustfmt::skip]

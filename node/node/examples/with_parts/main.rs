@@ -43,7 +43,7 @@ fn main() -> Outcome {
     let first = AtomicUsize::new(0); // how many blocks the first has delivered
     let run = |index| -> Outcome<Vec<Block>> {
         let me = Participant::new(index);
-        let keys = Arc::new(Keys::new("with-parts".to_owned().try_into()?, me, &secret(index), &public)?);
+        let keys = Arc::new(Keys::new("with-parts".to_owned().try_into()?, 1, 1, me, &secret(index), &public)?);
         let places = Places::of(me, addresses.clone()).ok_or("no such member")?;
         while index == MEMBERS - 1 && first.load(Relaxed) < LATE {
             thread::sleep(Duration::from_millis(10));

@@ -10,7 +10,7 @@ use std::sync::Arc;
 #[derive(Clone, Debug, Default, PartialEq, Eq)]
 pub struct Ancestors(VecDeque<Arc<Block>>);
 
-/// What is found on the way from a block's parent down to a final block.
+/// The blocks from a block's parent down to a final block.
 #[derive(Clone, Debug, PartialEq, Eq)]
 pub enum Branch {
     /// All blocks between.
@@ -37,7 +37,7 @@ impl Ancestors {
         self.0.len()
     }
 
-    /// Whether the parent is the last final block that the application took.
+    /// Returns whether the parent is the last final block that the application took.
     pub fn is_empty(&self) -> bool {
         self.0.is_empty()
     }
@@ -75,7 +75,7 @@ impl Ancestors {
         pending.link(last, parent).then_some(pending)
     }
 
-    /// Whether each names the one before as its parent, from a block on up to another one.
+    /// Returns whether each names the one before as its parent, from a block on up to another one.
     fn link(&self, mut from: (View, Digest), upto: (View, Digest)) -> bool {
         let are_linked = self.iter().all(|it| {
             let parent = std::mem::replace(&mut from, (it.view, it.payload()));

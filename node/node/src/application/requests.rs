@@ -1,4 +1,4 @@
-//! What the application is asked of snapshots, for peers and for this node.
+//! Requests to the application about snapshots, for peers and for this node.
 
 use super::Application;
 use crate::faults::Trial;
@@ -14,17 +14,17 @@ use tracing::warn;
 /// How many snapshots that blocks bound are offered, and their blocks' successors not pruned: who fetches the first has time.
 const OFFERED: usize = 2;
 
-/// How often a peer is offered a snapshot at most: it is told the same for long.
+/// How often a peer is offered a snapshot at most: the offer stays the same for long.
 const OFFERED_EVERY: Duration = Duration::from_millis(500);
 
-/// What is asked.
+/// A request.
 #[derive(Debug)]
 pub enum Request {
     /// A peer asks for a snapshot.
     Snapshot(Participant),
     /// A peer asks for a piece of a snapshot.
     Piece(Participant, Digest, u32),
-    /// Whether a final block binds the snapshot that a peer offers.
+    /// True if a final block binds the snapshot that a peer offers.
     Check(Participant, Block, Offer),
     /// To take a snapshot, whose pieces all came.
     Restore(Offer),
@@ -40,20 +40,20 @@ impl Request {
     }
 }
 
-/// What is replied.
+/// A reply.
 #[derive(Debug)]
 pub enum Reply {
     /// A peer is to be offered this snapshot, which the final block of this view binds.
     Offer(Participant, Manifest, View),
     /// A peer is to be sent this.
     Send(Participant, Message),
-    /// Whether the snapshot that a peer offered is bound.
+    /// True if the snapshot that a peer offered is bound.
     Checked(Participant, Offer, bool),
     /// The application has the snapshot, or more than it.
     Restored(Offer),
 }
 
-/// What is needed for replies, beside the application.
+/// The parts that replies need, beside the application.
 #[derive(Debug, Default)]
 pub struct Responder {
     folder: PathBuf,
@@ -65,7 +65,7 @@ pub struct Responder {
 }
 
 impl Responder {
-    /// Of a node with this folder, in a trial.
+    /// Makes the responder of a node with this folder, in a trial.
     pub fn new(folder: PathBuf, trial: Trial) -> Responder {
         Responder {
             folder,
@@ -130,7 +130,7 @@ impl Responder {
     }
 }
 
-/// What the application found. An error is no reason to end: peers ask others.
+/// Returns the application's result. An error is no reason to end: peers ask others.
 fn logged<T>(found: io::Result<Option<T>>) -> Option<T> {
     found.unwrap_or_else(|error| {
         warn!(%error, "a snapshot can't be read");

@@ -1,5 +1,5 @@
-//! The thread of the application. What the engine waits for comes first, then what is asked of snapshots, then final blocks, one at a time in
-//! between. Where many final blocks wait, a question waits until few do: all of them are ancestors of its block.
+//! The thread of the application. What the engine waits for comes first, then what is asked of snapshots, then final blocks, one at a time
+//! in between. Where many final blocks wait, a question waits until few do: all of them are ancestors of its block.
 
 use super::requests::{Request, Responder};
 use super::{Ancestors, Application, Cancelled};
@@ -26,7 +26,7 @@ const MOST_REQUESTS: usize = 8;
 /// How many final blocks wait at most while the application works on a question.
 const MOST_FINALS: usize = 16;
 
-/// What the application is asked, and the engine waits for: each with the ancestors above the final blocks that the worker has.
+/// A question to the application for which the engine waits: with the ancestors above the final blocks that the worker has.
 #[derive(Debug)]
 pub enum Question {
     /// To build a block.
@@ -59,27 +59,29 @@ impl Question {
     }
 }
 
-/// What the application answered.
+/// A reply of the application.
 #[derive(Debug)]
 pub enum Answer {
-    /// What a block holds that it built; `None` where it built none.
+    /// The contents of a block that it built; `None` where it built none.
     Built(Context, Option<Vec<u8>>),
-    /// Whether the block of this digest may be voted for.
+    /// True if the block of this digest may be voted for.
     Verified(View, Digest, bool),
-    /// Whether the notarized block of this digest may be built on.
+    /// True if the notarized block of this digest may be built on.
     Certified(View, Digest, bool),
     /// It has so many blocks on the disk.
     Durable(u64),
 }
 
-/// What is asked, whether it is cancelled, and when it was asked.
+/// A question, whether it is cancelled, and when it was put.
 type Asked = (Question, Cancelled, Instant);
 
-/// What waits for the application.
+/// The questions that wait for the application.
 #[derive(Debug, Default)]
 struct Backlog {
     questions: VecDeque<Asked>,
-    /// What it works on.
+    /// The questions that it could not decide yet: they are put again once it has another final block.
+    postponed: Vec<Asked>,
+    /// The question that it works on.
     running: Option<((Kind, View), Cancelled)>,
     requests: VecDeque<Request>,
     finals: VecDeque<Arc<Block>>,
@@ -90,7 +92,7 @@ struct Backlog {
 struct Shared {
     backlog: Mutex<Backlog>,
     arrival: Condvar,
-    /// Whether the last reply came too late to be waited for.
+    /// True if the last reply came too late to be waited for.
     is_slow: AtomicBool,
 }
 
@@ -108,7 +110,8 @@ pub struct Worker {
 }
 
 impl Worker {
-    /// Begins the thread. It answers by [`Event::Answered`] and [`Event::Replied`], and tells that it can't go on by [`Event::Failed`].
+    /// Begins the thread. It replies by [`Event::Answered`] and [`Event::Replied`], and reports by [`Event::Failed`] that it can't
+    /// continue.
     pub fn begin(application: impl Application, responder: Responder, inbox: Arc<Inbox>, counters: Arc<Counters>) -> io::Result<Worker> {
         let shared = Arc::new(Shared::default());
         counters.height.store(application.height(), Relaxed);
@@ -137,7 +140,7 @@ impl Worker {
         self.shared.arrival.notify_one();
     }
 
-    /// Whether a reply is due that is worth a short wait ([`REPLY_WITHIN`]): a question is open, and the last reply was fast.
+    /// Returns whether a reply is due that is worth a short wait ([`REPLY_WITHIN`]): a question is open, and the last reply was fast.
     pub fn is_reply_near(&self) -> bool {
         !self.shared.is_slow.load(Relaxed) && {
             let backlog = self.shared.lock();
@@ -150,7 +153,7 @@ impl Worker {
         self.shared.is_slow.store(true, Relaxed);
     }
 
-    /// Nobody waits for the answer to a question any more.
+    /// Nobody waits for the reply to a question any more.
     pub fn cancel(&self, key: (Kind, View)) {
         self.cancel_where(|it| it == key);
     }
@@ -165,14 +168,16 @@ impl Worker {
 
     fn cancel_where(&self, is_passed: impl Fn((Kind, View)) -> bool) {
         let mut backlog = self.shared.lock();
-        // (a build is answered also where it never began)
-        backlog.questions.retain(|(question, cancelled, _)| {
+        // (a build gets a reply also where it never began)
+        let is_kept = |(question, cancelled, _): &Asked| {
             let (is_passed, is_build) = (is_passed(question.key()), matches!(question, Question::Build(..)));
             if is_passed {
                 cancelled.cancel();
             }
             is_build || !is_passed
-        });
+        };
+        backlog.questions.retain(is_kept);
+        backlog.postponed.retain(is_kept);
         if let Some((_, cancelled)) = backlog.running.as_ref().filter(|(key, _)| is_passed(*key)) {
             cancelled.cancel();
         }
@@ -194,12 +199,13 @@ impl Worker {
         self.shared.arrival.notify_one();
     }
 
-    /// Waits until the application has all final blocks. Questions are answered no more.
+    /// Waits until the application has all final blocks. Questions get no more replies.
     pub fn stop(&mut self) {
         {
             let mut backlog = self.shared.lock();
             backlog.is_closed = true;
             backlog.questions.clear();
+            backlog.postponed.clear();
             backlog.requests.clear();
             backlog.running.iter().for_each(|(_, cancelled)| cancelled.cancel());
         }
@@ -228,7 +234,7 @@ impl Drop for End {
     }
 }
 
-/// What is to be done next.
+/// The next thing to do.
 enum Next {
     Question(Asked),
     Request(Box<Request>),
@@ -299,7 +305,7 @@ impl<A: Application> Work<A> {
         }
     }
 
-    /// The answer; `None` where nobody waits for it. A build is always answered: until then no other one begins.
+    /// The reply; `None` where nobody waits for it. A build always gets one: until then no other build begins.
     fn answer(&mut self, question: Question, cancelled: &Cancelled) -> Option<Answer> {
         match question {
             Question::Build(context, above) => {
@@ -310,7 +316,10 @@ impl<A: Application> Work<A> {
             }
             Question::Verify(proposal, block, above) => {
                 let ancestors = self.pending(&above, block.parent)?;
-                let is_valid = self.application.verify(&block, &ancestors, cancelled)?;
+                let Some(is_valid) = self.application.verify(&block, &ancestors, cancelled) else {
+                    self.postpone(Question::Verify(proposal, block, above), cancelled);
+                    return None;
+                };
                 Some(Answer::Verified(proposal.view(), proposal.payload, is_valid))
             }
             Question::Certify(proposal, block, above) => {
@@ -321,8 +330,16 @@ impl<A: Application> Work<A> {
         }
     }
 
+    /// Puts a question off that the application can't decide yet, unless nobody waits any more.
+    fn postpone(&self, question: Question, cancelled: &Cancelled) {
+        if !cancelled.is_cancelled() {
+            let asked = (question, cancelled.clone(), Instant::now());
+            self.shared.lock().postponed.push(asked);
+        }
+    }
+
     /// The ancestors that the application has not taken: final blocks that wait here, and those above. `None` where the application has passed
-    /// the parent: nobody waits for the answer then.
+    /// the parent: nobody waits for the reply then.
     fn pending(&self, above: &Ancestors, parent: (View, Digest)) -> Option<Ancestors> {
         let last = self.application.last();
         let pending = above.after(last, parent, self.shared.lock().finals.iter());
@@ -342,6 +359,9 @@ impl<A: Application> Work<A> {
             self.application.finalized(block)?;
             self.responder.note(block, &mut self.application);
             self.counters.height.store(self.application.height(), Relaxed);
+            let mut backlog = self.shared.lock();
+            let again = std::mem::take(&mut backlog.postponed);
+            backlog.questions.extend(again);
         }
         Ok(())
     }
@@ -464,7 +484,7 @@ mod tests {
         (1..).zip(blocks).map(entry).collect()
     }
 
-    /// The worker, what it began, and its answers and counts.
+    /// The worker, what it began, and its replies and counts.
     fn worker() -> (Worker, std::sync::mpsc::Receiver<View>, Arc<Inbox>, Arc<Counters>) {
         let (begun, seen) = channel();
         let (inbox, counters) = (Arc::new(Inbox::new(1)), Arc::new(Counters::default()));
@@ -478,7 +498,7 @@ mod tests {
         Worker::begin(slow, Responder::default(), inbox.clone(), counters.clone()).expect("a thread")
     }
 
-    /// The next answer, but for what it has on the disk.
+    /// The next reply, but for what it has on the disk.
     fn answer(inbox: &Inbox, within: Duration) -> Option<Answer> {
         loop {
             match inbox.take(within)? {
@@ -538,8 +558,8 @@ mod tests {
         assert_eq!(counters.height.load(Relaxed), 500);
     }
 
-    /// What the application is shown for a block in view 1000, while so many final blocks wait and the others above them are pending: the
-    /// number of ancestors, and of blocks that it took before.
+    /// Returns what the application is shown for a block in view 1000, while so many final blocks wait and the others above them are
+    /// pending: the number of ancestors, and of blocks that it took before.
     fn shown(finals: usize, pending: usize) -> (usize, usize) {
         let (begun, seen) = channel();
         let (inbox, shown) = (Arc::new(Inbox::new(1)), Arc::new(Mutex::new((0, 0))));
@@ -577,6 +597,68 @@ mod tests {
         assert!(matches!(built, Some(Answer::Built(_, None))), "{built:?}");
         worker.stop();
         assert!(begun.try_recv().is_err(), "the application was asked nothing");
+    }
+
+    /// Can't tell of any block until it has taken so many.
+    struct Behind {
+        taken: Vec<(View, Digest)>,
+        least: usize,
+    }
+
+    impl Application for Behind {
+        fn build(&mut self, _: &Context, _: &Ancestors, _: &Cancelled) -> Option<Vec<u8>> {
+            None
+        }
+
+        fn verify(&mut self, _: &Block, _: &Ancestors, _: &Cancelled) -> Option<bool> {
+            (self.taken.len() >= self.least).then_some(true)
+        }
+
+        fn certify(&mut self, _: &Block, _: &Ancestors, _: &Cancelled) -> Option<bool> {
+            Some(true)
+        }
+
+        fn finalized(&mut self, block: &Block) -> io::Result<()> {
+            self.taken.push((block.view, block.payload()));
+            Ok(())
+        }
+
+        fn last(&self) -> (View, Digest) {
+            self.taken.last().copied().unwrap_or_default()
+        }
+
+        fn height(&self) -> u64 {
+            self.taken.len() as u64
+        }
+
+        fn durable(&mut self) -> io::Result<u64> {
+            Ok(0)
+        }
+    }
+
+    #[test]
+    fn what_the_application_can_not_tell_yet_is_asked_again_once_it_has_another_final_block() {
+        let (taken, inbox) = (Vec::new(), Arc::new(Inbox::new(1)));
+        let behind = Behind { taken, least: 2 };
+        let worker = Worker::begin(behind, Responder::default(), inbox.clone(), Arc::default()).expect("a thread");
+        let (blocks, next) = chain(2, 4);
+        let passed = Context {
+            round: context(3).round,
+            ..next
+        };
+        worker.finalized(entries(&blocks[..1]));
+        for (context, above) in [(passed, &blocks[1..]), (next, &blocks[1..])] {
+            worker.ask(asked_on(Kind::Verify, context, above.iter().cloned().collect()));
+        }
+        assert!(answer(&inbox, Duration::from_millis(50)).is_none());
+        worker.cancel_passed(View::new(4), View::GENESIS);
+        worker.finalized(entries(&blocks).split_off(1));
+        let again = answer(&inbox, SOON);
+        assert!(
+            matches!(again, Some(Answer::Verified(view, _, true)) if view.get() == 4),
+            "{again:?}"
+        );
+        assert!(answer(&inbox, Duration::from_millis(50)).is_none(), "view 3 is passed");
     }
 
     #[test]

@@ -1,5 +1,5 @@
-//! What peers ask of the archive: a few asks of each peer wait, the peers take turns, and each has a share of the thread's time. So a peer that
-//! asks without end holds up neither final blocks nor other peers, whatever its asks cost.
+//! Requests of peers to the archive: a few of each peer wait, peers are served round-robin, and each has a share of the thread's time. So a
+//! peer that asks without end holds up neither final blocks nor other peers, whatever its asks cost.
 
 use simplex_net::Bucket;
 use simplex_view_state::Participant;
@@ -50,7 +50,7 @@ impl<A> Asks<A> {
         }
     }
 
-    /// Whether no ask waits.
+    /// Returns whether no ask waits.
     pub fn is_empty(&self) -> bool {
         self.peers.values().all(|it| it.waiting.is_empty())
     }

@@ -30,7 +30,7 @@ const PAUSE: Duration = Duration::from_millis(20);
 /// How often it is logged at most that peers can't be served.
 const LOGGED: Duration = Duration::from_secs(60);
 
-/// What the thread is to do.
+/// An order to the thread.
 enum Order {
     Append(Vec<Entry>),
     /// A peer asked for the blocks behind a view, up to another one.
@@ -64,15 +64,15 @@ pub struct Place {
     pub genesis: [u8; 32],
     /// How it is kept.
     pub limits: Limits,
-    /// Whether the disk is waited for.
+    /// True if the disk is waited for.
     pub syncs: bool,
-    /// What is tried.
+    /// The trial, if there is one.
     pub trial: Trial,
 }
 
 impl Place {
-    /// Opens the archive. One that has no block goes on from this one. How many bytes of a last record that was cut off are left out is the
-    /// second answer.
+    /// Opens the archive. One that has no block continues from this one. The second result is how many bytes of a cut last record are left
+    /// out.
     pub fn open(&self, start: Tail) -> io::Result<(Archive, u64)> {
         Archive::open(&self.folder, self.genesis, self.limits, self.syncs, start)
     }
@@ -98,7 +98,7 @@ pub struct Keeper {
 }
 
 impl Keeper {
-    /// Begins the thread. It tells of blocks that are written by [`Event::Archived`], and that the disk refuses by [`Event::Failed`].
+    /// Begins the thread. It reports written blocks by [`Event::Archived`], and a refusal of the disk by [`Event::Failed`].
     pub fn begin(archive: Archive, place: Place, peers: Arc<Peers>, inbox: Arc<Inbox>, counters: Arc<Counters>) -> io::Result<Keeper> {
         let (orders, taken) = channel();
         let waiting = Arc::new(AtomicUsize::new(0));
@@ -167,7 +167,7 @@ impl Keeper {
         self.waiting.load(Relaxed)
     }
 
-    /// (A thread that has ended has told why.)
+    /// (A thread that has ended has reported why.)
     fn order(&self, order: Order) {
         if let Some(orders) = &self.orders {
             let _ = orders.send(order);
@@ -183,7 +183,7 @@ impl Keeper {
     }
 }
 
-/// What the thread owns.
+/// The state that the thread owns.
 struct Work {
     archive: Archive,
     place: Place,

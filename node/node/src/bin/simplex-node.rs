@@ -5,6 +5,7 @@ use simplex_node::ledger::{Ledger, Options};
 use simplex_node::version::version;
 use simplex_node::{Outcome, Settings};
 use simplex_node::{crypto, evidence, floor, signer};
+use simplex_view_state::Namespace;
 use std::fs::File;
 use std::io::Write;
 use std::path::PathBuf;
@@ -39,11 +40,17 @@ enum Command {
         #[arg(long)]
         config: PathBuf,
     },
+    /// Prints the namespace that each vote of the network begins with, for a signer.
+    Namespace {
+        /// The settings of any node of the network.
+        #[arg(long)]
+        config: PathBuf,
+    },
     /// Signs the votes of a member for its node, over a Unix socket, and never two that contradict each other.
     Signer {
-        /// The network's name.
+        /// The namespace of the network, as `simplex-node namespace` prints it.
         #[arg(long)]
-        network: String,
+        namespace: Namespace,
         /// The epoch.
         #[arg(long, default_value_t = 1)]
         epoch: u64,
@@ -89,11 +96,12 @@ fn main() -> ExitCode {
     let outcome = match (arguments.command, arguments.config) {
         (Some(Command::Keygen { out }), _) => crypto::make_key(&out).map(|public| println!("{public}")),
         (Some(Command::Init { config }), _) => Settings::read(&config).and_then(|it| simplex_node::init(&it)),
+        (Some(Command::Namespace { config }), _) => print_namespace(&config),
         (Some(Command::Floor { config, out }), _) => write_floor(&config, &out),
         (Some(Command::Evidence { config, file }), _) => verify_evidence(&config, &file),
         (Some(it @ Command::Signer { .. }), _) => sign(it),
         (None, Some(config)) => run(&config, arguments.trace),
-        (None, None) => Err("--config is lacking".into()),
+        (None, None) => Err("--config is missing: name the node's settings file".into()),
     };
     match outcome {
         Ok(()) => ExitCode::SUCCESS,
@@ -106,7 +114,7 @@ fn main() -> ExitCode {
 
 fn sign(command: Command) -> Outcome {
     let Command::Signer {
-        network,
+        namespace,
         epoch,
         key,
         guard,
@@ -117,13 +125,18 @@ fn sign(command: Command) -> Outcome {
         return Ok(());
     };
     signer::run(&signer::Settings {
-        network: network.try_into()?,
+        namespace,
         epoch,
         key,
         guard,
         socket,
         begin_at,
     })
+}
+
+fn print_namespace(config: &std::path::Path) -> Outcome {
+    println!("{}", Settings::read(config)?.identity()?.namespace());
+    Ok(())
 }
 
 fn write_floor(config: &std::path::Path, out: &std::path::Path) -> Outcome {

@@ -1,7 +1,8 @@
 //! How a ledger takes a snapshot: its chain is written anew with the snapshot's blocks, beside the old one, and takes its name at once.
 
 use super::snapshots::{RECORD, Snapshots, record};
-use super::{Ledger, Link, floor_path, read_chain, written};
+use super::synced::Synced;
+use super::{Ledger, Lines, Link, floor_path, read_chain, written};
 use crate::named::named;
 use crate::set_aside::set_aside;
 use simplex_view_state::{Digest, View};
@@ -36,8 +37,9 @@ impl Ledger {
         }
         self.file = OpenOptions::new().append(true).open(&self.path).map_err(named(&self.path))?;
         (self.last, self.height) = ((manifest.view, manifest.payload), manifest.height);
-        let chain = read_chain(&self.folder)?;
-        self.snapshots = Some(Snapshots::open(&self.folder, self.options.snapshot_blocks, &chain)?);
+        self.synced = Synced::at(manifest.height);
+        let chain = Lines::of(&self.folder)?;
+        self.snapshots = Some(Snapshots::open(&self.folder, self.options.snapshot_blocks, chain)?);
         Ok(())
     }
 }

@@ -1,5 +1,5 @@
-//! The ledger's snapshots. Its state after a block is a record of 40 bytes for each block so far: the view and the digest. So a snapshot is a
-//! beginning of each later one, and all are in one file that grows, which is made anew from the chain at each start.
+//! The ledger's snapshots. Its state after a block is a record of 40 bytes for each block so far: the view and the digest. So a snapshot is
+//! a beginning of each later one, and all are in one file that grows, which is made anew from the chain at each start.
 
 use super::Link;
 use crate::named::named;
@@ -17,8 +17,8 @@ pub const RECORD: usize = 8 + 32;
 pub const BOND: usize = 8 + 32;
 /// How many snapshots peers are served.
 const KEPT: usize = 3;
-/// How many blocks after a snapshot leaders bind it: from then on all members have it; until a final block has bound it, or that is over, so
-/// that a snapshot which is disputed costs some views and no more.
+/// How many blocks after a snapshot leaders bind it: from then on all members have it; until a final block has bound it, or that is over,
+/// so that a snapshot which is disputed costs some views and no more.
 const BOUND_WITHIN: std::ops::Range<u64> = 8..40;
 
 /// A block's record.
@@ -29,7 +29,7 @@ pub fn record(view: View, payload: &Digest) -> [u8; RECORD] {
     record
 }
 
-/// What a block holds that binds a snapshot: its height, and its manifest's digest.
+/// The part of a block that binds a snapshot: its height, and its manifest's digest.
 #[derive(Clone, Copy, PartialEq, Eq, Debug)]
 pub struct Bond {
     /// The height.
@@ -75,7 +75,7 @@ pub struct Snapshots {
 
 impl Snapshots {
     /// The snapshots of a chain, each after so many blocks.
-    pub fn open(folder: &Path, every: u64, chain: &[Link]) -> io::Result<Snapshots> {
+    pub fn open(folder: &Path, every: u64, chain: impl Iterator<Item = io::Result<Link>>) -> io::Result<Snapshots> {
         let path = folder.join("chain.records");
         let file = OpenOptions::new().create(true).truncate(true).write(true).read(true).open(&path);
         let mut snapshots = Snapshots {
@@ -91,7 +91,7 @@ impl Snapshots {
         };
         let mut file = BufWriter::new(snapshots.file.try_clone()?);
         for link in chain {
-            let (view, payload) = link.block()?;
+            let (view, payload) = link?.block()?;
             snapshots.note(view, payload, &mut file)?;
         }
         file.flush().map_err(named(&snapshots.path))?;
@@ -138,7 +138,7 @@ impl Snapshots {
         }
     }
 
-    /// What a block that is built now binds; `None` where it binds none.
+    /// Returns what a block that is built now binds; `None` where it binds none.
     pub fn bond(&self) -> Option<Bond> {
         let (digest, manifest) = self.latest.back()?;
         let is_due = BOUND_WITHIN.contains(&(self.count - manifest.height)) && self.bound < manifest.height;
@@ -148,7 +148,7 @@ impl Snapshots {
         })
     }
 
-    /// Whether a bond is of this ledger's own snapshot; `None` where this ledger is not there yet.
+    /// Returns whether a bond is of this ledger's own snapshot; `None` where this ledger is not there yet.
     pub fn is_own(&self, bond: &Bond) -> Option<bool> {
         let own = self.latest.iter().find(|(_, it)| it.height == bond.height);
         match own {

@@ -37,7 +37,7 @@ mod tests {
             let mut stream = TcpStream::connect(address).expect("it listens");
             write!(stream, "GET {path} HTTP/1.1\r\nHost: x\r\n\r\n").expect("it reads");
             let mut text = String::new();
-            stream.read_to_string(&mut text).expect("it answers");
+            stream.read_to_string(&mut text).expect("a reply");
             text
         };
         // Who sends no request holds up nobody.

@@ -1,10 +1,10 @@
 //! Which member has which certificate, so that nobody is sent what it has.
 //!
-//! A member shows that it has a certificate by sending one on the same subject, or by its vote to finalize a proposal, which it casts once it
-//! has the notarization. One that lies about that goes without a certificate that it can ask for: it harms nobody else.
+//! A member shows that it has a certificate by sending one on the same subject, or by its vote to finalize a proposal, which it casts once
+//! it has the notarization. One that lies about that goes without a certificate that it can ask for: it harms nobody else.
 //!
 //! A certificate that more members sent than may be faulty need not be sent at all. One of them is honest; and the first honest member that
-//! broadcasts it, before which no honest one sends or serves it, sends it to all that lack it.
+//! broadcasts it, before which no honest one sends or serves it, sends it to all that do not have it.
 
 use crate::vote::kind_of;
 use simplex_view_state::{CertificateKind, Participant, Subject, View, Vote};
@@ -19,12 +19,12 @@ enum Shown {
     Sent,
 }
 
-/// What members have shown to have, and what they were sent, of the views that are not forgotten.
+/// The certificates that members have shown to have, and those that they were sent, of the views that are not forgotten.
 #[derive(Debug, Default)]
 pub(super) struct Holders {
     shown: HashMap<(View, CertificateKind, Participant), (Subject, Shown)>,
     sent: HashMap<(View, CertificateKind, Participant), Subject>,
-    /// What was broadcast.
+    /// The certificates that were broadcast.
     broadcast: HashMap<(View, CertificateKind), Subject>,
 }
 
@@ -53,8 +53,8 @@ impl Holders {
         self.sent.insert(key_of(&subject, member), subject);
     }
 
-    /// The members among so many to which a certificate on this is broadcast now. The first time those are left out that have it, and all where
-    /// one of those that sent it is honest. Again, it is for those that missed it: all but those that have shown to have it.
+    /// The members among so many to which a certificate on this is broadcast now. The first time those are left out that have it, and all
+    /// where one of those that sent it is honest. Again, it is for those that missed it: all but those that have shown to have it.
     pub fn lacking(&mut self, subject: Subject, members: u32) -> Vec<Participant> {
         let key = (subject.round().view, kind_of(&subject));
         let is_again = self.broadcast.insert(key, subject) == Some(subject);
@@ -73,7 +73,7 @@ impl Holders {
         all().filter(|it| shown(*it).is_none() && !was_sent(*it)).collect()
     }
 
-    /// Whether a certificate on this was broadcast.
+    /// Returns whether a certificate on this was broadcast.
     pub fn was_broadcast(&self, subject: &Subject) -> bool {
         self.broadcast.get(&(subject.round().view, kind_of(subject))) == Some(subject)
     }

@@ -1,4 +1,4 @@
-//! What the reading threads know of the member, and of what other members have.
+//! The part of the member's state that reading threads need, and the certificates that other members have.
 
 use super::holders::Holders;
 use super::locked;
@@ -12,10 +12,10 @@ use std::sync::{Arc, Mutex};
 
 /// How far above the current view the signature of a vote or proposal is verified at all, and what comes is remembered.
 const AHEAD: u64 = 64;
-/// How many proposals of a view's leader are taken: a second one is evidence, and any more tell nothing.
+/// How many proposals of a view's leader are taken: a second one is evidence, and any more add nothing.
 const PROPOSALS_A_VIEW: usize = 2;
 
-/// What the reading threads know of the member.
+/// The part of the member's state that reading threads need.
 #[derive(Default)]
 pub struct Horizon {
     current: AtomicU64,
@@ -28,7 +28,7 @@ pub struct Horizon {
     snapshot: Mutex<WantedSnapshot>,
 }
 
-/// What the member asks for of snapshots.
+/// The messages about snapshots that the member waits for.
 #[derive(Clone, Default, Debug)]
 pub enum WantedSnapshot {
     /// Nothing.
@@ -42,9 +42,9 @@ pub enum WantedSnapshot {
 
 #[derive(Default)]
 struct Known {
-    /// What the certificates that the member has are on, by view and kind.
+    /// The subjects of the member's certificates, by view and kind.
     certificates: HashMap<(View, CertificateKind), Subject>,
-    /// What the certificates are on that were verified, and that the member takes next.
+    /// The subjects of the certificates that were verified, and that the member receives next.
     passed: HashMap<(View, CertificateKind), Subject>,
     /// The payloads of proposals that came, by view.
     proposals: BTreeMap<View, Vec<Digest>>,
@@ -88,7 +88,7 @@ impl Horizon {
         *locked(&self.ranges) = after;
     }
 
-    /// What the member asks for of snapshots. All else is dropped.
+    /// Sets the messages about snapshots that the member waits for. All others are dropped.
     pub fn want_snapshot(&self, wanted: WantedSnapshot) {
         *locked(&self.snapshot) = wanted;
     }
@@ -117,21 +117,21 @@ impl Horizon {
         }
     }
 
-    /// Whether the member has a certificate on just this. Votes for another proposal of the view are evidence.
+    /// Returns whether the member has a certificate on just this. Votes for another proposal of the view are evidence.
     pub(super) fn knows(&self, subject: &Subject) -> bool {
         let key = key_of(subject);
         locked(&self.known).certificates.get(&key) == Some(subject)
     }
 
-    /// Whether the member has a certificate on just this, or takes one next.
+    /// Returns whether the member has a certificate on just this, or takes one next.
     pub(super) fn has(&self, subject: &Subject) -> bool {
         let key = key_of(subject);
         let known = locked(&self.known);
         known.certificates.get(&key) == Some(subject) || known.passed.get(&key) == Some(subject)
     }
 
-    /// A certificate on this was verified. Returns whether it is the first: the member takes that one before all that peers sent, so that no
-    /// peer can hold it up, and others on the same are dropped until it has.
+    /// A certificate on this was verified. Returns whether it is the first: the member takes that one before all that peers sent, so that
+    /// no peer can hold it up, and others on the same are dropped until it has.
     pub(super) fn is_first(&self, subject: Subject) -> bool {
         let (key, mut known) = (key_of(&subject), locked(&self.known));
         let is_known = known.certificates.get(&key) == Some(&subject);
@@ -175,12 +175,12 @@ impl Horizon {
         }
     }
 
-    /// Whether a certificate on this was broadcast.
+    /// Returns whether a certificate on this was broadcast.
     pub fn was_broadcast(&self, subject: &Subject) -> bool {
         locked(&self.holders).was_broadcast(subject)
     }
 
-    /// The members among so many to which a certificate on this is broadcast now: those that lack it, as far as anybody can tell.
+    /// The members among so many to which a certificate on this is broadcast now: those that do not have it, as far as is known.
     pub fn lacking(&self, subject: Subject, members: u32) -> Vec<Participant> {
         match self.admits(subject.round().view) {
             true => locked(&self.holders).lacking(subject, members),
@@ -188,7 +188,7 @@ impl Horizon {
         }
     }
 
-    /// Whether a proposal tells something: it is among the first of its view, or came before.
+    /// Returns whether a proposal is new evidence: it is among the first of its view, or came before.
     pub(super) fn takes_proposal(&self, view: View, payload: Digest) -> bool {
         let mut known = locked(&self.known);
         let payloads = known.proposals.entry(view).or_default();
@@ -200,7 +200,7 @@ impl Horizon {
         false
     }
 
-    /// Whether a vote of the view may be of use.
+    /// Returns whether a vote of the view may be admitted.
     pub(super) fn admits(&self, view: View) -> bool {
         self.min_active.load(Relaxed) <= view.get() && view.get() <= self.current.load(Relaxed) + AHEAD
     }

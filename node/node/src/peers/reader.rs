@@ -1,4 +1,4 @@
-//! What comes over a connection: it is verified here, and put into the peer's queue where it is of use.
+//! The reader of a connection: it verifies each message, and puts it into the peer's queue unless it is useless.
 //!
 //! Signatures are verified and blocks hashed on the thread of the connection, so that the thread which owns the engine has neither to do.
 //! Each good signature is verified once, alone or in certificates, and one certificate on a subject is passed on.
@@ -23,7 +23,7 @@ const MOST_FORGED: u32 = 16;
 /// How many requests of a peer are looked at: a second, and at once.
 const ASKS: (f64, f64) = (1e3, 2e3);
 
-/// What the reading threads share.
+/// The state that all reading threads share.
 #[derive(Clone)]
 pub struct Reader {
     pub(super) keys: Arc<Keys>,
@@ -91,8 +91,8 @@ impl Connection for Link {
 }
 
 impl Link {
-    /// Verifies a message, and returns whether it is well formed, signed and new. What is certified already is not verified, but for a leader's
-    /// vote to notarize: this node may hold its vote for another proposal.
+    /// Verifies a message, and returns whether it is well formed, signed and new. What is certified already is not verified, but for a
+    /// leader's vote to notarize: this node may hold its vote for another proposal.
     fn admit(&mut self, message: &Message) -> bool {
         let (epoch, horizon) = (self.reader.epoch, self.reader.horizon.clone());
         match message {
@@ -208,8 +208,8 @@ impl Link {
         Some(true)
     }
 
-    /// Passes on a certificate that is good, where it is the first on its subject. It comes before all that peers sent: no queue of a peer's
-    /// holds it up. Returns whether messages are still taken.
+    /// Passes on a certificate that is good, where it is the first on its subject. It comes before all that peers sent: no queue of a
+    /// peer's holds it up. Returns whether messages are still taken.
     fn pass(&self, subject: Subject, message: Message) -> bool {
         let is_open = !self.reader.inbox.is_closed();
         if is_open && self.reader.horizon.is_first(subject) {

@@ -10,7 +10,7 @@ use std::collections::{HashMap, HashSet};
 use std::sync::{Condvar, Mutex, MutexGuard};
 use std::time::Duration;
 
-/// How many signatures of a member, view and kind are remembered: a second subject is evidence, and any more tell nothing.
+/// How many signatures of a member, view and kind are remembered: a second subject is evidence, and any more add nothing.
 const MOST_OF_A_SIGNER: usize = 2;
 /// How long a reader waits for another one's verification, which takes less than a millisecond, before it verifies too.
 const WAIT: Duration = Duration::from_millis(20);
@@ -30,7 +30,7 @@ struct State {
     running: HashSet<Vote>,
 }
 
-/// That this reader verifies a signature. The others may, once this is dropped.
+/// While it exists, this reader verifies a signature. The others may, once it is dropped.
 struct Claim<'a> {
     verified: &'a Verified,
     vote: &'a Vote,

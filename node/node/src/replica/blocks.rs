@@ -13,7 +13,7 @@ use std::time::Instant;
 use tracing::error;
 
 impl Replica {
-    /// Has the application verify a proposal, now or when its block and its ancestors' have come. Nobody waits for an answer of a view that
+    /// Has the application verify a proposal, now or when its block and its ancestors' have come. Nobody waits for a reply on a view that
     /// the final chain has passed.
     pub(super) fn verify(&mut self, context: Context, proposal: Proposal) -> Outcome {
         let (view, parent) = (context.round.view, (context.parent, context.parent_payload));
@@ -61,9 +61,9 @@ impl Replica {
         Ok(())
     }
 
-    /// Whether no other block is notarized or final in the view of this one. A notarized block may be on another block than the one that is
-    /// notarized in its parent's view, where that view's leader proposed two: no chain can hold both. Whoever judges it has a certificate of
-    /// its parent's view, so all honest nodes judge alike.
+    /// Returns whether no other block is notarized or final in the view of this one. A notarized block may be on another block than the one
+    /// that is notarized in its parent's view, where that view's leader proposed two: no chain can hold both. Whoever judges it has a
+    /// certificate of its parent's view, so all honest nodes judge alike.
     fn may_be_parent(&self, block: (View, Digest)) -> Outcome<bool> {
         for kind in [CertificateKind::Notarization, CertificateKind::Finalization] {
             let found = self.parts.engine.certificate(kind, block.0)?;
@@ -101,7 +101,7 @@ impl Replica {
     fn ask_again(&mut self, questions: Vec<Pending>) -> Outcome {
         for question in questions {
             match question {
-                Pending::Build(context) => self.pace.ask(context),
+                Pending::Build(context) => self.pace.ask(context, Instant::now()),
                 Pending::Verify(context, proposal) => self.verify(context, proposal)?,
                 Pending::Certify(proposal) => self.certify(proposal)?,
             }
@@ -120,7 +120,7 @@ impl Replica {
         self.pace.forget(current);
         self.missing.forget_builds(current);
         if self.building.is_none()
-            && let Some(context) = self.pace.due(Instant::now())
+            && let Some(context) = self.pace.due(Instant::now(), current)
         {
             match self.branch_to((context.parent, context.parent_payload)) {
                 Branch::Whole(ancestors) => {
@@ -134,7 +134,7 @@ impl Replica {
         Ok(())
     }
 
-    /// What the application answered. An answer on another block than the one that was asked of last is dropped.
+    /// Takes a reply of the application. A reply on another block than the one that was asked about last is dropped.
     pub(super) fn take_answer(&mut self, answer: Answer) -> Outcome {
         let mut is_asked =
             |kind, view, payload| self.asked.get(&(kind, view)) == Some(&payload) && self.asked.remove(&(kind, view)).is_some();
@@ -182,7 +182,7 @@ impl Replica {
         }
     }
 
-    /// Keeps a block: what waited for it goes on.
+    /// Stores a block: what waited for it continues.
     pub(super) fn keep_block(&mut self, block: Block) -> Outcome {
         let payload = block.payload();
         self.parts.blocks.keep(block.clone())?;

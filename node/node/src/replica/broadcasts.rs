@@ -1,8 +1,8 @@
 //! How certificates go to all: nobody is sent what it has.
 //!
 //! All members get a certificate at about the same time, of votes that all of them get. Would each send it to all at once, nobody had shown
-//! yet to have it. So of each view some members send it at once, of whom one at least is honest, and the others hold it back for a moment: by
-//! then most of it need not be sent ([`Horizon::lacking`](crate::peers::Horizon::lacking)).
+//! yet to have it. So of each view some members send it at once, of whom one at least is honest, and the others hold it back for a moment:
+//! by then most of it need not be sent ([`Horizon::lacking`](crate::peers::Horizon::lacking)).
 
 use super::Replica;
 use simplex_view_state::{Certificate, Subject};
@@ -18,14 +18,14 @@ const HELD: (u32, Duration) = (10, Duration::from_millis(200));
 /// The certificates that are held back, and until when: those that came first are due first.
 pub(super) type Held = VecDeque<(Instant, Certificate)>;
 
-/// Whether a member is one of those that send a certificate of a view at once: one more than may be faulty, others in each view.
+/// Returns whether a member is one of those that send a certificate of a view at once: one more than may be faulty, others in each view.
 fn is_prompt(index: u32, view: u64, members: u32) -> bool {
     let place = (u64::from(index) + u64::from(members) - view % u64::from(members)) % u64::from(members);
     place <= u64::from(members.saturating_sub(1) / 3)
 }
 
 impl Replica {
-    /// Sends a certificate to the members that lack it: now, or in a moment.
+    /// Sends a certificate to the members that do not have it: now, or in a moment.
     pub(super) fn broadcast(&mut self, it: Certificate) {
         let (subject, members) = (it.subject(), self.heard.len() as u32);
         let is_again = self.parts.horizon.was_broadcast(&subject);

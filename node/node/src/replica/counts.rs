@@ -1,4 +1,4 @@
-//! What is counted of each turn.
+//! The counters of each turn.
 
 use super::Replica;
 use crate::faults::Fault;
@@ -12,7 +12,7 @@ use tracing::info;
 /// How far a clock jumps in a trial.
 const AN_HOUR: Duration = Duration::from_secs(3600);
 
-/// Of how many views it is known at most when they began.
+/// The most views whose beginnings are stored.
 const MOST_VIEWS: usize = 256;
 
 /// When the views that are not finalized began here.

@@ -1,4 +1,4 @@
-//! What a faulty node sends.
+//! The messages of a faulty node.
 
 use super::Replica;
 use crate::settings::Outcome;
@@ -25,7 +25,7 @@ impl Replica {
         let second = Vote {
             subject,
             signer: vote.signer,
-            signature: self.parts.keys.sign(&subject.encode())?.to_vec(),
+            signature: self.parts.keys.sign(&subject)?.to_vec(),
         };
         for index in 0..self.heard.len() as u32 {
             let message = match index % 2 {

@@ -1,23 +1,22 @@
-//! The finalized chain: its blocks go to the archive, and what is on the disk there to the application. Where blocks are lacking, peers are
+//! The finalized chain: its blocks go to the archive, and what is on the disk there to the application. Where blocks are missing, peers are
 //! asked for them in ranges.
 
 use super::Replica;
 use crate::chain::{Entry, FinalChain, Tail};
 use crate::settings::Outcome;
 use crate::state_sync::is_pruned;
-use simplex_chain::CatchUp;
 use simplex_view_state::{CertificateKind, Participant, Proposal, Subject, View};
 use simplex_wire::{Message, Range};
 use std::sync::atomic::Ordering::Relaxed;
 use std::time::{Duration, Instant};
-use tracing::{error, info};
+use tracing::{debug, error, info};
 
 /// Behind by so many views a node asks for ranges at once, and by fewer once that has lasted for [`PATIENCE`].
 const FAR: u64 = 64;
 const PATIENCE: Duration = Duration::from_millis(200);
 /// How many bytes of final blocks may wait for those below them and for the disk, before no more are asked for.
 const MOST_WAITING: usize = 32 << 20;
-/// Of a node that is behind, blocks of more bytes than this are dropped again where they are final: peers have them.
+/// The most bytes of final blocks that a lagging node stores; above that it drops them, since peers have them.
 const MOST_BLOCKS: usize = 64 << 20;
 /// How often it is logged how far behind the node is.
 const LOGGED: Duration = Duration::from_secs(5);
@@ -28,10 +27,10 @@ const STALLED: Duration = Duration::from_secs(15);
 /// After how long without a block it is said that nobody who replies has the next one: another member may come back, or lies.
 const LACKING: Duration = Duration::from_secs(5);
 
-/// How far the node is behind, and what was told of it.
+/// How far the node lags, and what was logged of it.
 #[derive(Debug)]
 pub(super) struct Lag {
-    /// Since when blocks are lacking, and behind which view the first one was.
+    /// Since when blocks are missing, and after which view the first one was.
     since: Option<(Instant, View)>,
     /// When the chain grew last.
     grew: Instant,
@@ -68,19 +67,38 @@ impl Replica {
     pub(super) fn finalize(&mut self, proposal: &Proposal) -> Outcome {
         let certificate = self.parts.engine.certificate(CertificateKind::Finalization, proposal.view())?;
         self.chain.finalize(proposal, certificate, &self.parts.blocks)?;
+        let target = self.chain.target();
+        let ready: Vec<Range> = self.ahead.extract_if(.., |it| it.certificate.round().view <= target).collect();
+        for range in ready {
+            self.chain.add(range.certificate, range.blocks, &self.parts.blocks)?;
+        }
         self.deliver()
     }
 
-    /// Final blocks that a peer sends, verified.
+    /// Final blocks that a peer sends, verified. Where they end above the last finalized view they wait until the engine has the finalization
+    /// that comes with them, and the journal has it: else the archive and the application would be ahead of the journal, which no start takes.
     pub(super) fn take_range(&mut self, range: Range) -> Outcome {
         let last = range.certificate.round().view;
         self.catch_up.arrived(range.after, last);
+        if last > self.chain.target() {
+            self.take_certificate(range.certificate.clone())?;
+            if self.ahead.iter().all(|it| it.after != range.after) {
+                self.ahead.push(range);
+            }
+            return Ok(());
+        }
         self.chain.add(range.certificate, range.blocks, &self.parts.blocks)?;
         self.deliver()
     }
 
     /// A peer has no blocks behind a view: it has pruned them, where it names the first that it has.
     pub(super) fn take_no_range(&mut self, from: Participant, after: View, first: View) {
+        debug!(
+            peer = from.get(),
+            after = after.get(),
+            first = first.get(),
+            "a member has no blocks after a view"
+        );
         let now = self.parts.clock.now();
         self.catch_up.refused(from, after, first > View::GENESIS, now);
     }
@@ -90,12 +108,13 @@ impl Replica {
         self.catch_up.pruned_by(self.chain.tail().view)
     }
 
-    /// The chain goes on after this block, which the application has by a snapshot: nothing is known of what follows but its last
+    /// The chain continues after this block, which the application has by a snapshot: nothing is known of what follows but its last
     /// finalization.
     pub(super) fn begin_after(&mut self, tail: Tail) -> Outcome {
         self.parts.keeper.begin_after(tail);
         self.chain = FinalChain::new(tail);
-        self.catch_up = CatchUp::new(self.parts.settings.me(), self.parts.settings.count().get());
+        self.ahead.clear();
+        self.catch_up.begin_anew();
         self.lag = Lag::none();
         let last = self.views()?.last_finalized;
         if let Some(it) = self.parts.engine.certificate(CertificateKind::Finalization, last)?
@@ -107,7 +126,7 @@ impl Replica {
         self.deliver()
     }
 
-    /// Hands final blocks to the archive, block on block, as far as none is lacking.
+    /// Passes final blocks to the archive, block on block, up to the first missing one.
     pub(super) fn deliver(&mut self) -> Outcome {
         // (while the application takes a snapshot, the chain is about to begin anew)
         let entries = if self.state_sync.is_restoring() {
@@ -153,6 +172,12 @@ impl Replica {
         let is_full = self.chain.fetched_bytes() + self.parts.keeper.waiting() > MOST_WAITING;
         for ask in self.catch_up.due(tail.view, target, is_full, self.parts.clock.now()) {
             self.parts.counters.ranges.fetch_add(1, Relaxed);
+            debug!(
+                peer = ask.of.get(),
+                after = ask.after.get(),
+                upto = ask.upto.get(),
+                "final blocks are asked for"
+            );
             self.parts.peers.send(ask.of, &Message::AskRange(ask.after, ask.upto));
         }
         self.parts.horizon.want_ranges(self.catch_up.asked().collect());
@@ -186,8 +211,8 @@ impl Replica {
         }
     }
 
-    /// Says which block nobody has, and what to do. A member that is down, or lies, does not say that it has pruned it: where so many did that
-    /// the rest may all be such members, they are waited for a while.
+    /// Says which block nobody has, and what to do. A member that is down, or lies, does not say that it has pruned it: where so many did
+    /// that the rest may all be such members, they are waited for a while.
     fn note_lack(&mut self) {
         let tail = self.chain.tail();
         let others = self.heard.len() - 1;

@@ -1,16 +1,23 @@
-//! What peers are asked for, and what they are served.
+//! Requests to peers, and replies to theirs.
 
 use super::Replica;
 use simplex_view_state::{Digest, Fetch, FetchKind, Participant, View};
 use simplex_wire::Message;
 use std::sync::atomic::Ordering::Relaxed;
+use std::time::{Duration, Instant};
+
+/// After how long a silence of a member what it was asked may be lost.
+const QUIET: Duration = Duration::from_secs(1);
 
 impl Replica {
-    /// Asks a member for a certificate; nobody, where there is no other one.
+    /// Asks a member for a certificate, or the next one with a connection where it has none; nobody, where there is no
+    /// other one.
     pub(super) fn fetch(&mut self, it: &Fetch) {
-        if let Some(peer) = it.of {
-            self.ask(peer, &Message::AskCertificate(it.kind, it.view));
-        }
+        let Some(of) = it.of else { return };
+        let count = self.heard.len() as u32;
+        let mut turns = (0..count).map(|it| Participant::new((of.get() + it) % count));
+        let connected = turns.find(|it| self.parts.peers.connection(*it).is_some());
+        self.ask(connected.unwrap_or(of), &Message::AskCertificate(it.kind, it.view));
     }
 
     fn ask(&mut self, peer: Participant, message: &Message) {
@@ -18,9 +25,23 @@ impl Replica {
         self.parts.peers.send(peer, message);
     }
 
+    /// A message of a member came.
+    pub(super) fn hear(&mut self, from: Participant) {
+        let heard = &mut self.heard[from.get() as usize];
+        if heard.elapsed() > QUIET {
+            self.missing.returned(from);
+        }
+        *heard = Instant::now();
+    }
+
     /// Asks for the missing blocks, whose turn it is. The readers drop all others.
     pub(super) fn fetch_blocks(&mut self) {
         self.parts.horizon.want(self.missing.payloads());
+        for member in (0..self.heard.len() as u32).map(Participant::new) {
+            let connection = self.parts.peers.connection(member);
+            self.missing.connected(member, connection);
+            self.catch_up.connected(member, connection.is_some());
+        }
         for (view, payload, peer) in self.missing.due(self.parts.clock.now()) {
             self.ask(peer, &Message::AskBlock(view, payload));
         }

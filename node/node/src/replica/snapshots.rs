@@ -10,6 +10,7 @@ use crate::state_sync::pieces::Pieces;
 use crate::state_sync::{Fetch, Offer, STALLED, StateSync, is_wanted};
 use simplex_view_state::{Digest, Participant};
 use simplex_wire::{Manifest, Message, Range};
+use std::collections::BTreeSet;
 use std::sync::Arc;
 use std::sync::atomic::Ordering::Relaxed;
 use std::time::Instant;
@@ -24,7 +25,7 @@ impl Replica {
         Ok(())
     }
 
-    /// What the application replied.
+    /// Takes a reply of the application about snapshots.
     pub(super) fn take_reply(&mut self, reply: Reply) -> Outcome {
         match reply {
             Reply::Offer(to, manifest, view) => self.parts.keeper.offer(to, manifest, view),
@@ -37,7 +38,7 @@ impl Replica {
         Ok(())
     }
 
-    /// Goes on with a snapshot, where one is needed.
+    /// Continues with a snapshot, where one is needed.
     pub(super) fn sync_state(&mut self) -> Outcome {
         match &self.state_sync {
             StateSync::Idle => self.begin_state_sync(),
@@ -56,19 +57,22 @@ impl Replica {
         let lacking = self.chain.target().get().saturating_sub(self.chain.tail().view.get());
         let others = self.heard.len() - 1;
         if is_wanted(above, lacking, self.pruned(), others, others / 3) {
-            info!(
-                views = lacking,
-                "a snapshot is asked for in place of the final blocks that are lacking"
-            );
-            self.state_sync = StateSync::begin();
-            self.parts.horizon.want_snapshot(WantedSnapshot::Offers);
+            info!(views = lacking, "a snapshot is asked for in place of the missing final blocks");
+            self.ask_anew();
         }
+    }
+
+    /// Asks for offers of snapshots. Those of all members but as many as may be faulty are enough.
+    fn ask_anew(&mut self) {
+        let others = self.heard.len() - 1;
+        self.state_sync = StateSync::begin((others - others / 3).max(1));
+        self.parts.horizon.want_snapshot(WantedSnapshot::Offers);
     }
 
     /// Asks all others, until a good offer was chosen.
     fn ask_for_snapshots(&mut self) -> Outcome {
-        if let Some(offer) = self.state_sync.chosen() {
-            return self.begin_fetch(offer);
+        if let Some((offer, by)) = self.state_sync.chosen() {
+            return self.begin_fetch(offer, &by);
         }
         if self.chain.hole().is_none() {
             self.end_state_sync("all blocks came meanwhile");
@@ -105,18 +109,18 @@ impl Replica {
 
     fn take_checked(&mut self, from: Participant, offer: Offer, is_bound: bool) {
         if is_bound {
-            self.state_sync.offered(offer);
+            self.state_sync.offered(from, offer);
         } else {
             warn!(peer = from.get(), "a member offers a snapshot that its block does not bind");
         }
     }
 
-    fn begin_fetch(&mut self, offer: Offer) -> Outcome {
+    fn begin_fetch(&mut self, offer: Offer, by: &BTreeSet<Participant>) -> Outcome {
         let (height, bytes, count) = (offer.manifest.height, offer.manifest.length, offer.manifest.pieces.len() as u32);
         info!(height, bytes, "a snapshot is fetched");
         let fetch = Fetch {
             download: Download::begin(&self.parts.settings.data, &offer.manifest)?,
-            pieces: Pieces::new(self.parts.settings.me(), self.heard.len() as u32, count),
+            pieces: Pieces::new(self.parts.settings.me(), self.heard.len() as u32, count, by),
             offer,
             grew: Instant::now(),
         };
@@ -139,8 +143,7 @@ impl Replica {
                 height = fetch.offer.manifest.height,
                 "nobody sends the rest of a snapshot: another one is asked for"
             );
-            self.state_sync = StateSync::begin();
-            self.parts.horizon.want_snapshot(WantedSnapshot::Offers);
+            self.ask_anew();
             return Ok(());
         }
         let asks = fetch.pieces.due(now);
@@ -180,7 +183,7 @@ impl Replica {
         Ok(())
     }
 
-    /// The application has the snapshot: the chain, and the archive, go on after it.
+    /// The application has the snapshot: the chain and the archive continue after it.
     fn take_restored(&mut self, offer: &Offer) -> Outcome {
         let (height, view, payload) = (offer.manifest.height, offer.manifest.view, offer.manifest.payload);
         info!(height, view = view.get(), "the application took a snapshot of its peers");

@@ -13,7 +13,7 @@ use std::time::Instant;
 use tracing::{info, warn};
 
 impl Replica {
-    /// Signs a vote that is stored, sends it to all, and tells the engine.
+    /// Signs a vote that is stored, sends it to all, and passes it to the engine.
     pub(super) fn cast(&mut self, order: &Order) -> Outcome {
         let begun = Instant::now();
         let vote = order.signed(self.parts.keys.sign_vote(&order.subject, &order.text)?.to_vec());
@@ -33,12 +33,12 @@ impl Replica {
         self.take_vote(vote)
     }
 
-    /// Tells once of each view that is given up: a vote to nullify is sent again and again.
+    /// Logs each abandoned view once: a vote to nullify is sent again and again.
     fn note(&mut self, subject: &Subject) {
         let view = subject.round().view;
         if matches!(subject, Subject::Nullify(_)) && view > self.nullified {
             self.nullified = view;
-            info!(view = view.get(), "the view is given up");
+            info!(view = view.get(), "the view is abandoned");
         }
     }
 

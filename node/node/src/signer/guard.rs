@@ -1,4 +1,5 @@
-//! What a signer has signed, on the disk: it never signs two votes that contradict each other, whoever asks and whatever was restarted.
+//! The guard of a signer: a file of all that it signed. It never signs two votes that contradict each other, whoever asks and whatever was
+//! restarted.
 //!
 //! A vote is in the file, and the file synced, before its signature is returned. Below the lowest view of the file nothing is signed, so
 //! old votes can be dropped: the lowest view rises, and the votes of some thousand views above it stay. Where the disk refuses a vote,
@@ -6,8 +7,7 @@
 
 use crate::crypto::hex;
 use crate::settings::Outcome;
-use simplex_identity::NetworkName;
-use simplex_view_state::Subject;
+use simplex_view_state::{Namespace, Subject};
 use std::collections::BTreeMap;
 use std::fs::{self, File, OpenOptions, TryLockError};
 use std::io::{self, ErrorKind, Write};
@@ -17,18 +17,18 @@ use tracing::{info, warn};
 
 /// How many votes are in the file before old ones are dropped.
 const MOST_VOTES: usize = 16_384;
-/// Of how many views below the highest one votes stay then.
+/// The number of views below the highest one whose votes stay then.
 const KEPT_VIEWS: u64 = 4096;
-/// What a file begins with.
-const BEGIN: &str = "simplex-signer 1";
-/// What is left to do where the disk refuses.
+/// The beginning of a file.
+const BEGIN: &str = "simplex-signer 2";
+/// The advice where the disk refuses a write.
 const BEGIN_AGAIN: &str = "make room or mend the disk, and begin the signer again";
 
 /// Whose votes a guard is of: its file is no other signer's.
 #[derive(Clone, Debug, PartialEq, Eq)]
 pub struct Owner {
-    /// The network.
-    pub network: NetworkName,
+    /// The namespace of the network.
+    pub namespace: Namespace,
     /// The epoch.
     pub epoch: u64,
     /// The public key.
@@ -73,7 +73,7 @@ impl Guard {
         let file = created.map_err(|error| {
             at(
                 path,
-                format!("{error}: a signer that has signed goes on from its file, so leave --begin-at away"),
+                format!("{error}: a signer that has signed continues from its file: leave --begin-at away"),
             )
         })?;
         lock(path, &file)?;
@@ -91,8 +91,8 @@ impl Guard {
         Ok(guard)
     }
 
-    /// The file of a signer that goes on. A line that a crash cut off is dropped: its signature was not returned. All else is written anew,
-    /// so that the disk has it.
+    /// The file of a signer that continues. A line that a crash cut off is dropped: its signature was not returned. All else is written
+    /// anew, so that the disk has it.
     ///
     /// # Errors
     ///
@@ -228,8 +228,8 @@ impl Guard {
         }
     }
 
-    /// Whether a new file that a crash cut off anywhere may hold this: a beginning of one of this signer's, with no vote that the file has
-    /// not.
+    /// Returns whether a new file that a crash cut off anywhere may hold this: a beginning of one of this signer's, with no vote that the
+    /// file has not.
     fn is_left(&self, bytes: &[u8]) -> bool {
         let written = bytes.iter().rposition(|it| *it != 0).map_or(0, |it| it + 1);
         let Ok(text) = std::str::from_utf8(&bytes[..written]) else {
@@ -251,7 +251,7 @@ impl Guard {
 }
 
 fn head_of(owner: &Owner, lowest: u64) -> String {
-    format!("{BEGIN} {} {} {} {lowest}\n", owner.network, owner.epoch, hex(&owner.key))
+    format!("{BEGIN} {} {} {} {lowest}\n", owner.namespace, owner.epoch, hex(&owner.key))
 }
 
 /// Locks a file. Where another one has its name by now, a signer has replaced it, and has that one.
@@ -331,7 +331,7 @@ mod tests {
 
     fn owner() -> Owner {
         Owner {
-            network: NetworkName::try_from("test".to_owned()).expect("a name"),
+            namespace: Namespace::new([9; 32]),
             epoch: 1,
             key: [7; 32],
         }

@@ -1,7 +1,7 @@
 //! A signer that is a process of its own, over a Unix socket.
 //!
-//! A request is its length in two bytes, a byte that says what is asked, and the vote's text. A reply is its length in two bytes, a byte that
-//! says whether it is refused, and the signature or the reason.
+//! A request is its length in two bytes, a byte that says what is asked, and the vote's text. A reply is its length in two bytes, a byte
+//! that says whether it is refused, and the signature or the reason.
 
 use super::Signer;
 use super::guard::Owner;
@@ -15,10 +15,10 @@ use std::sync::{Mutex, PoisonError};
 use std::thread::sleep;
 use std::time::{Duration, Instant};
 
-/// What is asked: who the signer is, or a signature.
+/// The kinds of requests: who the signer is, or a signature.
 pub(super) const WHO: u8 = 0;
 pub(super) const SIGN: u8 = 1;
-/// What is replied.
+/// The kinds of replies.
 pub(super) const DONE: u8 = 0;
 pub(super) const REFUSED: u8 = 1;
 /// How long a request or reply is at most.
@@ -77,8 +77,8 @@ impl Remote {
         };
         if status != DONE || there != who(&self.owner) {
             let here = format!(
-                "network {}, epoch {}, key {}",
-                self.owner.network,
+                "--namespace {} --epoch {}, key {}",
+                self.owner.namespace,
                 self.owner.epoch,
                 hex(&self.owner.key)
             );
@@ -112,7 +112,7 @@ impl Signer for Remote {
 
 /// Who a signer is, as it replies.
 pub(super) fn who(owner: &Owner) -> Vec<u8> {
-    [&owner.network.prefixed()[..], &owner.epoch.to_be_bytes(), &owner.key].concat()
+    [&owner.namespace.bytes()[..], &owner.epoch.to_be_bytes(), &owner.key].concat()
 }
 
 fn ask(stream: &mut UnixStream, what: u8, text: &[u8]) -> io::Result<(u8, Vec<u8>)> {

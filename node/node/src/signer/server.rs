@@ -6,8 +6,7 @@ use super::{Local, Signer};
 use crate::crypto::read_secret;
 use crate::settings::Outcome;
 use crate::vote::is_sound;
-use simplex_identity::NetworkName;
-use simplex_view_state::{Epoch, Subject};
+use simplex_view_state::{Epoch, Namespace, Subject};
 use std::fs::{self, Permissions};
 use std::io;
 use std::os::unix::fs::{FileTypeExt, PermissionsExt};
@@ -20,11 +19,11 @@ use tracing::{info, warn};
 /// How many connections a signer has at once.
 const MOST_CONNECTIONS: usize = 8;
 
-/// What a signer is told at its start.
+/// The settings of a signer.
 #[derive(Clone, Debug)]
 pub struct Settings {
-    /// The network's name.
-    pub network: NetworkName,
+    /// The namespace of the network, as `simplex-node namespace` prints it.
+    pub namespace: Namespace,
     /// The epoch.
     pub epoch: u64,
     /// The file of the secret key.
@@ -33,7 +32,7 @@ pub struct Settings {
     pub guard: PathBuf,
     /// Where it listens.
     pub socket: PathBuf,
-    /// The first view that it signs, of a key that has signed nothing; `None` of one that goes on.
+    /// The first view that it signs, of a key that has signed nothing; `None` of one that continues.
     pub begin_at: Option<u64>,
 }
 
@@ -61,7 +60,7 @@ pub fn serve(settings: &Settings, listener: UnixListener) -> Outcome {
     let secret = read_secret(&settings.key)?;
     let key: [u8; 32] = secret.raw_public_key()?.try_into().map_err(|_| "an ed25519 key has 32 bytes")?;
     let owner = Owner {
-        network: settings.network.clone(),
+        namespace: settings.namespace,
         epoch: settings.epoch,
         key,
     };
@@ -72,7 +71,7 @@ pub fn serve(settings: &Settings, listener: UnixListener) -> Outcome {
     let shared = Arc::new(Shared {
         owner,
         guard: Mutex::new(guard),
-        key: Local::new(settings.network.clone(), secret),
+        key: Local::new(secret),
     });
     info!(socket = %settings.socket.display(), "the signer listens");
     for stream in listener.incoming() {
@@ -133,10 +132,12 @@ impl Shared {
         }
     }
 
-    /// Signs the text of a vote, and nothing else, once the guard has it.
+    /// Signs the text of a vote of its network, and nothing else, once the guard has it.
     fn sign(&self, text: &[u8]) -> Outcome<Vec<u8>> {
-        let (subject, rest) = Subject::decode(text).ok_or("what is to be signed is no vote")?;
-        if !rest.is_empty() || subject.encode() != text || !is_sound(&subject, Epoch::new(self.owner.epoch)) {
+        let namespace = &self.owner.namespace;
+        let subject = text.strip_prefix(namespace.bytes()).and_then(Subject::decode);
+        let (subject, rest) = subject.ok_or("what is to be signed is no vote of this network")?;
+        if !rest.is_empty() || subject.text(namespace) != text || !is_sound(&subject, Epoch::new(self.owner.epoch)) {
             return Err(format!("no honest member votes so: {subject:?}").into());
         }
         self.guard.lock().unwrap_or_else(PoisonError::into_inner).admit(&subject)?;

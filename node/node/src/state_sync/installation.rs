@@ -126,7 +126,7 @@ pub fn set_archive_aside(folder: &Path, height: u64) -> io::Result<()> {
     Ok(())
 }
 
-/// What a crash amid an installation left: the snapshot, whose pieces are whole.
+/// Returns what a crash amid an installation left: the snapshot, whose pieces are whole.
 fn left(folder: &Path) -> io::Result<Option<Manifest>> {
     let path = manifest(folder);
     let bytes = match fs::read(&path) {
@@ -137,7 +137,7 @@ fn left(folder: &Path) -> io::Result<Option<Manifest>> {
     Ok(Manifest::decode(&bytes).ok())
 }
 
-/// Whether the file of pieces has those of a manifest: the disk may have changed bytes since.
+/// Returns whether the file of pieces has those of a manifest: the disk may have changed bytes since.
 fn are_whole(folder: &Path, of: &Manifest) -> io::Result<bool> {
     let path = pieces(folder);
     let Ok(mut file) = File::open(&path) else { return Ok(false) };

@@ -34,10 +34,12 @@ pub struct Pieces {
 }
 
 impl Pieces {
-    /// So many pieces, of which none is here, at this member of so many.
-    pub fn new(me: Participant, members: u32, count: u32) -> Pieces {
+    /// So many pieces, of which none is here, at this member of so many. Those that offered the snapshot are asked first: others may be down.
+    pub fn new(me: Participant, members: u32, count: u32, offered_by: &BTreeSet<Participant>) -> Pieces {
+        let mut others: Vec<Participant> = (0..members).map(Participant::new).filter(|it| *it != me).collect();
+        others.sort_by_key(|it| !offered_by.contains(it));
         Pieces {
-            others: (0..members).map(Participant::new).filter(|it| *it != me).collect(),
+            others,
             next: 0,
             open: (0..count).collect(),
             asked: BTreeMap::new(),
@@ -47,12 +49,12 @@ impl Pieces {
         }
     }
 
-    /// Whether all pieces have come.
+    /// Returns whether all pieces have come.
     pub fn is_complete(&self) -> bool {
         self.open.is_empty() && self.asked.is_empty()
     }
 
-    /// Whether nobody is left to be asked.
+    /// Returns whether nobody is left to be asked.
     pub fn is_hopeless(&self) -> bool {
         self.avoided.len() == self.others.len()
     }
@@ -62,7 +64,7 @@ impl Pieces {
         self.asked.keys().copied()
     }
 
-    /// What is to be asked for now.
+    /// Returns what is to be asked for now.
     pub fn due(&mut self, now: Moment) -> Vec<Ask> {
         let late: Vec<(u32, Participant)> = self
             .asked
@@ -143,7 +145,7 @@ mod tests {
 
     #[test]
     fn some_pieces_are_asked_of_each_other_member_in_turn_until_all_are_here() {
-        let mut it = Pieces::new(Participant::new(1), 4, 20);
+        let mut it = Pieces::new(Participant::new(1), 4, 20, &BTreeSet::new());
         let first = asks(&mut it, 0);
         assert_eq!((first.len(), &first[..4]), (12, &[(0, 0), (2, 1), (3, 2), (0, 3)][..]));
         assert!(asks(&mut it, 1).is_empty());
@@ -158,8 +160,15 @@ mod tests {
     }
 
     #[test]
+    fn who_offered_the_snapshot_is_asked_first() {
+        let offered_by = [Participant::new(2)].into();
+        let mut it = Pieces::new(Participant::new(0), 4, 3, &offered_by);
+        assert_eq!(asks(&mut it, 0), [(2, 0), (1, 1), (3, 2)]);
+    }
+
+    #[test]
     fn what_does_not_come_is_asked_of_another_member_and_who_sends_nothing_no_more() {
-        let mut it = Pieces::new(Participant::new(0), 4, 4000);
+        let mut it = Pieces::new(Participant::new(0), 4, 4000, &BTreeSet::new());
         let mut asked_of_silent = 0;
         for now in 0..2000 {
             for (of, index) in asks(&mut it, 100 * now) {
@@ -176,7 +185,7 @@ mod tests {
 
     #[test]
     fn who_refuses_a_piece_is_asked_no_more_and_where_all_do_there_is_no_hope() {
-        let mut it = Pieces::new(Participant::new(0), 3, 9);
+        let mut it = Pieces::new(Participant::new(0), 3, 9, &BTreeSet::new());
         asks(&mut it, 0);
         it.refused(Participant::new(2), 0);
         assert!(!it.avoided.contains(&Participant::new(2)), "piece 0 was asked of member 1");

@@ -124,7 +124,7 @@ pub fn played(settings: &[Settings]) -> (Vec<Arc<Keys>>, Vec<Credentials>) {
     (keys.clone(), credentials.collect())
 }
 
-/// Takes the node's connections to a member, shows it life, and tells what it sends there.
+/// Takes the node's connections to a member, sends heartbeats, and returns what it sends there.
 #[allow(dead_code, reason = "some tests alone need it")]
 pub fn hear(listener: &TcpListener, member: u32, credentials: &Credentials, told: &Sender<(u32, Message)>) {
     for stream in listener.incoming().flatten() {

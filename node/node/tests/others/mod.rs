@@ -10,7 +10,7 @@ use simplex_wire::{Block, Message};
 use std::fs;
 use std::net::TcpListener;
 use std::sync::Arc;
-use std::sync::mpsc::{Receiver, channel};
+use std::sync::mpsc::{Receiver, Sender, channel};
 use std::thread;
 use std::time::{Duration, Instant};
 
@@ -21,6 +21,7 @@ pub struct Others {
     pub links: Vec<Link>,
     pub heard: Receiver<(u32, Message)>,
     pub genesis: Digest,
+    told: Sender<(u32, Message)>,
 }
 
 fn plan(name: &str) -> Plan {
@@ -51,29 +52,41 @@ impl Others {
     }
 
     pub fn around_a_node_begun_by(name: &str, change: impl FnOnce(&mut Settings), begin: impl FnOnce(&mut Network)) -> Others {
+        Others::listening(&[1, 2, 3], name, change, begin)
+    }
+
+    /// These members alone take connections.
+    pub fn listening(up: &[u32], name: &str, change: impl FnOnce(&mut Settings), begin: impl FnOnce(&mut Network)) -> Others {
         let mut network = Network::new(plan(name)).expect("keys and settings");
         network.set(0, change).expect("a disk");
         let settings = settings_of(&network);
         let (keys, credentials) = played(&settings);
         let (told, heard) = channel();
-        for (member, peer) in (0..).zip(&settings[0].members).skip(1) {
-            let (listener, told) = (TcpListener::bind(&peer.address).expect("a free address"), told.clone());
-            let its_own = peers::credentials(&settings[member as usize], &keys[member as usize]).expect("a certificate");
-            thread::spawn(move || hear(&listener, member, &its_own, &told));
-        }
-        begin(&mut network);
-        assert!(network.wait_until(&[0], "current_view", 1, SOON), "it does not begin");
-        let address = &settings[0].members[0].address;
-        let links: Vec<Link> = credentials[1..].iter().map(|it| Link::begin(it, address)).collect();
-        links.iter().for_each(Link::show_life);
-        assert!(network.wait_until(&[0], "connections", 3, SOON), "it does not connect");
-        Others {
+        let mut others = Others {
             network,
-            links,
+            links: Vec::new(),
             keys,
             heard,
             genesis: settings[0].identity().expect("keys").genesis(),
-        }
+            told,
+        };
+        up.iter().for_each(|member| others.listen(*member));
+        begin(&mut others.network);
+        others.comes_to("current_view", 1);
+        let address = &settings[0].members[0].address;
+        others.links = credentials[1..].iter().map(|it| Link::begin(it, address)).collect();
+        others.links.iter().for_each(Link::show_life);
+        others.comes_to("connections", up.len() as u64);
+        others
+    }
+
+    /// A member begins to take connections.
+    pub fn listen(&self, member: u32) {
+        let (settings, told) = (settings_of(&self.network), self.told.clone());
+        let (here, keys) = (&settings[member as usize], &self.keys[member as usize]);
+        let listener = TcpListener::bind(&here.members[member as usize].address).expect("a free address");
+        let its_own = peers::credentials(here, keys).expect("a certificate");
+        thread::spawn(move || hear(&listener, member, &its_own, &told));
     }
 
     pub fn send(&mut self, from: usize, message: &Message) {
@@ -84,7 +97,7 @@ impl Others {
         Vote {
             subject,
             signer: Participant::new(signer as u32),
-            signature: self.keys[signer].sign(&subject.encode()).expect("a signature").to_vec(),
+            signature: self.keys[signer].sign(&subject).expect("a signature").to_vec(),
         }
     }
 
@@ -134,7 +147,7 @@ impl Others {
     }
 
     pub fn counts(&self, name: &str) -> u64 {
-        self.network.metric(0, name).expect("it answers")
+        self.network.metric(0, name).expect("a reply")
     }
 
     pub fn comes_to(&self, name: &str, least: u64) {
@@ -142,7 +155,7 @@ impl Others {
         assert!(is_there, "{name} is {} in place of {least}", self.counts(name));
     }
 
-    /// What the node sends until there was enough of it, or for so long.
+    /// Returns what the node sends until there was enough of it, or for so long.
     pub fn hears(&self, within: Duration, mut is_enough: impl FnMut(u32, &Message) -> bool) -> bool {
         let begun = Instant::now();
         while let Some(left) = within.checked_sub(begun.elapsed()) {

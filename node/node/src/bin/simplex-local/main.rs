@@ -36,7 +36,7 @@ struct Arguments {
     /// How many of the last nodes are faulty.
     #[arg(long, default_value_t = 0)]
     faulty: u32,
-    /// What the faulty nodes do: `equivocates` by default. It needs `--faulty`.
+    /// The fault of the faulty nodes: `equivocates` by default. It needs `--faulty`.
     #[arg(long, value_enum)]
     fault: Option<Fault>,
     /// How often an honest node is killed, and begun again.
@@ -81,7 +81,7 @@ struct Arguments {
     html: Option<PathBuf>,
 }
 
-/// How long nothing may be finalized before a run is given up.
+/// How long nothing may be finalized before a run is ended.
 const STANDSTILL: Duration = Duration::from_secs(30);
 
 /// Why a run ended.

@@ -1,4 +1,4 @@
-//! What is printed and drawn of a run.
+//! The report and the picture of a run.
 
 use super::{Arguments, Ended, STANDSTILL};
 use simplex_node::audit::{contradictions, disagreements, quantile};
@@ -31,7 +31,7 @@ pub struct Run {
     pub took: Duration,
     /// Who was killed, in order.
     pub kills: Vec<Kill>,
-    /// What each node counted last; `None` of one that did not reply.
+    /// The last counts of each node; `None` of one that did not reply.
     pub metrics: Vec<Option<Metrics>>,
     /// The honest nodes that ended by themselves.
     pub left: Vec<u32>,
@@ -115,7 +115,7 @@ fn replace(file: &mut File, text: &str) -> io::Result<()> {
     file.write_all(text.as_bytes())
 }
 
-/// What is not as it has to be.
+/// Returns what is not as it has to be.
 fn problems(network: &Network, arguments: &Arguments, run: &Run, chains: &[Vec<Link>], votes: &[Line]) -> Vec<String> {
     let honest = network.honest();
     let of_honest = votes.iter().filter(|vote| honest.contains(&vote.signer));
@@ -159,7 +159,7 @@ fn shares(metrics: &Metrics) -> Option<String> {
     ))
 }
 
-/// What a view of its last lifetime cost a node; `None` where the node did not count that.
+/// Returns what a view of its last lifetime cost a node; `None` where the node did not count that.
 fn costs(metrics: &Metrics) -> Option<String> {
     let views = metrics.get("current_view")?.max(1) as f64;
     let of_a_view = |name| Some(metrics.get(name)? as f64 / views);

@@ -39,7 +39,7 @@ impl Members {
         Vote {
             subject,
             signer: Participant::new(signer as u32),
-            signature: self.keys[signer].sign(&subject.encode()).expect("a signature").to_vec(),
+            signature: self.keys[signer].sign(&subject).expect("a signature").to_vec(),
         }
     }
 
@@ -58,7 +58,7 @@ impl Members {
         signers.iter().map(|signer| self.vote(*signer, subject)).collect()
     }
 
-    /// Whether a message of a member is passed on, and how many signatures are verified for that.
+    /// Returns whether a message of a member is passed on, and how many signatures are verified for that.
     fn reads(&self, from: u32, message: &Message) -> (bool, u64) {
         let (before, frame) = (self.reader.keys.verified(), message.frame());
         let mut link = self.reader.connection(Participant::new(from));
