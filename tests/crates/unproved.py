@@ -1,8 +1,8 @@
 #!/usr/bin/env python3
-"""What can be seen of the crates without a proof: their layout, and their tests and the stored run, compiled unproved.
+"""Tests the crates without a proof: their layout, and their tests and the stored run, compiled unproved.
 
     tests/crates/unproved.py --layout             the layout of each crate's files, as `rt fmt` writes it
-    tests/crates/unproved.py --rows [--program PATH]     each crate's tests by `rt try --test`, and the stored run of `viewstate`
+    tests/crates/unproved.py --rows [--program PATH]     each crate's tests as `rt try --test` runs them, and the stored run of `viewstate`
 
 It ends with status 1 where something is not as it has to be, or where fewer tests ran than are asked for."""
 
@@ -17,20 +17,21 @@ from concurrent.futures import ThreadPoolExecutor
 from pathlib import Path
 
 sys.path.insert(0, str(Path(__file__).resolve().parents[1]))
-from lib import program
-from lib.edits import batches
+from lib import kit, program
 from lib.floors import lacking
 from lib.program import ROOT
 
 LEAST = {"tests": 70}
 # How long a test may take: those that read and write byte by byte take half a minute beside other work.
 SECONDS = "300"
+# How many steps the kit's interpreter takes, which runs them first, as `rt try` asks for.
+STEPS = "20000000"
 ENDED = re.compile(r"(\d+) passed")
 
 
 def layout():
     """The crates whose files are not laid out as `rt fmt` does."""
-    rt = batches.kit()
+    rt = kit.guarded()
     for crate in rt.rtlib.crates_below(str(ROOT)):
         out = io.StringIO()
         with tempfile.TemporaryFile("w+") as out:
@@ -45,8 +46,10 @@ def crates_with_tests():
 
 
 def ran(crate):
-    """What `rt try --test` printed of a crate, and its status."""
-    tried = subprocess.run(["rt", "try", "--test", "--seconds", SECONDS], cwd=ROOT / "crates" / crate, capture_output=True, text=True, check=False, stdin=subprocess.DEVNULL)
+    """What the run of a crate's tests printed, and its status."""
+    folder = ROOT / "crates" / crate
+    tests = kit.words_to_try(folder, "--steps", STEPS, "--seconds", SECONDS, tests=True)
+    tried = subprocess.run(tests, cwd=folder, capture_output=True, text=True, check=False, stdin=subprocess.DEVNULL)
     return crate, tried.returncode, tried.stdout + tried.stderr
 
 

@@ -21,7 +21,7 @@ from pathlib import Path
 sys.path.insert(0, str(Path(__file__).resolve().parents[1]))
 from lib.program import ROOT
 
-# What is proved alone, in this order: a name stands for its crate and those below it.
+# The crates that are proved alone, in this order, each with those below it.
 ALONE = ("simplex_round", "simplex_voter", "simplex_member")
 LEFT_OUT = shutil.ignore_patterns("out", "must-fail")
 AHEAD = "ahead: "

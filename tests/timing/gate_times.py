@@ -1,10 +1,10 @@
 #!/usr/bin/env python3
-"""Runs a command that proves crates, such as `rt ci`, and tells what its checks took of the processors, by crate and step.
+"""Runs a command that proves crates, such as `rt ci`, and prints what its checks took of the processors, by crate and step.
 
 The steps are the proof, the proof and build of the tests, the seed (the same proof once more, which a crate's must-fail edits begin with),
 and the edits, with how many were tried; in processor seconds of all processes of a step. They are read off /proc once a second, so what
 the last second of a process took is not counted. Beside them a small proof of the kit's own, the *reference*, runs every four minutes: it
-tells how fast the machine was in that minute, and each step is counted in the seconds that it would have taken where the reference takes
+says how fast the machine was in that minute, and each step is counted in the seconds that it would have taken where the reference takes
 as long as the stored table says (`tests/timing/gate_times.txt`).
 
     tests/timing/gate_times.py [--told FILE] COMMAND ..      prints the table; what the command prints goes to FILE too

@@ -1,5 +1,5 @@
 #!/usr/bin/env python3
-"""Tells what a check of a crate took its time for, function by function, from the folder in which it keeps what it has proved.
+"""Prints what a check of a crate took its time for, function by function, from the folder in which it keeps what it has proved.
 
     cd crates/NAME && rm -rf out/incremental && rt check --jobs 1       keeps it in out/incremental
     tests/timing/proof_times.py crates/NAME/out/incremental [--most N]

@@ -6,11 +6,7 @@ functions that no edit turns are asked for too, and one must be proved: a copy t
 
 What a check proves is kept for the crate's next batch, in a folder that the caller gives."""
 
-import importlib.machinery
-import importlib.util
 import re
-import shutil
-import sys
 from pathlib import Path
 from typing import NamedTuple
 
@@ -26,17 +22,6 @@ OF_A_NAME = re.compile(r"has no field|is not in scope|has no `|was not admitted"
 OF_A_CALL = re.compile(r"^(?:no proof|not proved): it calls `[^`]*`, which is not proved$")
 MOST_NAMES = 12
 WITNESSES = 4
-
-
-def kit():
-    """The kit's command `rt`, as a module: its check of a copy of a crate, and its crates."""
-    folder = Path(shutil.which("rt")).resolve().parent.parent / "bin"
-    sys.path.insert(0, str(folder))
-    loader = importlib.machinery.SourceFileLoader("rt", str(folder / "rt"))
-    made = importlib.util.module_from_spec(importlib.util.spec_from_loader("rt", loader))
-    loader.exec_module(made)
-    made.rtlib.guarded()
-    return made
 
 
 class Trial(NamedTuple):
