@@ -1,8 +1,8 @@
 #!/usr/bin/env python3
-"""What a statement makes its reader believe: the definitions of specs/ that it reaches through its imports, counted.
+"""Counts what a reader of a statement has to believe: the definitions of specs/ that it reaches through its imports.
 
     tests/pages/believed.py            prints each statement's definitions and lines, crate by crate
-    tests/pages/believed.py --check    fails where docs/GUARANTEES.md tells other numbers
+    tests/pages/believed.py --check    fails where docs/GUARANTEES.md has other numbers
 
 A line is one with code; comments, empty lines, imports and `module` lines don't count. What cancels between two contracts is
 named (`taken_as_it_is`): it counts as one line, and what it stands on isn't looked at.
@@ -151,7 +151,7 @@ def by_crate(counts):
 
 
 def told(sums):
-    """The sums as the page tells them."""
+    """The sums on the page."""
     crates = sorted(sums, key=lambda crate: -sums[crate][1])
     return [f"{sums[crate][0]} definitions of {sums[crate][1]} lines in `{crate}`" for crate in crates]
 

@@ -1,11 +1,11 @@
 #!/usr/bin/env python3
-"""That what stands twice in the repository stands there with the same content.
+"""Tests that texts which the repository has twice are the same.
 
 The program is deterministic: the same lines behind the same arguments have the same reply wherever they are written, in the pages
 of `tests/scripts`, in `docs/PROGRAM.md`, the program's own run and the stored schedules. The tables of
 `crates/tests_program/src/program` are those that `tests/lib/tables.py` writes from these pages. And copies of source,
 output, numbers and names in the docs are those of what they are copied from. A must-fail edit names a text of the source, which
-still stands there.
+is still there.
 
     tests/pages/copies.py [--program PATH]       with a built program, the picture in docs/TESTED.md too
 

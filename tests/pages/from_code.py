@@ -145,7 +145,7 @@ def tables_page():
 
 
 def faults():
-    """What a page lacks, and pages that are not what the code says."""
+    """The gaps of pages, and pages that are not what the code says."""
     seen = {title: len(rows) for title, _, rows in tables()} | {"laws": sum(map(len, laws().values()))}
     yield from lacking(seen, LEAST)
     for page, text in ((TABLES, tables_page()), (LAWS, laws_page())):

@@ -1,5 +1,5 @@
 #!/usr/bin/env python3
-"""That the paths in pages lead somewhere and their words are the field's, and how many words they have.
+"""Tests that paths in pages lead somewhere and that words are the field's, and counts the words.
 
 Each `ghost use` and `use` line in a fenced block of the README, of `docs/**/*.md` and of `crates/*/CALLING.md`, and each path of
 the repository's crates between backquotes, names a module that stands here, and the names that are taken from it stand in it. Of
@@ -50,7 +50,7 @@ def pages():
 
 
 def names_in(text):
-    """The names of a list, as it stands between braces."""
+    """The names of a list between braces."""
     return [it.strip().split(" as ")[0].strip() for it in (text or "").split(",") if it.strip()]
 
 

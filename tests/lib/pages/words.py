@@ -30,7 +30,10 @@ WIDTH = 120
 WORD = re.compile(r"[A-Z]?[a-z0-9]+")
 NO_GERUNDS = {"covering", "encoding", "missing", "nothing", "outstanding", "pending", "rising"}
 MAY_BE_LONG = re.compile(r'^\s*((pub |ghost )?use |#!\[)|"|\\n\\$')
-COMMENTED = (("crates/**/*.rt", "//"), ("crates/**/*.antt", "--"), ("bindings/**/*.rs", "//"))
+COMMENTED = (("crates/**/*.rt", "//"), ("crates/**/*.antt", "--"), ("bindings/**/*.rs", "//"), ("node/**/*.rs", "//"))
+# Documentation says first what it is of: a noun, or what a function does.
+DOCUMENTED = ("bindings/**/*.rs", "node/**/*.rs")
+OPENING = re.compile(r"^[/!] (What|Whether|That|Of)\b")
 
 
 def files(pattern):
@@ -105,10 +108,20 @@ def gerunds():
             yield from (f"{path.relative_to(ROOT)}: {it!r} is a gerund: name the module by a noun" for it in found)
 
 
+def openings():
+    """The documentation of Rust that does not begin with its subject, but with a question's word."""
+    for pattern in DOCUMENTED:
+        for path in files(pattern):
+            place = path.relative_to(ROOT)
+            for line, text in comments_in(path, "//"):
+                yield from (f"{place}:{line}: begin with a noun or with a verb, not with {it[1]!r}" for it in OPENING.finditer(text))
+
+
 def faults():
     """What is wrong with the words of comments and of scripts."""
     yield from long_lines()
     yield from gerunds()
+    yield from openings()
     for path in scripts():
         place = path.relative_to(ROOT)
         for line, text in texts_in(path):
