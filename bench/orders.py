@@ -12,7 +12,7 @@ def falling(count):
 
 
 def middle_outward(count):
-    """From the middle to both ends in turn."""
+    """From the middle to both ends by turns."""
     low = count // 2
     for step in range(1, count + 1):
         yield low + (step // 2 + 1 if step % 2 else 1 - step // 2)
@@ -25,7 +25,7 @@ def shuffled(count):
 
 
 def two_runs(count):
-    """Two rising runs, a view of each in turn."""
+    """Two rising runs, a view of each by turns."""
     half = count // 2
     return (view for low in range(1, half + 1) for view in (low, half + low))
 

@@ -24,7 +24,7 @@ def literal(text):
 
 
 def lines_of(script):
-    """The literal of a script's lines: a single line stands in one piece."""
+    """The literal of a script's lines: a single line is one piece."""
     told = [f"{line}{scripts.REPLIED}{reply}" for line, reply in zip(script.lines, script.replies)]
     told += script.lines[len(script.replies):]
     rows = [literal(row) + r"\n" for row in told]
@@ -54,7 +54,7 @@ def table(page):
     """The file of a page's table."""
     name, count = page.name.upper(), len(page.scripts)
     if page.name == scripts.MISUSES:
-        head = f"/// What each shows, and the command line.\npub static {name}: [(&str, &str); {count}] = [\n"
+        head = f"/// The purpose of each row, and the command line.\npub static {name}: [(&str, &str); {count}] = [\n"
         return f"//! {page.title}\n{WRITTEN.format(page.name)}\n{head}{''.join(pair(it) for it in page.scripts)}];\n"
     head = f"use super::script::Script;\n\npub static {name}: [Script; {count}] = [\n"
     return f"//! {page.title}\n{WRITTEN.format(page.name)}\n{head}{''.join(entry(it) for it in page.scripts)}];\n"

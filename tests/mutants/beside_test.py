@@ -1,5 +1,5 @@
 #!/usr/bin/env python3
-"""Tries what must-fail edits wait for beside a run of `rt ci`: lines as the kit writes them, one after the other.
+"""Tests what must-fail edits wait for beside a run of `rt ci`: lines as the kit writes them, one after the other.
 
     tests/mutants/beside_test.py"""
 

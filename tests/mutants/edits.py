@@ -24,6 +24,7 @@ from concurrent.futures import ThreadPoolExecutor
 from pathlib import Path
 
 sys.path.insert(0, str(Path(__file__).resolve().parents[1]))
+from lib import kit
 from lib.edits import batches, edits
 from lib.edits.beside import Gate
 from lib.floors import lacking
@@ -156,7 +157,7 @@ def tried(rt, crates, chosen, jobs, deadline, gate):
 def main():
     given, begun = options(), time.monotonic()
     os.chdir(ROOT)
-    rt = batches.kit()
+    rt = kit.guarded()
     crates = {crate.name: crate for crate in rt.rtlib.crates_below(str(ROOT))}
     every = edits.edits_in(edits.TRIED_IN_BATCHES) if given.gate else edits.all_edits()
     by_the_kit = edits.edits_in(edits.TRIED_BY_THE_KIT) if given.gate else []

@@ -1,5 +1,5 @@
 #!/usr/bin/env python3
-"""That the sweeps can fail: wrong bodies, each built unproved, and the schedule or the refusal of memory that finds each.
+"""Tests that the sweeps can fail: wrong bodies, each built unproved, and the schedule or the refusal of memory that finds each.
 
 A wrong body is a must-fail edit, made in a copy of the repository and built by `rt try`, which proves nothing. The stored schedules
 come first, then random ones. A law of one member's votes is mostly what breaks first; with `--agreement` random networks continue

@@ -3,7 +3,7 @@
 
 A run ends by itself with status 0 once all its views are finalized and every member knows of the last of them; it ends early
 where two members hold two proposals final in one view, or where nothing makes progress. Links lose up to half of all messages, the
-answers to fetches among them; faulty leaders stay silent or send two proposals; a member crashes and resumes from its disk.
+replies to fetches among them; faulty leaders stay silent or send two proposals; a member crashes and resumes from its disk.
 Asked for besides: no record grows past what the engines' settings let stand, fetches are asked where messages are lost, and
 in the end no more are open than for a few views. Of one network requests for memory are refused, one in each of
 many runs: each ends with the error, and has printed a beginning of what it prints with none refused.
@@ -59,7 +59,7 @@ SETTINGS = (
 
 
 class Wrong(NamedTuple):
-    """A wrong body: in which file below `crates` what stands instead of what."""
+    """A wrong body: a file below `crates`, a text there, and what is put in its place."""
 
     name: str
     path: str

@@ -1,18 +1,18 @@
 #!/usr/bin/env python3
-"""What the core does where memory is refused in the middle of a call: what still works, what stays, and what is replied then.
+"""Refuses memory in the middle of calls, and looks at what still works, what stays, and what is replied then.
 
 `tests/programs/enduring` is a second program, which continues where `viewstate` would end. It is asked each script of the repository's
 tests, and the Nth request for memory within the core fails, for each N until a run meets no refusal. Asked:
 
   a voter's state      the failing call fails it, and each later one is refused; after a refusal in `best` it works
-  a member             nothing has changed, and the call asked again answers as ever; or it has failed, its record stands, and a
+  a member             nothing has changed, and the call asked again replies as ever; or it has failed, its record stays, and a
                        restart succeeds, with the laws of votes over both lifetimes
-  restart, resume, recover, and the start of a resolver   the record stays, and what is asked again answers as ever; what the start
+  restart, resume, recover, and the start of a resolver   the record stays, and what is asked again replies as ever; what the start
                        of a resolver only notes to find it sooner it does without
   run                  no replies, or those of a member that failed
   a resolver           as a voter's state, and `produce` as `best`; the set of open fetches is that of a beginning of the effects
 
-A run that meets no refusal answers as the script has it.
+A run that meets no refusal replies as the script has it.
 
     tests/sweeps/memory.py [--enduring PATH] [--every N]
     tests/sweeps/memory.py --schedules          what the stored schedules of networks ask each member besides

@@ -173,7 +173,7 @@ def least_of(name, runs, given):
 
 
 def play_part(pool, name, play, runs, given):
-    """Plays the runs of a part, and tells what it saw; how many are broken, or what was seen too seldom."""
+    """Plays the runs of a part, and prints what it saw. Returns how many are broken, or what was seen too seldom."""
     seen, failed, start = Counter(), 0, time.monotonic()
     for run, (saw, picture, broken) in zip(runs, pool.map(partial(told, play, given.draw), runs, chunksize=4)):
         seen += saw

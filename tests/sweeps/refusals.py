@@ -1,5 +1,5 @@
 #!/usr/bin/env python3
-"""What the built program does where memory, input or output is refused, and with lines that nobody should write.
+"""Refuses memory, input and output to the built program, and passes it lines that nobody should write.
 
 For each script of the repository's tests: the Nth request for memory, the Nth read and the Nth write fail, for each N until a
 run meets no refusal, and reads and writes are short. Asked: whole reply lines only, a beginning of the right transcript, then

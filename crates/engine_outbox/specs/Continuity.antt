@@ -59,7 +59,7 @@ module _ {S L D K G C : Type 0} (bytes_of : C → List ℕ) where
       (given : List (Output S D Stored K G C)) → IsJournaled given member → member.failed ≡ false
       → IsRecordOf bytes_of member.member (journal_of (given ++ member.outbox.queue.items))
 
-  -- unless it has failed
+  -- until the engine fails, all of the record is queued to be stored, or was
   abbrev pub IsWholeAlive : Journaled S L D K G C → Type 0
   IsWholeAlive member = member.failed ≡ false → IsWhole member
 

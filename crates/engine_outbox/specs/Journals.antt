@@ -27,12 +27,12 @@ module _ {S D J K G C : Type 0} where
   written journal (Replace entries beside) = record { entries = entries.items; beside = Some beside }
   written journal _ = journal
 
-  -- the same for each of these, in order
+  -- outputs are carried out in order
   abbrev pub written_all : Journal S D J K G C → List (Output S D J K G C) → Journal S D J K G C
   written_all journal [] = journal
   written_all journal (out ∷ rest) = written_all (written journal out) rest
 
-  -- the same for all since the beginning
+  -- the journal after all outputs since the beginning
   abbrev pub journal_of : List (Output S D J K G C) → Journal S D J K G C
   journal_of outs = written_all empty_journal outs
 

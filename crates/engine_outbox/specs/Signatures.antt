@@ -42,7 +42,7 @@ module _ {S L D K G C : Type 0} (is_signature : K → Subject D → G → Type 0
       (i : ℕ) (key : K) → SignsBy i key begun.facts → AreSigned is_signature i key (votes_recorded begun.votes)
       → IsSignedBy i key [] member
 
-  -- they still are once these were returned
+  -- votes that were signed so still are once these outputs were returned
   abbrev pub EmitsSigned : List (Output S D Stored K G C) → Journaled S L D K G C → Journaled S L D K G C → Type 0
   EmitsSigned out old new = (i : ℕ) (key : K) (given : List (Output S D Stored K G C)) → IsSignedBy i key given old
       → IsSignedBy i key (given ++ out) new

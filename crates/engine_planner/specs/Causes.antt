@@ -37,7 +37,7 @@ pub data Cause (S D K G C : Type 0) : Type 0 where
   Request : Ask → Cause S D K G C
   -- a proposal that this member made
   Arrival : ℕ → Proposal D → Cause S D K G C
-  -- a certificate on this
+  -- a certificate on this subject
   Quorum : Subject D → Cause S D K G C
   -- what the host must pass to the member
   Message : Task D → Cause S D K G C
@@ -50,7 +50,7 @@ module _ {S D K G C : Type 0} where
   of_work (AskPeer ask) = Request ask ∷ []
   of_work work = WorkItem work ∷ []
 
-  -- the same for each of these
+  -- each item of a list of work is its own cause
   abbrev pub of_works : List (Work S D K G C) → List (Cause S D K G C)
   of_works [] = []
   of_works (work ∷ rest) = of_work work ++ of_works rest
@@ -107,12 +107,12 @@ module _ {S D K G C : Type 0} where
   is_request ask (Request it) = same_ask it ask
   is_request ask _ = false
 
-  -- what is not asked of peers
+  -- a cause that is not a request to a peer
   abbrev pub is_other : Cause S D K G C → Bool
   is_other (Request _) = false
   is_other _ = true
 
-  -- the same of these
+  -- the causes that are not requests to peers
   abbrev pub unrequested : List (Cause S D K G C) → List (Cause S D K G C)
   unrequested causes = filter is_other causes
 

@@ -188,7 +188,7 @@ module _ {S D K G C : Type 0} (bytes : D → List ℕ) (bytes_of : C → List �
   abbrev pub effects_due : Certificate S D K G C → Plan S D K G C → List Effect
   effects_due replied old = effects old.repair.resolver.state (update bytes (certificate_facts bytes_of replied))
 
-  -- it receives one
+  -- the resolver receives a certificate
   pub record IsResolverNotified (replied : Certificate S D K G C) (old : Plan S D K G C)
       (repair : Repair) : Type 0 where
     pub made : IsMade (update bytes (certificate_facts bytes_of replied)) old.repair.resolver

@@ -34,7 +34,7 @@ abbrev pub is_notarized : FetchKind → ℕ → Call → Bool
 is_notarized kind view (call.Notarization v) = same_kind Notarization kind && v == view
 is_notarized kind view _ = false
 
--- one of these calls of a resolver ends it
+-- one of these calls of a resolver ends the fetch of this kind and view
 abbrev pub ended_by : ResolverFacts → List Call → FetchKind → ℕ → Bool
 ended_by x [] kind view = false
 ended_by x (it ∷ rest) kind view =
@@ -62,7 +62,7 @@ module _ {S D K G C : Type 0} where
   is_missing_certificate kind view (MissingCertificate k v) = same_kind k kind && v == view
   is_missing_certificate kind view _ = false
 
-  -- it is by one of these, or it is asked for already
+  -- one of these causes names the certificate as missing, or it is asked for already
   abbrev pub with_missing_certificate : (FetchKind → ℕ → Bool) → List (Cause S D K G C) → FetchKind → ℕ → Bool
   with_missing_certificate asked given kind view = asked kind view || list_any (is_missing_certificate kind view) given
 

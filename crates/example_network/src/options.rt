@@ -25,7 +25,7 @@ pub struct Options {
     pub is_quiet: bool,
 }
 
-/// What the arguments ask for.
+/// The options that the arguments name.
 #[derive(Clone, Copy)]
 pub enum Asked {
     Help,

@@ -11,7 +11,7 @@ use Rattle.laws_safety.specs.Replicas.{Replica, Backed}
 use Rattle.laws_progress.specs.ViewCauses.{judged_of}
 use Rattle.laws_chains.specs.Parents.{EachLifetime, HandoffsAreWitnessed, IsCertifiedByHonest}
 
--- the view that the last of these names as its parent
+-- the view that the last proposal of a chain names as its parent
 abbrev pub lowest_parent : {D : Type 0} → Proposal D → List (Proposal D) → ℕ
 lowest_parent p [] = p.parent
 lowest_parent p (q ∷ rest) = lowest_parent q rest
@@ -44,13 +44,13 @@ module _ {K L D : Type 0} where
     pub holds : (final : Proposal D) → Backed network (subject.Finalize final) → final.round.view ≤ tip.round.view
         → Contains (tip ∷ below) final
 
-  -- one leads from each finalized proposal
+  -- such a chain leads from each finalized proposal
   abbrev pub FinalizedReachGenesis : List (Replica K L D) → Type 0
   FinalizedReachGenesis network =
       HandoffsAreWitnessed network → ParentsAreAwaited network
       → (final : Proposal D) → Backed network (subject.Finalize final) → ReachesGenesis network final
 
-  -- and from each notarized one that an honest member certified
+  -- such a chain leads from each notarized proposal that an honest member certified
   abbrev pub CertifiedReachGenesis : List (Replica K L D) → Type 0
   CertifiedReachGenesis network =
       HandoffsAreWitnessed network → ParentsAreAwaited network

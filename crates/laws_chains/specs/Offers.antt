@@ -26,10 +26,10 @@ module _ {K L D : Type 0} (same : D → D → Bool) (elect : Elect L) where
       IsStepOnOffer m step × (next : MemberFacts K L D) × IsStep same elect m step replied next
       × IsRunOnOffers next steps rest end
 
-  -- the same in all its lifetimes
+  -- in all its lifetimes a member receives verdicts only on its offers
   abbrev pub RunsOnOffers : Execution K L D → Type 0
   RunsOnOffers s = (end : MemberFacts K L D) × IsRunOnOffers (new_member same elect s.start) s.steps s.replies end
 
-  -- if this is so of each honest member, they judge only what they offered
+  -- if each honest member receives verdicts only on its offers, it offered each proposal that a verdict found good
   abbrev pub OffersAreAwaited : List (Replica K L D) → Type 0
   OffersAreAwaited network = EachHonest network (λ i s. RunsOnOffers s) → VerdictsAreOnOffers network

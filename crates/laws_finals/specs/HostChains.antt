@@ -41,13 +41,13 @@ module _ {S L D K G C : Type 0} (hosts : List (Host S L D K G C)) where
     pub holds : (final : Proposal D) → IsReportedFinal hosts final → final.round.view ≤ tip.round.view
         → Contains (tip ∷ below) final
 
-  -- one leads from each reported proposal
+  -- such a chain leads from each reported proposal
   abbrev pub FinalsReachGenesis : Type 0
   FinalsReachGenesis = (final : Proposal D) → IsReportedFinal hosts final → HasChainToGenesis final
 
 module _ {S L D K G C : Type 0} (same : D → D → Bool) (elect : Elect L) (bytes_of : C → List ℕ)
     (keys_of : S → List K) (me : S → Option ℕ) (terms : L → Terms) (elects_early : L → Bool) where
-  -- one does where each honest host stops within lifetimes
+  -- such a chain leads from each reported proposal, if each honest host stops within lifetimes
   abbrev pub LifetimesReachGenesis : List (Host S L D K G C) → Type 0
   LifetimesReachGenesis hosts =
       HostsStopWithinLifetimes same elect bytes_of keys_of me terms elects_early hosts
@@ -59,7 +59,7 @@ module _ {S L D K G C : Type 0} (same : D → D → Bool) (elect : Elect L) (byt
   HostParentsAreAwaited hosts members =
       NoHostVotesAhead hosts terms ⊎ EachHonest members (λ i s. RunsOnOffers same elect s)
 
-  -- one does whichever members the hosts have
+  -- such a chain leads from each reported proposal, whichever members the hosts have
   abbrev pub MembersReachGenesis : ℕ → List (Host S L D K G C) → Type 0
   MembersReachGenesis term_length hosts =
       (members : List (Replica K L D)) → AreMembers same elect term_length hosts members

@@ -68,7 +68,7 @@ module _ {S L D K G C : Type 0} (same : D → D → Bool) (elect : Elect L) (byt
       ⊎ ((life : Lifetime K L D) × IsLifetime same elect bytes_of MayExist earlier before process life
       × StopsWithinLifetimes MayExist (earlier ++ trace_in life) (before ++ process.carried) rest))
 
-  -- so does each honest host
+  -- each honest host stops within lifetimes, or before it carries anything out
   abbrev pub HostsStopWithinLifetimes : List (Host S L D K G C) → Type 0
   HostsStopWithinLifetimes hosts =
       (i : ℕ) (processes : List (Process S L D K G C)) → slice_get hosts i ≡ Some (Honest processes)

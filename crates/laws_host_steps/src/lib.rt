@@ -1,4 +1,4 @@
-//! What the hosts of a network may do next, and that the premises of `hosts_agree` stay true.
+//! The next steps of a network's hosts: the premises of `hosts_agree` stay true.
 #![tactic(auto)]
 
 pub mod steps;

@@ -13,7 +13,7 @@ module _ {S L D K G C : Type 0} (keys_of : S → List K) where
       IfSome core.member.facts.life
       (λ x. HoldsUpTo (length (keys_of batcher.scheme)) (next_term_start x.terms.term_length x.current) batcher)
 
-  -- this stays so
+  -- if each stored vote was a member's, and of no view above those whose votes are taken, each one still is
   pub record StaysBounded (old : Journaled S L D K G C) (held : Batcher S D K G C) (new : Journaled S L D K G C)
       (left : Batcher S D K G C) : Type 0 where
     pub stays : HoldsNoneAhead old held → HoldsNoneAhead new left

@@ -35,7 +35,8 @@ abbrev pub FetchesTheReported : {S L D K G C : Type 0} → Engine S L D K G C �
 FetchesTheReported engine =
     IfSome engine.core.member.facts.life (λ x. FetchesUpTo (highest_received engine.core.member.facts x) engine.plan)
 
--- this stays so, whatever its member has done so far
+-- an engine that asked for certificates of no view above those that its member had heard of still asks for none,
+-- whatever its member has done so far
 abbrev pub FetchesNoHigher : {S L D K G C : Type 0} → (D → D → Bool) → Elect L → Engine S L D K G C
     → Engine S L D K G C → Type 0
 FetchesNoHigher same elect old new =

@@ -51,7 +51,7 @@ module _ {S L D K G C : Type 0} where
   pending_causes engine = of_works (work_in engine.core.outbox.queue.items) ++ planned_causes engine.plan
 
 module _ {S D K G C : Type 0} where
-  -- this is one of these
+  -- a cause is among others
   abbrev pub IsIn : Cause S D K G C → List (Cause S D K G C) → Type 0
   IsIn the_cause causes = AreAmong (the_cause ∷ []) causes
 

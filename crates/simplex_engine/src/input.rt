@@ -13,11 +13,11 @@ pub enum Input<S: CertificateScheme, D> {
     Vote(Vote<D, S::Signature>),
     /// A certificate that the host has verified.
     Certificate(Certificate<S, D>),
-    /// Whether the application found the view's proposal valid, after `Work::Verify`.
+    /// True if the application found the view's proposal valid, after `Work::Verify`.
     Verified(View, bool),
     /// The payload that the application built in the context of a `Work::Build`.
     Built(Context<D, S::PublicKey>, D),
-    /// Whether the application certified the view's notarized proposal. It is ignored if the member did not offer the
+    /// True if the application certified the view's notarized proposal. It is ignored if the member did not offer the
     /// proposal in this lifetime, or has its verdict.
     Certified(View, bool),
     /// The view times out for a reason that the engine can't see by itself.

@@ -10,7 +10,7 @@ use std::num::NonZeroU32;
 /// The most members of a network.
 const MOST_MEMBERS: u64 = 1000;
 
-/// What the program serves.
+/// The mode in which the program serves.
 #[derive(Clone, Copy)]
 pub enum Mode {
     /// One of this number of members, which signs by its key or has none. It fixes the views of a term, and how many

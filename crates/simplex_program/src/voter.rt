@@ -43,7 +43,7 @@ pub(crate) struct Voter {
 pub enum VoterAnswer {
     /// The reply to a line's call.
     Reply(Reply<PlainScheme, PlainDigest>),
-    /// Whether the member was restarted.
+    /// True if the member was restarted.
     Restarted(Result<(), RecoverError>),
     /// How many entries the record has.
     Entries(usize),

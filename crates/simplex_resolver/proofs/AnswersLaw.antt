@@ -25,7 +25,7 @@ use Rattle.simplex_resolver.proofs.Last.{IsLastKept, last_kept}
 
 -- ---- stored certificates come from received ones
 
-pub record Comes (t : ℕ) (calls : List Call) (x : ResolverFacts) : Type 0 where
+pub record CertificateOrigins (t : ℕ) (calls : List Call) (x : ResolverFacts) : Type 0 where
   pub final : (f : ℕ) (e : List ℕ) → x.finalization ≡ Some (f, e) → WasMade (Finalization f e) calls
   pub nullified : (u : ℕ) (e : List ℕ) → finmap.get x.nullifications.by_view u ≡ Some e
       → WasMade (Nullification u e) calls
@@ -52,9 +52,9 @@ still_certified : (succeeds fails before failed now was : Bool) → now ≡ (suc
     → ((succeeds || before) ≡ true → (fails || failed) ≡ false) → now ≡ (succeeds || before)
 still_certified succeeds fails before failed now was is same none = grind (arith, is, same, none)
 
-comes_next : (t : ℕ) (calls : List Call) (x : ResolverFacts) (c : Call) → 0 < t → NamesAView c → FollowsCalls t calls x
-    → Comes t calls x → Comes t (c ∷ calls) (after x c)
-comes_next t calls x c long named st k =
+next_origins : (t : ℕ) (calls : List Call) (x : ResolverFacts) (c : Call) → 0 < t → NamesAView c
+    → FollowsCalls t calls x → CertificateOrigins t calls x → CertificateOrigins t (c ∷ calls) (after x c)
+next_origins t calls x c long named st k =
     let y = before_scan x c in
     let h = changed x c (subst (λ n. 0 < n) (sym st.length) long) named st.low in
     let n = kept x c in
@@ -99,8 +99,9 @@ comes_next t calls x c long named st k =
 nothing_at : (V : Type 0) (v : ℕ) (x : V) → finmap.get (finmap.empty {X = V} {R = nat_cmp}) v ≡ Some x → ⊥
 nothing_at V v x at = false≢true (sym (contains-empty V v) ∙ ap is_some at)
 
-comes : (t : ℕ) (calls : List Call) → 0 < t → AllByRecursion NamesAView calls → Comes t calls (facts_of t calls)
-comes t [] long named = record {
+certificate_origins : (t : ℕ) (calls : List Call) → 0 < t → AllByRecursion NamesAView calls
+    → CertificateOrigins t calls (facts_of t calls)
+certificate_origins t [] long named = record {
   final = λ f e at. absurd (let none : None ≡ Some (f, e) = at in cc);
   nullified = λ u e at. nothing_at (List ℕ) u e at;
   held = λ u high. contains-empty (List ℕ) u;
@@ -109,8 +110,9 @@ comes t [] long named = record {
   above = λ v there. absurd (false≢true (sym (contains-empty (Option (List ℕ)) v) ∙ there));
   above_failed = λ v there. absurd (false≢true (sym (contains-empty (Unit {0}) v) ∙ there));
 }
-comes t (c ∷ calls) long named = comes_next t calls (facts_of t calls) c long named.0 (stands t calls long named.1)
-    (comes t calls long named.1)
+certificate_origins t (c ∷ calls) long named =
+    next_origins t calls (facts_of t calls) c long named.0 (stands t calls long named.1)
+    (certificate_origins t calls long named.1)
 
 -- ---- the received calls
 
@@ -215,7 +217,7 @@ last_resort false false true t4 s1 s2 s3 s4 is = search rules
 last_resort false false false t4 s1 s2 s3 s4 is = rw is (search rules)
 
 module _ (t : ℕ) (calls : List Call) (x : ResolverFacts) (long : 0 < t) (named : AllByRecursion NamesAView calls)
-    (st : FollowsCalls t calls x) (k : Comes t calls x) where
+    (st : FollowsCalls t calls x) (k : CertificateOrigins t calls x) where
   settled_at : (v : ℕ) (kind : Kind) → is_settled x v kind ≡ is_settled_by t calls v kind
   settled_at v OfNullification = let final = st.final in let covered = st.covered v in
       by_cases (last_finalized x) (finalized_of calls) v (has_covering x.nullifications v)
@@ -387,7 +389,7 @@ pub answers_are_of_the_received : AnswersAreOfTheReceived
 answers_are_of_the_received t calls long named =
     let x = facts_of t calls in
     let st = stands t calls long named in
-    let k = comes t calls long named in
+    let k = certificate_origins t calls long named in
     record {
       settled = settled_at t calls x long named st k;
       uncertifiable = failed_at t calls x long named st k;

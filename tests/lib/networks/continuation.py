@@ -42,7 +42,7 @@ class Continuation:
         """The current view of a member, the last finalized one, and the lowest that is kept."""
         reply = self.network.ask(index, "view")
         if not reply.startswith("view "):
-            raise Stuck(f"member {index} answers {reply!r}")
+            raise Stuck(f"member {index} replies {reply!r}")
         return tuple(map(int, reply.split(" ")[1:]))
 
     def places(self):
@@ -52,7 +52,7 @@ class Continuation:
         """The reply to a line, which has to begin so."""
         reply = self.network.ask(index, line)
         if not reply.startswith(wanted):
-            raise Stuck(f"member {index} answers {reply!r} to {line!r}")
+            raise Stuck(f"member {index} replies {reply!r} to {line!r}")
         return reply
 
     def is_made(self, certificate):
@@ -204,7 +204,7 @@ class Synchronous(Continuation):
     Where a round changes nothing, all nullify their current views.
 
     What a host leaves out or does besides is said by flags, which the corners set: `gives_up_requests` (it supersedes a request
-    to build that no longer stands), `builds_ahead` (it takes requests for later views), `judges_unoffered` (it gives verdicts on
+    to build that is no longer valid), `builds_ahead` (it takes requests for later views), `judges_unoffered` (it gives verdicts on
     views that were not offered)."""
 
     bound = 30
@@ -240,7 +240,7 @@ class Synchronous(Continuation):
             self.give_up_views()
 
     def give_up_views(self):
-        """Each member that has a key nullifies the view where it stands."""
+        """Each member that has a key nullifies its current view."""
         for index, (current, _, _) in self.places().items():
             if index not in self.network.served.keyless:
                 self.expect(index, f"nullify {current}", f"nullify {current} ")
@@ -304,7 +304,7 @@ class Synchronous(Continuation):
         return words[0] != "none"
 
     def end_requests(self, index):
-        """Each request to build that is open is superseded, where it no longer stands, and else carried out."""
+        """Each request to build that is open is superseded, where it is no longer valid, and else carried out."""
         for view, parent in dict(self.network.records[index].building).items():
             if self.network.ask(index, f"supersede {view}") != "true":
                 self.carry_out(index, view, parent)
@@ -387,7 +387,7 @@ class Engine(Synchronous):
         self.hand_out_proposals()
 
     def hand_out_best(self, index):
-        """What a member answers to `best` goes to all."""
+        """The reply of a member to `best` goes to all."""
         kind, _, view = self.network.ask(index, "best").partition(" ")
         if view:
             self.hand_out(self.found(kind, int(view)))

@@ -117,7 +117,7 @@ class FairRun:
         self.make_certificates()
 
     def look(self, index):
-        """Where the member stands, and until when it waits."""
+        """The member's views, and until when it waits."""
         view, timeout = self.network.ask_all(index, ["view", f"timeout {self.network.now}"])
         _, current, finalized, _ = view.split(" ")
         self.views[index] = int(current), int(finalized)

@@ -70,7 +70,7 @@ class HostileRun:
                 self.step(index)
 
     def step(self, index):
-        """One burst of one member, and a look at where it stands then."""
+        """One burst of one member, and a look at its views then."""
         self.network.now += self.chance.randrange(300)
         if self.chance.random() < self.temper.restart:
             self.restart(index)
@@ -82,7 +82,7 @@ class HostileRun:
             self.work(index)
         reply = self.network.ask(index, "view")
         if not reply.startswith("view "):
-            raise ProgramEnded(f"member {index} serves no more: it answers {reply!r}")
+            raise ProgramEnded(f"member {index} serves no more: it replies {reply!r}")
         _, current, finalized, _ = reply.split(" ")
         self.waited[index] = self.waited[index] + 1 if int(current) == self.views[index][0] else 0
         self.views[index] = int(current), int(finalized)

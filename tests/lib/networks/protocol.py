@@ -18,7 +18,7 @@ class Terms:
     optimistic: int
 
     def index(self, view):
-        """The number of the term that a view stands in, from 0."""
+        """The number of a view's term, from 0."""
         return (view - 1) // self.length if view else 0
 
     def end(self, view):

@@ -125,6 +125,6 @@ class RecordedNetwork(Network):
                 if self.served.refuses_one_in:
                     held = self.records[index].entries = written
                 if held != written:
-                    raise Broken(f"member {index} has the record {written}, where its replies told {held}")
+                    raise Broken(f"member {index} has the record {written}, where its replies say {held}")
             elif self.ask(index, "record") != f"record {len(held)}":
-                raise Broken(f"member {index} has {self.ask(index, 'record')}, where its replies told {len(held)} entries")
+                raise Broken(f"member {index} has {self.ask(index, 'record')}, where its replies say {len(held)} entries")

@@ -1,4 +1,4 @@
-"""A member's resolver: a process of a built program, told what the member's record grows by."""
+"""A member's resolver: a process of a built program, which receives the new entries of the member's record."""
 
 import subprocess
 

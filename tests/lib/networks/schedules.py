@@ -1,7 +1,7 @@
 """Stored schedules of networks, each with what it has to show.
 
 A step is a line of text: the members that are asked, a colon, the line, and after ` => ` the reply that is wanted. Member 0
-is faulty: it leads the first term, tells each member another proposal if that serves it, and votes for everything."""
+is faulty: it leads the first term, sends each member another proposal if that serves it, and votes for everything."""
 
 from dataclasses import dataclass, field
 
@@ -127,7 +127,7 @@ def asked_again(views):
 
 
 def pruned_lives():
-    """25 views finalized in turn; once view 20 is, each member begins a new lifetime from a pruned record."""
+    """25 views finalized one after another; once view 20 is, each member begins a new lifetime from a pruned record."""
     views = [finalized_view(view, (view - 1) % 4) for view in range(1, 26)]
     again = joined("1 2 3: restart-pruned 0 205 => ok", "1 2 3: view => view 21 20 10", asked_again(range(1, 10)))
     return joined(*views[:20], again, *views[20:], asked_again(range(1, 10)))
@@ -198,7 +198,7 @@ def all_schedules(crashes=False):
     lives = ("restart 1", "restart-pruned 1", "crash") if crashes else ("restart 1", "restart-pruned 1")
     restarted = [with_restarts(it, life) for life in lives for it in FIRST_SCHEDULES]
     pruned = Schedule(
-        "pruned-lives", "25 views are finalized in turn, records are pruned at the twentieth, and no vote of a pruned view comes again",
+        "pruned-lives", "25 views are finalized one after another, records are pruned at the twentieth, and no vote of a pruned view comes again",
         Terms(1, 0), steps_in(pruned_lives()), {finalization(view, view - 1, view + 100): 4 for view in range(1, 26)},
     )
     return [*FIRST_SCHEDULES, *restarted, pruned]

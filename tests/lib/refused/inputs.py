@@ -52,7 +52,7 @@ def limit_lines(forms):
 
 
 def limit_cases():
-    """The lines at the limits, one by one and all in turn, in a new state and in others."""
+    """The lines at the limits, one by one and all together, in a new state and in others."""
     voter, resolver = (VOTER_FORMS, BARE_LINES, BEFORE), (RESOLVER_FORMS, ("outstanding", "replayed"), ("", "replayed\n"))
     for arguments, (forms, asked, befores) in ((VOTER, voter), (WIDE_VOTER, voter), (RESOLVER, resolver)):
         lines = list(limit_lines(forms))
@@ -87,7 +87,7 @@ def refused_cases():
 
 
 def last_line_cases():
-    """A last line that lacks its line feed is served like any other."""
+    """A last line without its line feed is served like any other."""
     for line in BARE_LINES:
         yield Case(VOTER, b"view\n" + line.encode(), 2, 0)
     yield Case(VOTER, b"", 0, 0)

@@ -55,7 +55,7 @@ class Sweep:
         return replies[::2], list(map(views_in, replies[1::2])), is_met
 
     def without_refusal(self):
-        """All is answered as the script has it, and the open fetches are those of the effects."""
+        """All replies are as the script has them, and the open fetches are those of the effects."""
         self.right, self.open, _ = self.ask()
         wants(OUT_OF_MEMORY not in self.right and STOPPED not in self.right, "with nothing refused", self.right)
         wanted = iter(zip(self.script.lines, self.script.replies))
@@ -80,7 +80,7 @@ class Sweep:
         self.seen[f"requests refused to {self.name}"] += 1
         place = next((place for place, reply in enumerate(replies) if reply in (OUT_OF_MEMORY, STOPPED)), None)
         if place is None:
-            raise NotAsAsked(f"request {number} is not told of: {replies}")
+            raise NotAsAsked(f"request {number} is not reported: {replies}")
         wants(replies[:place] == self.right[:place] and fetches[:place] == self.open[:place], f"request {number}, before", replies)
         if word_of(self.lines[place]) == "produce":
             self.seen["produce asked again"] += 1
@@ -102,7 +102,7 @@ class Sweep:
             wants(is_refused and still == fetches[place], f"request {number}, then {line!r} of a failed resolver", reply)
 
     def may_have_applied(self, reply):
-        """Whether effects may be applied where a call is answered so."""
+        """Returns whether effects may be applied after such a reply."""
         return reply == STOPPED
 
 

@@ -36,11 +36,11 @@ class Sweep:
         self.right = self.shown = None
 
     def watched(self, lines):
-        """The lines, each followed by what shows where the member stands and its record."""
+        """The lines, each followed by what shows the member's views and its record."""
         return [it for line in lines for it in (line, "view", "entries")]
 
     def without_refusal(self):
-        """All is answered as the script has it; a recovery and a resume find no fault in the record."""
+        """All replies are as the script has them; a recovery and a resume find no fault in the record."""
         replies, _ = self.program.ask(self.kind, self.script, self.watched(self.lines))
         self.right, self.shown = replies[::3], list(zip(replies[1::3], replies[2::3]))
         for line, reply, wanted in zip(self.lines, self.right, self.script.replies):
@@ -79,14 +79,14 @@ class Sweep:
     def does_without(self, number, told, shown):
         """The start of a resolver looks through the record where there is no memory to note its places, and all is as ever."""
         self.seen["requests that a replay did without"] += 1
-        wants("replay" in self.lines and told == self.right and shown == self.shown, f"request {number} is not told of", told)
+        wants("replay" in self.lines and told == self.right and shown == self.shown, f"request {number} is not reported", told)
 
     def before(self, place):
         """Where the member stood before a line, or None before the first one."""
         return self.shown[place - 1] if place else None
 
     def asks_again(self, number, place, shown):
-        """Nothing has changed, and the call that is asked again answers as ever."""
+        """Nothing has changed, and the call that is made again replies as ever."""
         self.seen["calls asked again"] += 1
         wants(self.before(place) in (None, shown[place]), f"request {number}: a member that did not fail has changed", shown[place])
         lines = self.lines[:place + 1] + self.lines[place:]

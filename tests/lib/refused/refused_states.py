@@ -60,7 +60,7 @@ class Sweep:
             return False
         self.seen["requests refused to a state"] += 1
         if OUT_OF_MEMORY not in replies:
-            raise NotAsAsked(f"request {number} is not told of: {replies}")
+            raise NotAsAsked(f"request {number} is not reported: {replies}")
         place = replies.index(OUT_OF_MEMORY)
         wants(replies[:place] == self.right[:place], f"request {number}, before it was refused", replies)
         if self.lines[place] == "best":

@@ -2,7 +2,7 @@
 //!
 //! Written by `tests/lib/tables.py` from `tests/scripts/misuses.md`.
 
-/// What each shows, and the command line.
+/// The purpose of each row, and the command line.
 pub static MISUSES: [(&str, &str); 19] = [
     ("no words", "viewstate"),
     ("another word", "viewstate peer 1"),
