@@ -5,7 +5,8 @@
     tests/pages/results.py --check    fails where the page is not what the table says
 
 A line `== TITLE` begins a table, and one `-- TEXT` is a paragraph above its rows. A row is what was tried, the result, the commit and the date,
-with ` :: ` between them. The commit is the one that was measured, or else the one that wrote the row."""
+with ` :: ` between them. The commit is the one that was measured, or the first of the main branch that has what was measured, or else the one
+that wrote the row."""
 
 import argparse
 import sys
@@ -19,7 +20,8 @@ PAGE = ROOT / "docs/inside/RESULTS.md"
 HEAD = """# Results
 
 Written by `tests/pages/results.py` from `tests/pages/results.txt`; `docs/TESTED.md` says what each script tries. A conflict that was tried is a certificate
-that contradicts a backed one, for which some honest member voted. The commit is the one that was measured, or else the one that wrote the row.
+that contradicts a backed one, for which some honest member voted. The commit is the one that was measured, or the first of the main branch that
+has what was measured, or else the one that wrote the row.
 """
 WRONG_BODIES = "Wrong bodies"
 
