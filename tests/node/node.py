@@ -23,11 +23,14 @@ import tempfile
 from pathlib import Path
 
 sys.path.insert(0, str(Path(__file__).resolve().parents[1]))
+from lib import side_by_side
 from lib.program import ROOT
+from lib.side_by_side import cargo
 
 NODE = ROOT / "node"
 SKIPPED = 77
 LEAST_TESTS = 369
+LINTS = (("fmt", "--check"), ("clippy", "--offline", "--quiet", "--all-targets", "--", "-D", "warnings"))
 # The libraries that the container of `node/Containerfile` has.
 IN_CONTAINER = {"libssl", "libcrypto", "libgcc_s", "libc", "libm", "libdl", "libpthread"}
 # The words of the network that `./demo` runs.
@@ -312,6 +315,10 @@ WRONG_BODIES = (
     ("a build that never began is not answered", "application/worker.rs", "is_build || !is_passed", "let _ = is_build; !is_passed"),
     ("a damaged line of the chain is cut away", "ledger.rs", "            let link = link?;\n", "            let Ok(link) = link else { break };\n"),
     ("a start has the whole chain in memory", "ledger.rs", "for link in Lines::of(folder)? {", "for link in read_chain(folder)?.into_iter().map(Ok::<Link, io::Error>) {"),
+    ("a snapshot is taken beside the whole old chain in memory", "ledger/restore.rs", "        if !write_chain(&new, manifest, Lines::of(&self.folder)?",
+     "        let _whole: Vec<_> = Lines::of(&self.folder)?.collect();\n        if !write_chain(&new, manifest, Lines::of(&self.folder)?"),
+    ("a chain that is longer than a snapshot is its beginning", "ledger/restore.rs", "Ok(is_beginning && old.next().transpose()?.is_none())",
+     "Ok(is_beginning)"),
     ("a key that others may read is taken", "crypto.rs", "if mode & 0o077 != 0 {", "if mode == 0 {"),
     ("the bytes of a secret key stay in memory", "crypto.rs", "    secret.fill(0);\n", ""),
     ("a clock falls back with the machine's", "clock.rs", "self.ahead += by;", "self.ahead = Duration::ZERO; self.begun = Instant::now();"),
@@ -329,24 +336,22 @@ def is_ready():
     return tried.returncode == 0
 
 
-def cargo(folder, surroundings, *words):
-    return subprocess.run(["cargo", *words], cwd=folder, env=surroundings, capture_output=True, text=True)
-
-
 def faults(surroundings, target):
     """What is not as it has to be."""
     for name, file, old, _ in WRONG_BODIES:
         if (count := (NODE / "node/src" / file).read_text().count(old)) != 1:
             yield f"{name}: its text stands {count} times in {file}"
-    passed = 0
     # Built alone first, as a newcomer does: the tests' build would bring what a command does not name.
     yield from newcomers_faults(surroundings, target)
     yield from operators_faults(target)
-    for words in (("fmt", "--check"), ("clippy", "--offline", "--quiet", "--all-targets", "--", "-D", "warnings"), ("test", "--offline")):
-        done = cargo(NODE, surroundings, *words)
-        passed += sum(int(count) for count in re.findall(r"test result: \w+\. (\d+) passed", done.stdout))
-        if done.returncode:
-            yield f"cargo {' '.join(words)}:\n{(done.stdout + done.stderr)[-4000:]}"
+    # What a test measures in a long run is measured alone.
+    at_once = 1 if "SIMPLEX_LONG" in surroundings else os.cpu_count()
+    try:
+        passed, failed = side_by_side.run(NODE, surroundings, at_once, beside=LINTS)
+    except side_by_side.NotBuilt as error:
+        yield f"the tests are not built:\n{error}"
+        return
+    yield from failed
     if passed < LEAST_TESTS:
         yield f"{passed} tests passed, where {LEAST_TESTS} are asked for"
 
@@ -433,10 +438,13 @@ def wrong_bodies(surroundings, room, only):
             yield f"{name}: its text stands {right.count(old)} times in {file}"
             continue
         path.write_text(right.replace(old, new))
-        done = cargo(copy / "node", surroundings, "test", "--offline", "--quiet", "--no-fail-fast")
+        try:
+            texts = side_by_side.run(copy / "node", surroundings)[1]
+        except side_by_side.NotBuilt as error:
+            texts = [str(error)]
         path.write_text(right)
-        failed = sorted(set(re.findall(r"^    (\w[\w:]*)$", done.stdout, re.M)))
-        print(f"{name}: {', '.join(failed) if failed else done.stderr[-300:]}", flush=True)
+        failed = sorted({test for text in texts for test in re.findall(r"^    (\w[\w:]*)$", text, re.M)})
+        print(f"{name}: {', '.join(failed) if failed else ''.join(texts)[-300:]}", flush=True)
         if not failed:
             yield f"{name}: no test failed"
 

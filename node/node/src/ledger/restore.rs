@@ -2,13 +2,14 @@
 
 use super::snapshots::{RECORD, Snapshots, record};
 use super::synced::Synced;
-use super::{Ledger, Lines, Link, floor_path, read_chain, written};
+use super::{Ledger, Lines, Link, floor_path, written};
 use crate::named::named;
 use crate::set_aside::set_aside;
 use simplex_view_state::{Digest, View};
 use simplex_wire::{Manifest, now_us};
 use std::fs::{self, File, OpenOptions};
 use std::io::{self, BufWriter, Read, Write};
+use std::path::Path;
 
 fn wrong(what: &str) -> io::Error {
     io::Error::new(io::ErrorKind::InvalidData, format!("a snapshot of the ledger {what}"))
@@ -20,15 +21,9 @@ impl Ledger {
         if manifest.length != manifest.height * RECORD as u64 {
             return Err(wrong("has another length than its height says"));
         }
-        let old = read_chain(&self.folder)?;
         let new = self.folder.join("chain.new");
-        let is_beginning = write_chain(&new, manifest, &old, bytes).map_err(|error| match error.kind() {
-            io::ErrorKind::InvalidData => error,
-            _ => named(&new)(error),
-        })?;
-        if !is_beginning {
-            let last = old.last().map_or(0, |it| it.view);
-            set_aside(&self.path, &format!("until-view-{last}"))?;
+        if !write_chain(&new, manifest, Lines::of(&self.folder)?, bytes)? {
+            set_aside(&self.path, &format!("until-view-{}", self.last.0))?;
         }
         fs::rename(&new, &self.path).map_err(named(&self.path))?;
         File::open(&self.folder).and_then(|it| it.sync_all()).map_err(named(&self.folder))?;
@@ -45,29 +40,29 @@ impl Ledger {
 }
 
 /// Writes the lines of a snapshot's blocks to a file, and syncs it. Returns whether the old chain is a beginning of them.
-fn write_chain(path: &std::path::Path, manifest: &Manifest, old: &[Link], bytes: &mut dyn Read) -> io::Result<bool> {
-    let mut file = BufWriter::new(File::create(path)?);
-    let (mut is_beginning, taken_us) = (old.len() as u64 <= manifest.height, now_us());
+fn write_chain(path: &Path, manifest: &Manifest, mut old: Lines, bytes: &mut dyn Read) -> io::Result<bool> {
+    let mut file = BufWriter::new(File::create(path).map_err(named(path))?);
+    let (mut is_beginning, taken_us) = (true, now_us());
     let mut last = [0; RECORD];
-    for place in 0..manifest.height {
+    // (each of both may be longer than the memory)
+    for _ in 0..manifest.height {
         bytes.read_exact(&mut last)?;
-        let own = old.get(place as usize).filter(|_| is_beginning);
-        let is_own = own
-            .map(|it| it.block().map(|(view, payload)| record(view, &payload) == last))
-            .transpose()?;
-        is_beginning &= is_own != Some(false);
+        let own = if is_beginning { old.next().transpose()? } else { None };
+        if let Some((view, payload)) = own.as_ref().map(Link::block).transpose()? {
+            is_beginning = record(view, &payload) == last;
+        }
         let line = match own.filter(|_| is_beginning) {
-            Some(link) => written(link),
+            Some(link) => written(&link),
             None => written(&link_of(&last, taken_us)),
         };
-        file.write_all(line.as_bytes())?;
+        file.write_all(line.as_bytes()).map_err(named(path))?;
     }
     if last != record(manifest.view, &manifest.payload) {
         return Err(wrong("ends with another block than it says"));
     }
-    file.flush()?;
-    file.get_ref().sync_all()?;
-    Ok(is_beginning)
+    file.flush().map_err(named(path))?;
+    file.get_ref().sync_all().map_err(named(path))?;
+    Ok(is_beginning && old.next().transpose()?.is_none())
 }
 
 /// The line of a block that was taken by a snapshot: how long it took is not known.
@@ -87,12 +82,11 @@ fn link_of(record: &[u8; RECORD], taken_us: u64) -> Link {
 mod tests {
     use super::*;
     use crate::application::{Ancestors, Application, Cancelled};
-    use crate::ledger::Options;
+    use crate::ledger::{Options, read_chain};
     use crate::start::Start;
     use crate::trace::scratch;
     use simplex_view_state::{Context, Epoch, Participant, Round};
     use simplex_wire::Block;
-    use std::path::Path;
 
     const EVERY: u64 = 20;
 
@@ -213,6 +207,21 @@ mod tests {
         }
         assert_eq!(blocks_of(&behind), blocks_of(&folder)[..2 * EVERY as usize]);
         assert_eq!(read_chain(&behind).expect("a chain")[..7], old, "with the times of their own");
+    }
+
+    #[test]
+    fn a_chain_that_is_longer_than_a_snapshot_is_set_aside() {
+        let (folder, ahead) = (scratch("snapshot-short"), scratch("snapshot-ahead"));
+        let (mut ledger, mut other) = (open(&folder), open(&ahead));
+        let blocks = grow(&mut ledger, 2 * EVERY + 10);
+        blocks.iter().for_each(|it| other.finalized(it).expect("a disk"));
+        let old = fs::read(ahead.join("chain")).expect("a chain");
+        let bound = bound_in(&ledger, &blocks);
+        let (manifest, bytes) = bytes_of(&mut ledger, &bound[0]);
+        other.restore(&manifest, &mut &bytes[..]).expect("a disk");
+        let last = blocks[blocks.len() - 1].view;
+        assert_eq!(fs::read(ahead.join(format!("chain.until-view-{last}"))).expect("it is there"), old);
+        assert_eq!(blocks_of(&ahead), blocks_of(&folder)[..manifest.height as usize]);
     }
 
     #[test]
