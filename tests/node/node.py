@@ -315,6 +315,9 @@ WRONG_BODIES = (
     ("a build that never began is not answered", "application/worker.rs", "is_build || !is_passed", "let _ = is_build; !is_passed"),
     ("a damaged line of the chain is cut away", "ledger.rs", "            let link = link?;\n", "            let Ok(link) = link else { break };\n"),
     ("a start has the whole chain in memory", "ledger.rs", "for link in Lines::of(folder)? {", "for link in read_chain(folder)?.into_iter().map(Ok::<Link, io::Error>) {"),
+    ("final blocks that come at once are not wanted yet", "replica/finality.rs", "        self.parts.horizon.want_ranges(self.catch_up.asked().collect());\n",
+     "        let (horizon, wanted) = (self.parts.horizon.clone(), self.catch_up.asked().collect());\n"
+     "        std::thread::spawn(move || {\n            std::thread::sleep(std::time::Duration::from_millis(50));\n            horizon.want_ranges(wanted);\n        });\n"),
     ("a snapshot is taken beside the whole old chain in memory", "ledger/restore.rs", "        if !write_chain(&new, manifest, Lines::of(&self.folder)?",
      "        let _whole: Vec<_> = Lines::of(&self.folder)?.collect();\n        if !write_chain(&new, manifest, Lines::of(&self.folder)?"),
     ("a chain that is longer than a snapshot is its beginning", "ledger/restore.rs", "Ok(is_beginning && old.next().transpose()?.is_none())",

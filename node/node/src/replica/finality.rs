@@ -170,7 +170,10 @@ impl Replica {
             self.catch_up.begin_anew();
         }
         let is_full = self.chain.fetched_bytes() + self.parts.keeper.waiting() > MOST_WAITING;
-        for ask in self.catch_up.due(tail.view, target, is_full, self.parts.clock.now()) {
+        let asks = self.catch_up.due(tail.view, target, is_full, self.parts.clock.now());
+        // (a reply may come before the last of them is sent)
+        self.parts.horizon.want_ranges(self.catch_up.asked().collect());
+        for ask in asks {
             self.parts.counters.ranges.fetch_add(1, Relaxed);
             debug!(
                 peer = ask.of.get(),
@@ -180,7 +183,6 @@ impl Replica {
             );
             self.parts.peers.send(ask.of, &Message::AskRange(ask.after, ask.upto));
         }
-        self.parts.horizon.want_ranges(self.catch_up.asked().collect());
         self.note_lack();
     }
 
