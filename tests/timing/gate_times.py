@@ -10,8 +10,9 @@ as long as the stored table says (`tests/timing/gate_times.txt`).
     tests/timing/gate_times.py [--told FILE] COMMAND ..      prints the table; what the command prints goes to FILE too
     tests/timing/gate_times.py --write COMMAND ..            writes it to `tests/timing/gate_times.txt` besides: a decision, to be reasoned in a commit
 
-It ends with the command's status, or with 1 where a crate took over a fifth and over half a minute more than the stored table has. A run
-is not judged in which one reference took twice as long as another, or where no table is stored.
+It ends with the command's status, or with 1 where a crate took over a fifth and over half a minute more than the stored table has. Where one
+reference took more than a fifth longer than another, a crate may exceed the table by as much, since it may have run in the slower minutes; a
+run is not judged in which one took twice as long as another, or where no table is stored.
 `taskset -c 0,1` before the command shows what two processors make of it. Some kits' `rt ci` keeps what earlier runs on this machine
 proved, which then takes nothing here: `rt ci --anew` proves all of it."""
 
@@ -156,12 +157,13 @@ def stored():
     return {name: float(seconds) for name, seconds in rows}
 
 
-def grown(times, table):
-    """The crates that took over a fifth and half a minute more than the table has."""
+def grown(times, table, spread):
+    """The crates that took over a fifth and half a minute more than the table has, and more than a run allows whose references differ by so
+    much."""
     for name in times.names:
-        seconds = times.scaled[name]
-        if seconds > GROWTH * table.get(name, 0) and seconds > table.get(name, 0) + LEAST_JUDGED:
-            yield f"{name} took {seconds:.0f} s, where tests/timing/gate_times.txt has {table.get(name, 0):.0f}: make it cheaper, or change the table and say why"
+        seconds, usual = times.scaled[name], table.get(name, 0)
+        if seconds > max(GROWTH, spread) * usual and seconds > usual + LEAST_JUDGED:
+            yield f"{name} took {seconds:.0f} s, where tests/timing/gate_times.txt has {usual:.0f}: make it cheaper, or change the table and say why"
 
 
 def write(times, reference):
@@ -209,8 +211,9 @@ def main():
     print(f"reference: {min(taken):.1f} to {max(taken):.1f} s, median {statistics.median(taken):.2f}, {len(taken)} times; the stored table has {stored_one:.2f}")
     if given.write:
         write(times, statistics.median(taken))
-    is_steady = max(taken) < UNSTEADY * min(taken)
-    faults = list(grown(times, table)) if is_steady and table and not given.write else []
+    spread = max(taken) / min(taken)
+    is_steady = spread < UNSTEADY
+    faults = list(grown(times, table, spread)) if is_steady and table and not given.write else []
     if not is_steady:
         print("the machine was not steady, so no crate's time is judged")
     print("".join(f"{fault}\n" for fault in faults), end="")
