@@ -2,7 +2,8 @@
 """Unpacks the compiler that `rust-version` of the Rust package names, from Debian's packages, for `tests/bindings/languages.py`.
 
 Debian 12 has two versions of `rustc-web`: this one in its main archive, a newer one among its security updates. Only one of them can be
-installed, so the older one and what it depends on are downloaded and unpacked below `bindings/rust/target`; nothing is installed.
+installed, so the older one and what it depends on are downloaded and unpacked into a folder of the user's caches; nothing is installed. They hold
+links, which `rt ci` refuses below a repository, whatever git ignores.
 
     tests/bindings/oldest_rust.py     unpacks it where that is not done yet, and prints the folder
 
@@ -21,6 +22,7 @@ from lib.program import ROOT
 
 SKIPPED = 77
 PACKAGE = ROOT / "bindings/rust"
+CACHES = Path(os.environ.get("XDG_CACHE_HOME") or Path.home() / ".cache") / "simplex-view-state"
 COMPILER, BESIDE = "rustc-web", ("cargo-web", "libstd-rust-web-dev")
 
 
@@ -35,9 +37,9 @@ def version():
 
 def unpacked():
     """The folder with the compiler of that version, which is made once."""
-    folder = PACKAGE / f"target/rust-{version()}"
+    folder = CACHES / f"rust-{version()}"
     if not folder.is_dir():
-        folder.parent.mkdir(exist_ok=True)
+        folder.parent.mkdir(parents=True, exist_ok=True)
         with tempfile.TemporaryDirectory(dir=folder.parent) as room:
             unpack(listed_version(), Path(room))
             (Path(room) / "root").rename(folder)

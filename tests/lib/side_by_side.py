@@ -48,8 +48,8 @@ def ran(name, done):
 
 
 def run(folder, surroundings, at_once=os.cpu_count(), beside=()):
-    """Builds the tests and runs so many programs of them at once; beside them those on pages, and then other commands of cargo, given by
-    their words. Returns how many tests passed, and of each run that failed what it printed.
+    """Builds the tests and runs their programs, `at_once` of them at a time. Beside them the tests on pages run, and then other commands of
+    cargo, given by their words. Returns how many tests passed, and of each run that failed what it printed.
 
     Raises `NotBuilt` where a test can't be built."""
 

@@ -15,6 +15,11 @@ fn wrong(what: &str) -> io::Error {
     io::Error::new(io::ErrorKind::InvalidData, format!("a snapshot of the ledger {what}"))
 }
 
+/// The pieces of a snapshot are not all that its manifest says, or the disk does not return them.
+fn not_read(error: io::Error) -> io::Error {
+    io::Error::new(error.kind(), format!("the pieces of a snapshot of the ledger: {error}"))
+}
+
 impl Ledger {
     /// Takes a snapshot's blocks. Those that the chain has stay with their lines; a chain that is no beginning of the snapshot is set aside.
     pub(super) fn take_snapshot(&mut self, manifest: &Manifest, bytes: &mut dyn Read) -> io::Result<()> {
@@ -46,7 +51,7 @@ fn write_chain(path: &Path, manifest: &Manifest, mut old: Lines, bytes: &mut dyn
     let mut last = [0; RECORD];
     // (each of both may be longer than the memory)
     for _ in 0..manifest.height {
-        bytes.read_exact(&mut last)?;
+        bytes.read_exact(&mut last).map_err(not_read)?;
         let own = if is_beginning { old.next().transpose()? } else { None };
         if let Some((view, payload)) = own.as_ref().map(Link::block).transpose()? {
             is_beginning = record(view, &payload) == last;
