@@ -49,7 +49,7 @@ WRONG_BODIES = (
     "simplex_record/a_pruning_that_takes_later_votes_to_nullify",
     "simplex_record/a_drop_that_takes_votes",
     "simplex_record/a_recovery_that_leaves_out_the_record",
-    "simplex_member/a_vote_to_notarize_that_is_answered_and_not_recorded",
+    "simplex_member/a_vote_to_notarize_that_is_returned_and_not_recorded",
     "simplex_voter/nullify_away_from_the_current_view",
 )
 WRONG_AND_STUCK = (
@@ -60,7 +60,7 @@ WRONG_AND_STUCK = (
 WRONG_WITHOUT_MEMORY = (
     "simplex_member/a_best_certificate_that_fails_the_member",
     "simplex_member/a_refused_resume_that_loses_the_entries",
-    "simplex_resolver/goes_on_without_memory_for_its_effects",
+    "simplex_resolver/continues_when_its_effects_are_out_of_memory",
     "simplex_voter/a_state_that_always_fails",
 )
 WRONG_AND_GIVING_UP = ("simplex_voter/no_notarization_has_memory",)
