@@ -112,7 +112,7 @@ fn go_on(network: &mut Network, views: u64) -> Tested {
 }
 
 #[test]
-fn networks_that_lose_messages_and_members_agree_and_go_on() -> Tested {
+fn networks_that_lose_messages_and_members_agree_and_continue() -> Tested {
     for seed in 1..=6 {
         let mut network = Network::start(MEMBERS.try_into()?, 5 * (seed - 1), seed)?;
         let mut lives = 0;
@@ -178,7 +178,7 @@ fn a_text_begins_with_the_namespace_of_the_settings() -> Tested {
 
 /// So a host has to end its turns by itself: see the loop of the example.
 #[test]
-fn a_member_alone_that_answers_at_once_is_never_out_of_outputs() -> Tested {
+fn a_lone_member_whose_application_replies_at_once_always_has_outputs() -> Tested {
     let config = Config::new(
         NAMESPACE,
         1.try_into()?,
@@ -251,7 +251,7 @@ fn bytes_that_name_a_signer_twice_or_are_cut_are_no_signatures() {
 }
 
 #[test]
-fn each_life_begins_by_storing_the_whole_record() -> Tested {
+fn each_lifetime_begins_by_storing_the_whole_record() -> Tested {
     let mut first = engine(1)?;
     let Some(Output::Replace(begun)) = first.poll(START)? else {
         return Err("nothing is stored first".into());
@@ -284,7 +284,7 @@ fn each_life_begins_by_storing_the_whole_record() -> Tested {
 }
 
 #[test]
-fn a_long_record_is_made_short_when_a_life_begins() -> Tested {
+fn a_long_record_is_made_short_when_a_lifetime_begins() -> Tested {
     let mut network = Network::start(MEMBERS.try_into()?, 0, 1)?;
     go_on(&mut network, 60)?;
     let Disk { journal, stored } = &network.nodes[1].disk;
@@ -309,7 +309,7 @@ fn a_long_record_is_made_short_when_a_life_begins() -> Tested {
 }
 
 #[test]
-fn a_record_stays_short_within_a_life() -> Tested {
+fn a_record_stays_short_within_a_lifetime() -> Tested {
     let options = changed(Options::default(), |it| it.long_record = EntryCount::new(4));
     let mut engine = Engine::start(&config(1), &options, START)?;
     let (mut longest, mut replaced) = (0, 0);
@@ -408,7 +408,7 @@ fn useless() -> Vec<Input> {
 }
 
 #[test]
-fn what_is_of_no_use_changes_nothing() -> Tested {
+fn ignored_inputs_change_nothing() -> Tested {
     let mut engine = engine(1)?;
     engine.handle(Input::Certificate(notarization(1)), START)?;
     outputs(&mut engine, START)?;
@@ -465,7 +465,7 @@ fn a_finalization_lets_out_the_votes_that_a_vote_to_nullify_forbade() -> Tested 
 }
 
 #[test]
-fn a_block_of_a_view_that_is_over_is_given_up() -> Tested {
+fn a_block_of_a_past_view_is_abandoned() -> Tested {
     let mut engine = engine(1)?;
     engine.handle(Input::Certificate(nullification(1)), START)?;
     let asked = outputs(&mut engine, START)?.into_iter().find_map(|it| match it {

@@ -68,7 +68,7 @@ fn a_certificate_comes_back_whole() -> Tested {
 }
 
 #[test]
-fn a_member_goes_on_from_its_journal() -> Tested {
+fn a_member_continues_from_its_journal() -> Tested {
     let mut first = member()?;
     let mut journal = first.entries_since(EntryCount::ZERO)?;
     let vote = first.construct_nullify(View::new(2), TimeoutReason::LeaderTimeout)?;

@@ -357,7 +357,7 @@ mod tests {
     }
 
     #[test]
-    fn an_answer_that_ends_earlier_leaves_the_rest_to_be_asked_for() {
+    fn a_reply_that_ends_earlier_leaves_the_rest_to_be_asked_for() {
         let mut it = CatchUp::new(Participant::new(0), 2);
         assert_eq!(ranges(&it.due(view(0), view(600), false, at(0))), [(1, 0, 600)]);
         it.arrived(view(0), view(350));

@@ -73,7 +73,7 @@ fn the_last_write_is_cut_off_at_any_byte() {
 
 /// The file got its length, and none of the bytes.
 #[test]
-fn zeros_behind_the_end_are_cut_off() {
+fn zeros_after_the_end_are_cut_off() {
     let made = made("zeros", &[40, 300], &[1]);
     for count in (1..70).chain([500, 511, 512, 513, 4095, 4096, 4097, 20_000]) {
         let bytes = [&made.bytes[..], &vec![0; count]].concat();
@@ -88,7 +88,7 @@ fn without(bytes: &mut [u8], synced: usize, from: usize, size: usize) {
 }
 
 #[test]
-fn pages_of_the_last_write_may_be_lacking_in_any_order() {
+fn pages_of_the_last_write_may_be_missing_in_any_order() {
     // The last write begins at each place of a sector's end and of a page's.
     for length in (1..40).chain(3700..3760) {
         let made = made("pages", &[40, length, 3 * PAGE], &[1]);
@@ -106,7 +106,7 @@ fn pages_of_the_last_write_may_be_lacking_in_any_order() {
 }
 
 #[test]
-fn each_sector_of_the_last_write_may_be_lacking() {
+fn each_sector_of_the_last_write_may_be_missing() {
     for length in 1..=SECTOR {
         let made = made("sectors", &[40, length, 2000], &[1]);
         let synced = made.ends[1];
@@ -136,7 +136,7 @@ fn of_writes_that_were_not_synced_those_before_the_first_torn_one_are_left() {
 }
 
 #[test]
-fn what_was_synced_and_is_lacking_now_is_damage() {
+fn synced_bytes_that_are_missing_now_are_damage() {
     let made = made("synced", &[40, 2000, 2000, 600], &[1, 2]);
     for sector in made.ends[0].div_ceil(SECTOR)..made.ends[1] / SECTOR {
         let mut bytes = made.bytes.clone();

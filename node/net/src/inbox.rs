@@ -193,7 +193,7 @@ mod tests {
     }
 
     #[test]
-    fn a_full_queue_waits_and_goes_on_once_there_is_room() {
+    fn a_full_queue_waits_and_continues_once_there_is_room() {
         let inbox = Arc::new(Inbox::new(2));
         for _ in 0..MOST_OF_A_PEER {
             put(&inbox, 1, 9);

@@ -298,7 +298,7 @@ fn a_link_is_begun_anew_once_its_member_is_back() {
 }
 
 #[test]
-fn who_answers_at_a_members_address_with_another_key_is_refused() {
+fn a_peer_at_a_members_address_with_another_key_is_refused() {
     let network = Network::new();
     let mut others = Network::new();
     others.secrets[1] = [9; 32];

@@ -487,7 +487,7 @@ mod tests {
     }
 
     #[test]
-    fn what_is_not_behind_the_last_block_is_refused() {
+    fn a_block_that_does_not_follow_the_last_one_is_refused() {
         let (_, mut archive) = filled("archive-order", 5);
         assert!(archive.append(&chain(7)[6..]).is_err());
     }

@@ -92,7 +92,7 @@ mod tests {
     }
 
     #[test]
-    fn an_answer_is_taken_from_among_all_else_which_stays() {
+    fn a_reply_is_taken_from_the_queue_and_all_else_stays() {
         let inbox = Arc::new(Inbox::new(2));
         inbox.tell(Event::Archived(Vec::new()));
         inbox.put(Participant::new(1), ask(1), 9);

@@ -318,7 +318,7 @@ mod tests {
     const EXAMPLE: &str = include_str!("../../node.toml");
 
     #[test]
-    fn the_example_says_what_stands_where_nothing_is_said() {
+    fn the_example_names_each_default() {
         let all: Settings = toml::from_str(EXAMPLE).expect("settings");
         let is_asked = |line: &&str| {
             ["network", "index", "data", "key", "[[members]]", "address"]
@@ -343,7 +343,7 @@ mod tests {
     }
 
     #[test]
-    fn names_are_taken_and_a_node_listens_where_it_is_told() {
+    fn names_are_taken_and_a_node_listens_at_the_given_address() {
         let text = EXAMPLE.replacen("127.0.0.1:27100", "node-0.example.org:27100", 1);
         let mut settings: Settings = toml::from_str(&text).expect("settings");
         assert_eq!(settings.test(), Ok(()));
@@ -357,7 +357,7 @@ mod tests {
     }
 
     #[test]
-    fn the_keys_of_links_are_told_where_a_signer_has_the_other_and_are_nobody_elses() {
+    fn the_keys_of_links_are_given_where_a_signer_has_the_other_and_are_nobody_elses() {
         let mut settings: Settings = toml::from_str(EXAMPLE).expect("settings");
         let (own, others) = (settings.members[0].key.clone(), settings.members[3].key.clone());
         let refused = |it: &Settings| it.test().expect_err("it is refused");

@@ -237,7 +237,7 @@ mod tests {
     }
 
     #[test]
-    fn a_snapshot_is_wanted_where_too_much_is_lacking_or_pruned() {
+    fn a_snapshot_is_requested_where_too_much_is_missing_or_pruned() {
         assert!(!is_wanted(None, u64::MAX, 3, 3, 1), "no setting");
         assert!(!is_wanted(Some(100), 100, 1, 3, 1), "one may lie");
         assert!(is_wanted(Some(100), 101, 0, 3, 1));

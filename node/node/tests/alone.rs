@@ -19,7 +19,7 @@ use std::time::{Duration, Instant};
 const WHILE: Duration = Duration::from_millis(600);
 
 #[test]
-fn a_certificate_that_is_lacking_is_asked_of_each_member_until_it_comes() {
+fn a_missing_certificate_is_asked_of_each_member_until_it_comes() {
     let mut others = Others::around_a_node("asks");
     others.nullify(4);
     others.comes_to("current_view", 5);
@@ -278,7 +278,7 @@ fn asked_range(others: &Others) -> (u32, View) {
 }
 
 #[test]
-fn final_blocks_that_are_lacking_are_taken_in_a_range_where_they_are_those_that_the_certificate_names() {
+fn missing_final_blocks_are_taken_in_a_range_where_they_are_those_that_the_certificate_names() {
     let mut others = Others::around_a_node("range");
     let (blocks, other) = (chain(others.genesis, 1..6, 256), chain(others.genesis, 1..6, 255));
     let proposal = blocks[4].1;
@@ -363,7 +363,7 @@ fn blocks_up_to_a_higher_final_view_are_taken_once_the_journal_has_that_view() {
 }
 
 #[test]
-fn a_final_block_that_is_lacking_is_taken_by_its_digest_too() {
+fn a_missing_final_block_is_taken_by_its_digest_too() {
     let mut others = Others::around_a_node("digest");
     let blocks = chain(others.genesis, 1..4, 256);
     let certificate = others.certificate(&[1, 2, 3], Subject::Finalize(blocks[2].1));

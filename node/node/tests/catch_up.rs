@@ -172,7 +172,7 @@ fn a_member_that_is_down_hides_no_error_of_a_block_that_the_others_have_pruned()
 
 /// Node 3's process ends again and again while it gets blocks, and its archive's end is torn.
 #[test]
-fn a_node_that_is_killed_while_it_catches_up_goes_on_where_it_was() {
+fn a_node_that_is_killed_while_it_catches_up_continues_where_it_was() {
     let mut network = away_for("torn", 600);
     for _ in 0..4 {
         network.begin(3).expect("a process");

@@ -26,7 +26,7 @@ fn sent_to(others: &Others, view: u64) -> BTreeSet<u32> {
 }
 
 #[test]
-fn a_certificate_is_sent_to_the_members_that_lack_it() {
+fn a_certificate_is_sent_to_the_members_that_miss_it() {
     let mut others = Others::around_a_node("lacks");
     // In view 4 the node sends it at once, in view 1 after a moment.
     for view in [1, 2, 3, 4] {

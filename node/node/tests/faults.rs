@@ -258,7 +258,7 @@ fn nodes_that_are_killed_again_and_again() {
 }
 
 #[test]
-fn records_that_are_made_short_within_a_life() {
+fn records_that_are_made_short_within_a_lifetime() {
     let mut quick = plan("short", 4);
     quick.protocol.pace_ms = 0;
     let mut network = begun(quick);

@@ -445,7 +445,7 @@ fn a_stranger_with_a_key_of_its_own_is_refused() {
 }
 
 #[test]
-fn nothing_is_sent_to_who_answers_at_a_members_address_with_another_key() {
+fn nothing_is_sent_to_a_peer_at_a_members_address_with_another_key() {
     let attacked = Attacked::begin("answers");
     let mut settings = attacked.settings[1].clone();
     settings.key = attacked.network.folder().join("9.pem");

@@ -339,7 +339,7 @@ fn a_journal_that_is_older_than_the_chain_is_refused() {
 
 /// A member alone stores a finalization in each turn. Where that fails, its chain must not have the block already.
 #[test]
-fn a_node_whose_disk_is_full_goes_on_with_its_own_journal() {
+fn a_node_whose_disk_is_full_continues_with_its_own_journal() {
     let mut network = stopped("full", 1);
     for blocks in 0..2 {
         let longest = fs::metadata(journal::path(&network.data(0))).expect("a journal").len() / 512;

@@ -125,7 +125,7 @@ fn a_node_that_joins_late_begins_with_a_snapshot_of_its_peers() {
 }
 
 #[test]
-fn a_node_that_lacks_too_many_blocks_takes_a_snapshot_though_peers_have_them() {
+fn a_node_that_misses_too_many_blocks_takes_a_snapshot_though_peers_have_them() {
     let mut network = network("far-state");
     (0..4).for_each(|index| network.set(index, |it| it.archive.most_bytes = None).expect("settings"));
     (0..3).for_each(|index| network.begin(index).expect("a process"));
@@ -140,7 +140,7 @@ fn a_node_that_lacks_too_many_blocks_takes_a_snapshot_though_peers_have_them() {
 
 /// The journal, and with it each vote, stays; so does what the node had of the chain.
 #[test]
-fn a_member_behind_all_archives_takes_a_snapshot_and_keeps_its_journal() {
+fn a_member_below_all_archives_takes_a_snapshot_and_keeps_its_journal() {
     let mut network = network("behind-state");
     network.begin_all().expect("processes");
     assert!(network.wait_until(&[3], "height", 30, SOON), "{}", log(&network, 3));
@@ -173,7 +173,7 @@ fn signal(network: &Network, index: u32, name: &str) {
 /// A process is stopped until the others have pruned what it misses; then another member ends, so that nothing is final without the votes
 /// of the first one. It takes a snapshot of a network in which nothing is final meanwhile, and votes again.
 #[test]
-fn a_member_that_is_needed_and_lacks_pruned_blocks_takes_a_snapshot_and_votes() {
+fn a_needed_member_that_misses_pruned_blocks_takes_a_snapshot_and_votes() {
     let mut network = network("needed-state");
     network.begin_all().expect("processes");
     assert!(network.wait_until(&[0, 1, 2, 3], "height", 10, SOON), "{}", logs(&network));

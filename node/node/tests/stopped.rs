@@ -255,7 +255,7 @@ impl Stops {
 }
 
 #[test]
-fn three_members_finalize_blocks_from_whatever_moment_on_the_fourth_stands_still() {
+fn three_members_finalize_blocks_whenever_the_fourth_stops() {
     if std::env::var_os("SIMPLEX_LONG").is_none() {
         return;
     }

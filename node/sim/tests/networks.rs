@@ -63,7 +63,7 @@ fn the_same_plan_gives_the_same_trace_and_another_seed_another() {
 }
 
 #[test]
-fn networks_with_few_faulty_members_agree_and_go_on_whatever_these_do() {
+fn networks_with_few_faulty_members_agree_and_continue_whatever_these_do() {
     for byzantine in ALL {
         for seed in 0..4 {
             let (outcome, _) = played(&Plan { byzantine, seed, ..plan() });
@@ -258,7 +258,7 @@ fn a_fault_of_ones_own_is_played() {
 }
 
 #[test]
-fn members_alone_and_in_large_networks_go_on() {
+fn members_alone_and_in_large_networks_continue() {
     for (count, views) in [(1, 200), (2, 20), (31, 5)] {
         let plan = Plan {
             members: members(count),

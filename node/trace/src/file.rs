@@ -185,7 +185,7 @@ mod tests {
     }
 
     #[test]
-    fn a_lifetime_is_appended_behind_the_last_whole_line() {
+    fn a_lifetime_is_appended_after_the_last_whole_line() {
         let path = scratch("lives");
         for at in 0..2 {
             let mut file = TraceFile::append(&path, &header()).expect("a disk");

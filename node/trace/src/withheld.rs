@@ -177,7 +177,7 @@ mod tests {
     }
 
     #[test]
-    fn a_view_that_is_given_up_is_explained_before_the_vote_to_nullify() -> Tested {
+    fn an_abandoned_view_is_explained_before_the_vote_to_nullify() -> Tested {
         let (mut engine, mut observer) = watched()?;
         assert_eq!(turn(&mut engine, &mut observer, Moment::from_millis(0))?, []);
         let due = engine.wake();

@@ -526,7 +526,7 @@ mod tests {
     }
 
     #[test]
-    fn a_build_that_is_stopped_is_answered_without_a_block() {
+    fn a_stopped_build_returns_no_block() {
         let (worker, begun, inbox, _) = worker();
         worker.ask(asked(Kind::Build, 7));
         assert_eq!(begun.recv_timeout(SOON), Ok(View::new(7)));
@@ -545,7 +545,7 @@ mod tests {
     }
 
     #[test]
-    fn final_blocks_are_taken_in_order_behind_questions_and_all_of_them_before_the_end() {
+    fn final_blocks_are_taken_in_order_after_questions_and_all_of_them_before_the_end() {
         let (mut worker, begun, inbox, counters) = worker();
         worker.ask(asked(Kind::Certify, 1));
         assert_eq!(begun.recv_timeout(SOON), Ok(View::new(1)));
@@ -684,7 +684,7 @@ mod tests {
     }
 
     #[test]
-    fn a_panic_of_the_application_is_told() {
+    fn a_panic_of_the_application_is_reported() {
         let (worker, _begun, inbox, _) = worker();
         worker.ask(asked(Kind::Verify, 100));
         let told = inbox.take(SOON);

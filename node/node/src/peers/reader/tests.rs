@@ -90,7 +90,7 @@ fn notarize(view: u64, payload: u8) -> Subject {
 }
 
 #[test]
-fn a_block_that_nobody_asked_for_is_of_no_use() {
+fn a_block_that_nobody_asked_for_is_ignored() {
     let members = Members::new("reader");
     let block = vec![7; 100];
     let message = Message::Block(block.clone());
