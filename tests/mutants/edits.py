@@ -24,11 +24,11 @@ from concurrent.futures import ThreadPoolExecutor
 from pathlib import Path
 
 sys.path.insert(0, str(Path(__file__).resolve().parents[1]))
-from lib import kit
+from lib import kit, libraries
 from lib.edits import batches, edits
 from lib.edits.beside import Gate
 from lib.floors import lacking
-from lib.program import ROOT, last_change
+from lib.program import ROOT
 
 LEAST = {"edits": 319}
 REFUSED_BY_THE_KIT = re.compile(r"must-fail (\S+/\S+)\.edit: refused, as it must be(?!.*only because a proof file names)")
@@ -93,20 +93,11 @@ def missing_from_the_gate(told):
         yield from (f"{title} was not refused at a contract by `rt ci`" for title in sorted(there - refused))
 
 
-def are_from_the_gate(crate):
-    """Whether the libraries below a crate are those that `rt ci` just built of these sources: it leaves no stamp beside them."""
-    libraries = [(dep, Path(dep.rlib)) for dep in crate.below()]
-    return all(
-        rlib.is_dir() and not (rlib.parent / "stamp").exists() and rlib.stat().st_mtime >= last_change(ROOT, dep.name)
-        for dep, rlib in libraries
-    )
-
-
 def build_below(crates):
-    """Proves and builds the libraries below some crates that are not built."""
+    """Proves and builds the libraries below some crates that neither `rt ci` nor `rt lib` left."""
     wanted = {dep.name: dep for crate in crates for dep in crate.below()}
     for dep in sorted(wanted.values(), key=lambda it: len(it.below())):
-        if not dep.is_built():
+        if not libraries.is_current(dep, ROOT):
             print(f"{dep.name} is not built: proving it first", flush=True)
             with tempfile.TemporaryFile("w+") as dep.out:
                 is_refused = dep.build_rlib(["--jobs", "2"], anew=False)
@@ -167,7 +158,7 @@ def main():
         return 1
     needed = [crates[name] for name in sorted({it.crate for it in chosen})]
     gate = Gate(given.gate if given.beside else None, given.jobs)
-    if not given.beside and not all(are_from_the_gate(crate) for crate in needed):
+    if not given.beside:
         build_below(needed)
     found = tried(rt, crates, chosen, given.jobs, begun + given.seconds, gate)
     gate.wait()
