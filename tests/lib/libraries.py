@@ -19,15 +19,18 @@ def add_crates(names, root, tree):
     shutil.copy(root / "HANDLES", tree)
 
 
+def is_stamped(crate):
+    """Whether `rt lib` made the crate's library: it leaves a stamp beside it, a digest of the sources, and `rt ci` leaves none. What a library
+    of either has for proofs above it differs."""
+    return Path(crate.rlib).with_name("stamp").exists()
+
+
 def is_current(crate, root):
-    """Whether the library of a crate of a repository is proved, of the sources that are there. `rt lib` leaves a stamp beside it, a digest of
-    these sources; `rt ci` leaves none, so there the times of the files decide."""
+    """Whether the library of a crate of a repository is proved, of the sources that are there: by its stamp, or else by the times of the files."""
     library = Path(crate.rlib)
-    if not library.is_dir():
-        return False
-    if (library.parent / "stamp").exists():
+    if is_stamped(crate):
         return crate.is_built()
-    return library.stat().st_mtime >= last_change(root, crate.name)
+    return library.is_dir() and library.stat().st_mtime >= last_change(root, crate.name)
 
 
 def lend(crates, tree):
