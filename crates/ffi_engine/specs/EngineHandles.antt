@@ -27,7 +27,7 @@ use Rattle.simplex_engine.specs.Inputs.{subject_in}
 use Rattle.engine_outbox.specs.Journals.{IsRecordOf, journal_of}
 use Rattle.engine_outbox.specs.RecordReach.{IsShort}
 use Rattle.engine_planner.specs.PlannedWork.{AreAmong, constants_of}
-use Rattle.simplex_engine.specs.AtRest.{HasSettled, IsEngineAtRest, IsSettledAsStored, IsUnsettled, ReturnsFirst, StaysAtRest, unsettled}
+use Rattle.simplex_engine.specs.AtRest.{HasSettled, IsSettledAsStored, IsStillAtRest, IsUnsettled, ReturnsFirst, StaysAtRest, StaysSettled, unsettled}
 use Rattle.simplex_engine.specs.BuildBounds.{BuildsNear}
 use Rattle.simplex_engine.specs.MemberViews.{TracksViews, StaysStoredEarly}
 use Rattle.simplex_engine.specs.Failures.{IsFailure}
@@ -202,7 +202,7 @@ HoldsRecord given held =
 -- was returned, queued or planned, it was returned, or a lone member waits for the block's view; if no stored vote was
 -- above those that are taken, each stored vote is a member's, and of a view whose votes are taken
 pub record IsAtRest (now : ℕ) (old new : HostEngine) : Type 0 where
-  pub rest : IsEngineAtRest same_host_payload host_leader certificate_bytes now new
+  pub rest : IsStillAtRest same_host_payload host_leader certificate_bytes now new
   pub short : (given : List HostOutput) → IsJournaled certificate_bytes given old.core
       → IsShort new.plan.options.long_record new.core.member.facts
   pub waiting : (given : List HostOutput) → HasReportedAll given old → AllIsReturned given new
@@ -224,15 +224,16 @@ IsOutcome now (Err fault) engine stored r new =
 
 -- an engine that has lost nothing is polled at a moment
 pub record IsAsked (now : ℕ) (old : HeldEngine) (r : FlatOutput) (new : HeldEngine) : Type 0 where
-  -- what the engine returned: first what is queued, in order; then all that is due is done, once at a moment; then what
-  -- that queued
+  -- what the engine returned: first what is queued, in order; then all that is due is done, once; then what that
+  -- queued, and nothing more before the wake
   pub answer : Result (Option HostOutput) Fault
   pub outcome : IsOutcome now answer old.engine old.stored r new
   pub front : has_failed old.engine.core ≡ false
       → ReturnsFirst old.engine.core.outbox.queue.items answer old.engine new.engine
-  pub settles : old.engine.core.outbox.queue.items ≡ [] → OnOk answer (HasSettled now new.engine)
-  pub stays : has_failed old.engine.core ≡ false → old.engine.core.outbox.queue.items ≡ [] → HasSettled now old.engine
-      → StaysAtRest answer old.engine new.engine
+  pub settles : old.engine.core.outbox.queue.items ≡ []
+      → OnOk answer (StaysSettled now old.engine ⊎ HasSettled now new.engine)
+  pub stays : has_failed old.engine.core ≡ false → old.engine.core.outbox.queue.items ≡ []
+      → StaysSettled now old.engine → StaysAtRest answer old.engine new.engine
   pub settled : (given : List HostOutput) → IsJournaled certificate_bytes given old.engine.core
       → SettledAsStored old.engine → OnOk answer (SettledAsStored new.engine)
   -- the output is appended to all that were returned

@@ -3,7 +3,7 @@
 
 ghost use Rattle.laws_engine.specs.Laws.{CallsWereReceivedBefore, NullifiesOnceDue, WorkWasGiven};
 ghost use Rattle.laws_engine.specs.Offers.{EnginesRunOnOffers, LifetimesRunOnOffers, RunsOnOffersJoin};
-ghost use Rattle.laws_engine.specs.Polls.{PollsSettle, SettledPollsEnd};
+ghost use Rattle.laws_engine.specs.Polls.{EnginesRest, PollsSettle, SettledPollsEnd};
 
 /// An engine that changes as `provenance` says passes its member no verdict, block, proposal or certificate, and
 /// abandons no leader, except for what came in or was there before.
@@ -34,12 +34,17 @@ pub fn engines_run_on_offers<S, L, D, K, G, C>()
     ensures join { RunsOnOffersJoin L D K }
 {}
 
-/// At one moment, with no input in between, an engine's polls come to `None`. `poll` of `polls` is such a poll.
+/// With no input in between, an engine's polls come to `None`, and return nothing more before its wake. `poll` of
+/// `polls` is such a poll.
 ///
-/// - `settles`: after as many polls as outputs were queued, one more does all that is due at this moment.
+/// - `settles`: after as many polls as outputs were queued, one more does all that is due at its moment, unless that
+///   was done before and nothing is due since.
 /// - `ends`: from then on polls return what is queued, in order, and then `None` each time. So there are at most as
 ///   many further outputs as the engine has queued by then.
+/// - `rests`: once a poll has returned `None`, each poll at its moment, or at a later one before `Engine::wake`,
+///   returns `None`, and nothing changes.
 pub fn polls_end<S, L, D, K, G, C>()
     ensures settles { PollsSettle S L D K G C }
     ensures ends { SettledPollsEnd S L D K G C }
+    ensures rests { EnginesRest S L D K G C }
 {}

@@ -10,7 +10,7 @@ use Rattle.engine_outbox.specs.Continuity.{has_failed, IsJournaled, HasReturned}
 use Rattle.engine_planner.specs.Causes.{Cause}
 use Rattle.engine_planner.specs.PlannedWork.{AreAmong}
 use Rattle.simplex_engine.specs.ApplicationWork.{work_ahead}
-use Rattle.simplex_engine.specs.AtRest.{IsEngineAtRest, IsSettledAsStored, IsUnsettled}
+use Rattle.simplex_engine.specs.AtRest.{IsSettledAsStored, IsStillAtRest, IsUnsettled}
 use Rattle.simplex_engine.specs.Inputs.{returned_outputs}
 use Rattle.simplex_engine.specs.Provenance.{IsCaused}
 use Rattle.simplex_engine.specs.declared.engine.Engine.{Engine}
@@ -75,13 +75,13 @@ module _ {S L D K G C : Type 0} (same : D → D → Bool) (elect : Elect L) (byt
       → ((given : List (Output S D Stored K G C)) → IsJournaled bytes_of given old.core
       → IsSettledAsStored same elect bytes_of old → OnOk result (IsSettledAsStored same elect bytes_of new))
       → (IsSettledAsStored same elect bytes_of old
-      → IfOk result (λ out. IsNone out → IsEngineAtRest same elect bytes_of now new))
+      → IfOk result (λ out. IsNone out → IsStillAtRest same elect bytes_of now new))
       → OnErr result (has_failed new.core ≡ true) → has_failed new.core ≡ false
       → SettlesIfDone same elect bytes_of (Polled (returned_outputs result)) old new
   poll_settles now old new (Ok None) journaled settles rests fails alive = record {
     journaled = journaled;
     settled = settles;
-    rest = λ settled is. (now, rests settled refl);
+    rest = λ settled is. let still = rests settled refl in (still.since, still.rest);
   }
   poll_settles now old new (Ok (Some out)) journaled settles rests fails alive = record {
     journaled = journaled;

@@ -1,25 +1,52 @@
--- An engine that has settled, while its queue is returned.
-use Rattle.std.proofs.Common.{◌≡◌, sym, subst, ap, ℕ, Bool, true, ◌≤◌, List, [], ◌∷◌, length, Option, Some, None}
-use Rattle.std.specs.Prelude.{IfSome}
+-- An engine that has settled, while its queue is returned, and while its rest lasts.
+use Rattle.std.proofs.Common.{◌≡◌, ◌∙◌, ◌⊎◌, inl, inr, refl, sym, subst, ap, ℕ, Bool, true, false, ◌≤◌, ◌<◌, List, [], ◌++◌, length, Option, Some, None}
+use Rattle.std.specs.Prelude.{IfSome, IsNone, option_to_list}
+use Rattle.std.proofs.lemmas.Bool.{true≢false}
 use Rattle.simplex_voter.specs.Facts.{Elect}
 use Rattle.simplex_voter.specs.Windows.{min_active}
+use Rattle.simplex_member.specs.Calls.{ReplyFacts, TimesOut}
 use Rattle.simplex_member.specs.MemberFacts.{MemberFacts}
 use Rattle.engine_votes.specs.StoredVotes.{HoldsFrom}
 use Rattle.engine_fetches.specs.OutstandingFetches.{FetchesTheMissing}
 use Rattle.engine_outbox.specs.declared.journaled.Journaled.{Journaled}
 use Rattle.engine_outbox.specs.RecordReach.{IsShort}
 use Rattle.engine_planner.specs.Blocks.{builds_from}
+use Rattle.engine_planner.specs.PlanStates.{IsIdle}
 use Rattle.simplex_engine.specs.declared.engine.Engine.{Engine}
 use Rattle.simplex_engine.specs.declared.input.Input.{Input}
 use Rattle.simplex_engine.specs.declared.input.Input.TheVariants as input
 use Rattle.simplex_engine.specs.Admission.{IsTurnedAway, IsStoredEarly}
-use Rattle.simplex_engine.specs.AtRest.{HasSettled, IsSettled, IsSettledAsStored, unsettled}
+use Rattle.simplex_engine.specs.AtRest.{HasSettled, IsEngineAtRest, IsSettled, IsSettledAsStored, IsStillAtRest, RestLasts, StaysSettled, unsettled}
 use Rattle.simplex_engine.specs.NothingDue.{HasNothingNew}
-use Rattle.simplex_engine.specs.Timeouts.{IsTimed}
+use Rattle.simplex_engine.specs.Timeouts.{IsAwaited, IsTimed}
+use Rattle.simplex_engine.proofs.Wakes.{none_due_before}
 
--- a list with a first element is not empty
-pub none_first : {X A : Type 0} {x : X} {xs : List X} → x ∷ xs ≡ [] → A
-none_first is = absurd (cc)
+-- nothing is taken from an empty queue
+pub none_first : {A : Type 0} (out : Option A) (left : List A) → option_to_list out ++ left ≡ [] → out ≡ None
+none_first None left is = refl
+none_first (Some x) left is = absurd (cc)
+
+-- the first of a queue that is not empty is taken
+pub some_first : {A : Type 0} {is_idle : Bool} (out : Option A) (queue left : List A)
+    → (queue ≡ [] → is_idle ≡ true) → is_idle ≡ false → (IsNone out → left ≡ [])
+    → queue ≡ option_to_list out ++ left → (x : A) × (out ≡ Some x)
+some_first (Some x) queue left idle busy none front = (x, refl)
+some_first None queue left idle busy none front =
+    absurd (true≢false (sym (idle (front ∙ none refl)) ∙ busy))
+
+-- and not nothing
+pub never_none : {A P : Type 0} {is_idle : Bool} (out : Option A) (queue left : List A)
+    → (queue ≡ [] → is_idle ≡ true) → is_idle ≡ false → (IsNone out → left ≡ [])
+    → queue ≡ option_to_list out ++ left → IsNone out → P
+never_none (Some x) queue left idle busy none front is = absurd (cc)
+never_none None queue left idle busy none front is = absurd (true≢false (sym (idle (front ∙ none is)) ∙ busy))
+
+-- the timeout that was named lies after any moment before the stored one
+awaited_then : {K D : Type 0} (since now timeout : ℕ) (answer : ReplyFacts K D) → now < timeout
+    → IsAwaited since timeout answer → IsAwaited now timeout answer
+awaited_then since now timeout (TimesOut (Some (moment, reason))) before (is, later) =
+    (is, subst (λ at. now < at) is before)
+awaited_then since now timeout answer before is = tt
 
 module _ {S L D K G C : Type 0} (same : D → D → Bool) (elect : Elect L) (bytes_of : C → List ℕ) where
   -- it stays settled where the member stays, and what of its record was queued to be stored
@@ -62,13 +89,76 @@ module _ {S L D K G C : Type 0} (same : D → D → Bool) (elect : Elect L) (byt
         subst (λ m. IsShort engine.plan.options.long_record m.facts) (sym member) is.1,
       )
 
-  -- an engine that settled at this moment is settled at it, and its record is short
-  pub settled_now : (now : ℕ) (engine : Engine S L D K G C) → HasSettled now engine
+  -- an engine that settled at a moment is settled at it, and its record is short
+  pub settled_at_it : (since : ℕ) (engine : Engine S L D K G C) → HasSettled since engine
       → IsSettledAsStored same elect bytes_of engine
-      → IsSettled same elect bytes_of now engine × IsShort engine.plan.options.long_record engine.core.member.facts
-  settled_now now engine at is =
+      → IsSettled same elect bytes_of since engine × IsShort engine.plan.options.long_record engine.core.member.facts
+  settled_at_it since engine at is =
       subst (λ settled_at. IfSome settled_at (λ moment. IsSettled same elect bytes_of moment engine
       × IsShort engine.plan.options.long_record engine.core.member.facts)) at is
+
+  -- settled for a moment: at it, or at one since which the rest lasts
+  pub record IsSettledFor (now : ℕ) (engine : Engine S L D K G C) : Type 0 where
+    pub since : ℕ
+    pub at : HasSettled since engine
+    pub lasts : RestLasts since now engine
+    pub settled : IsSettled same elect bytes_of since engine
+
+  module _ (now : ℕ) (old new : Engine S L D K G C) (rests : StaysSettled now old → new ≡ old) where
+    -- an engine that stays settled, or that has settled
+    pub settled_for : StaysSettled now old ⊎ (HasSettled now new × IsSettled same elect bytes_of now new)
+        → IsSettledAsStored same elect bytes_of old → IsSettledFor now new
+    settled_for (inr (at, settled)) is = record { since = now; at = at; lasts = inl refl; settled = settled }
+    settled_for (inl stays) is =
+        subst (λ engine. IsSettledFor now engine) (sym (rests stays))
+        (record {
+          since = stays.since;
+          at = stays.settled;
+          lasts = stays.lasts;
+          settled = (settled_at_it stays.since old stays.settled is).0;
+        })
+
+    pub short_for : StaysSettled now old ⊎ IsShort new.plan.options.long_record new.core.member.facts
+        → IsSettledAsStored same elect bytes_of old → IsShort new.plan.options.long_record new.core.member.facts
+    short_for (inr short) is = short
+    short_for (inl stays) is =
+        subst (λ (engine : Engine S L D K G C). IsShort engine.plan.options.long_record engine.core.member.facts)
+        (sym (rests stays)) (settled_at_it stays.since old stays.settled is).1
+
+  pub stored_for : (now : ℕ) (engine : Engine S L D K G C) → IsSettledFor now engine
+      → IsShort engine.plan.options.long_record engine.core.member.facts → IsSettledAsStored same elect bytes_of engine
+  stored_for now engine is short =
+      subst (λ settled_at. IfSome settled_at (λ moment. IsSettled same elect bytes_of moment engine
+      × IsShort engine.plan.options.long_record engine.core.member.facts)) (sym is.at) (is.settled, short)
+
+  -- nothing is due while the rest lasts
+  pub still_at_rest : (now since : ℕ) (engine : Engine S L D K G C) → IsEngineAtRest same elect bytes_of since engine
+      → RestLasts since now engine → IsStillAtRest same elect bytes_of now engine
+  still_at_rest now since engine rest (inl is) = record {
+    since = since;
+    rest = rest;
+    lasts = inl is;
+    awaited = subst (λ at. IsAwaited at engine.plan.timeout rest.settled.timed.1.answer) (sym is)
+        rest.settled.timed.1.awaited;
+    idle = subst (λ at. IsIdle at engine.plan) (sym is) rest.settled.idle;
+  }
+  still_at_rest now since engine rest (inr (later, (wake, at, before))) =
+      let none = none_due_before now engine.plan.timeout wake engine.plan.repair.fetches.wanted.items at before in
+      let idle = rest.settled.idle in
+      record {
+        since = since;
+        rest = rest;
+        lasts = inr (later, (wake, at, before));
+        awaited = awaited_then since now engine.plan.timeout rest.settled.timed.1.answer none.0
+            rest.settled.timed.1.awaited;
+        idle = record {
+          steps = idle.steps;
+          watched = idle.watched;
+          timeout = idle.timeout;
+          pruned = idle.pruned;
+          fetched = none.1;
+        };
+      }
 
 -- an input that is not admitted changes nothing else where the engine looks for what is due at the next poll
 module _ {S L D K G C : Type 0} where

@@ -7,6 +7,7 @@ mod BuildBounds
 mod ApplicationWork
 mod Requests
 mod ReplyWork
+mod Wakes
 mod AtRest
 mod CausedSteps
 mod Provenance

@@ -1,17 +1,37 @@
 -- Nothing is left to be done.
-use Rattle.std.specs.Prelude.{◌≡◌, ℕ, Bool, List, [], ◌∷◌, Option, Some, None, IfSome, Result, Ok}
+use Rattle.std.specs.Prelude.{◌≡◌, ◌⊎◌, ◌<◌, ℕ, Bool, List, [], ◌∷◌, Option, Some, None, IfOk, IfSome, IsNone, Result, Ok}
 use Rattle.simplex_voter.specs.Facts.{Elect}
 use Rattle.simplex_member.specs.declared.member.journal.Stored.{Stored}
 use Rattle.simplex_engine.specs.declared.engine.Engine.{Engine}
 use Rattle.engine_outbox.specs.declared.output.Output.{Output}
 use Rattle.engine_outbox.specs.Continuity.{IsWhole}
 use Rattle.engine_outbox.specs.RecordReach.{IsShort}
-use Rattle.engine_planner.specs.PlanStates.{IsIdle}
+use Rattle.engine_planner.specs.PlanStates.{IsIdle, IsWake}
 use Rattle.simplex_engine.specs.Bounds.{HoldsFromKept}
 use Rattle.simplex_engine.specs.BuildBounds.{BuildsAhead}
 use Rattle.simplex_engine.specs.MissingCertificates.{FetchesItsMissing}
 use Rattle.simplex_engine.specs.NothingDue.{HasNothingNew}
-use Rattle.simplex_engine.specs.Timeouts.{WaitsForTimeout}
+use Rattle.simplex_engine.specs.Timeouts.{fetches_of, timeout_of, IsAwaited, WaitsForTimeout}
+
+module _ {S L D K G C : Type 0} where
+  -- the engine settled at this moment, and no input came since
+  abbrev pub HasSettled : ℕ → Engine S L D K G C → Type 0
+  HasSettled now engine = engine.settled_at ≡ Some now
+
+  -- a moment lies before the one that `Engine::wake` returns
+  abbrev pub IsBeforeWake : ℕ → Engine S L D K G C → Type 0
+  IsBeforeWake now engine =
+      (wake : ℕ) × IsWake (fetches_of engine).wanted.items (timeout_of engine) wake × (now < wake)
+
+  -- a rest since one moment lasts at another: it is the same moment, or a later one before the wake
+  abbrev pub RestLasts : ℕ → ℕ → Engine S L D K G C → Type 0
+  RestLasts since now engine = (now ≡ since) ⊎ ((since < now) × IsBeforeWake now engine)
+
+  -- the engine settled at a moment, no input came since, and the rest since then lasts at this moment
+  pub record StaysSettled (now : ℕ) (engine : Engine S L D K G C) : Type 0 where
+    pub since : ℕ
+    pub settled : HasSettled since engine
+    pub lasts : RestLasts since now engine
 
 module _ {S L D K G C : Type 0} (same : D → D → Bool) (elect : Elect L) (bytes_of : C → List ℕ) where
   -- all that was due at this moment was done, except that outputs may be queued: all of the record was returned or is
@@ -32,6 +52,15 @@ module _ {S L D K G C : Type 0} (same : D → D → Bool) (elect : Elect L) (byt
     pub empty : engine.core.outbox.queue.items ≡ []
     pub settled : IsSettled now engine
 
+  -- at rest since a moment, and that rest lasts at this one: the timeout that the member named then lies after this
+  -- moment, no step is planned, and no fetch is due
+  pub record IsStillAtRest (now : ℕ) (engine : Engine S L D K G C) : Type 0 where
+    pub since : ℕ
+    pub rest : IsEngineAtRest since engine
+    pub lasts : RestLasts since now engine
+    pub awaited : IsAwaited now (timeout_of engine) rest.settled.timed.1.answer
+    pub idle : IsIdle now engine.plan
+
   -- where the engine stores the moment at which it settled, it is settled at that moment, and its record is short
   abbrev pub IsSettledAsStored : Engine S L D K G C → Type 0
   IsSettledAsStored engine =
@@ -46,10 +75,11 @@ abbrev pub IsUnsettled : {S L D K G C : Type 0} → Engine S L D K G C → Type 
 IsUnsettled engine = engine.settled_at ≡ None
 
 module _ {S L D K G C E : Type 0} where
-  -- of these outputs the first one is returned, and the others stay queued; nothing else changes
+  -- of these outputs the first one is returned, and the others stay queued; nothing else changes. Where there is none
+  -- and nothing is returned, none is queued then
   abbrev pub ReturnsFirst : List (Output S D Stored K G C) → Result (Option (Output S D Stored K G C)) E
       → Engine S L D K G C → Engine S L D K G C → Type 0
-  ReturnsFirst [] result old new = Unit {0}
+  ReturnsFirst [] result old new = IfOk result (λ out. IsNone out → new.core.outbox.queue.items ≡ [])
   ReturnsFirst (first ∷ rest) result old new =
       (result ≡ Ok (Some first))
       × (new.core.outbox.queue.items ≡ rest)
@@ -67,7 +97,3 @@ module _ {S L D K G C E : Type 0} where
     pub batcher : new.batcher ≡ old.batcher
     pub plan : new.plan ≡ old.plan
     pub settled_at : new.settled_at ≡ old.settled_at
-
--- the engine settled at this moment, and no input came since
-abbrev pub HasSettled : {S L D K G C : Type 0} → ℕ → Engine S L D K G C → Type 0
-HasSettled now engine = engine.settled_at ≡ Some now

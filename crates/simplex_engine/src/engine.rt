@@ -3,7 +3,7 @@
 //! It holds no network, clock or disk, and no key but the scheme's. Moments are milliseconds and never decrease.
 #![tactic(auto, using(engine_outbox::proofs::Continuity::stays, engine_outbox::proofs::Continuity::goes_further, crate::proofs::CertificateVotes::takes_nothing, crate::proofs::CertificateVotes::takes_no_more, crate::proofs::CertificateVotes::takes_anyway))]
 
-ghost use Rattle.std.specs.Prelude.{◌≡◌, ◌++◌, [], length, Contains, None, Err, if◌then◌else◌, IfOk, IfErr, IfSome, OnOk, OnErr, IsNone, IsFalse, IsTrue, Ok, true, false, ◌↔◌};
+ghost use Rattle.std.specs.Prelude.{◌≡◌, ◌⊎◌, ◌++◌, [], length, Contains, None, Err, if◌then◌else◌, IfOk, IfErr, IfSome, OnOk, OnErr, IsNone, IsFalse, IsTrue, Ok, true, false};
 ghost use Rattle.std.specs.Option.{option_copied};
 ghost use Rattle.simplex_types.specs.declared.types.fault.Fault.TheVariants.{OutOfMemory, Failed};
 ghost use Rattle.simplex_engine.specs.Failures.{IsFailure};
@@ -11,6 +11,7 @@ ghost use Rattle.simplex_engine.specs.Failures.{IsFailure};
 mod begin;
 mod calls;
 mod inputs;
+mod rest;
 mod steps;
 mod votes;
 
@@ -43,8 +44,8 @@ pub struct Engine<S: CertificateScheme, L: Elector<S>, D: Digest> {
     plan: Plan<S, D>,
     /// All views below this one were forgotten by the last `Work::Forget`.
     forgotten: View,
-    /// The moment at which all that was due was done last, if no input came since: at this moment only the queue is
-    /// left to return.
+    /// The moment at which all that was due was done last, if no input came since: at this moment, and at later ones
+    /// before `wake`, only the queue is left to return.
     settled_at: Option<u64>,
 }
 
@@ -64,7 +65,7 @@ impl<S: Assembly<D>, L: Elector<S>, D: Digest> Engine<S, L, D> {
     ghost use Rattle.engine_outbox.specs.Signatures.{IsSignedBy};
     ghost use Rattle.engine_outbox.specs.HostStops.{EachStopIsLawful};
     ghost use Rattle.engine_outbox.specs.declared.output.Output.TheVariants as output;
-    ghost use Rattle.simplex_engine.specs.AtRest.{HasSettled, IsEngineAtRest, IsSettledAsStored, IsUnsettled, ReturnsFirst, StaysAtRest, unsettled};
+    ghost use Rattle.simplex_engine.specs.AtRest.{HasSettled, IsSettledAsStored, IsStillAtRest, IsUnsettled, ReturnsFirst, StaysAtRest, StaysSettled, unsettled};
     ghost use Rattle.simplex_engine.specs.Timeouts.{fetches_of, timeout_of};
     ghost use Rattle.laws_safety.specs.LifetimeLaws.{CurrentTimesOut};
     ghost use Rattle.engine_planner.specs.PlannedWork.{constants_of, AreAmong};
@@ -121,7 +122,7 @@ impl<S: Assembly<D>, L: Elector<S>, D: Digest> Engine<S, L, D> {
     ///   of the record.
     /// - `ignored`: exactly the ignored inputs are counted.
     /// - `bounded`: stored votes remain votes of members, and of no view above those whose votes are taken.
-    /// - `to_settle`: the next `poll` looks for what is due, also at the moment of the last one.
+    /// - `to_settle`: the next `poll` looks for what is due, also before `wake`.
     /// - `failed`, `error`, `refused`: after an error the engine has failed. An engine that had failed returns `Failed`
     ///   and is unchanged.
     ///
@@ -177,15 +178,16 @@ impl<S: Assembly<D>, L: Elector<S>, D: Digest> Engine<S, L, D> {
     /// Returns the next output to carry out, at a moment in milliseconds. `None`: there is no output before another
     /// input, or before the moment that `wake` returns.
     ///
-    /// At one moment, with no input in between, `poll` comes to `None`: first it returns what is queued; then it does
-    /// all that is due, once; then it returns what that queued (`front`, `settles`, `stays`; `polls_end` of
-    /// `laws_engine`).
+    /// With no input in between, `poll` comes to `None`: first it returns what is queued; then it does all that is due,
+    /// once; then it returns what that queued. From then on it returns `None` at each moment before `wake`, and does no
+    /// work (`front`, `settles`, `stays`; `polls_end` of `laws_engine`).
     ///
     /// - `front`: until the engine fails, `poll` returns a queued output before it does anything else. It returns the
-    ///   first one and changes nothing else.
-    /// - `settles`: where nothing was queued, all that is due at this moment is done now.
-    /// - `stays`: where this was done at this moment before, and nothing is queued, `poll` returns `None` and changes
-    ///   nothing.
+    ///   first one and changes nothing else. After `None` nothing is queued.
+    /// - `settles`: where nothing was queued, all that is due at this moment is done now, unless the engine stays
+    ///   settled (`StaysSettled`): it was done at this moment before, or at an earlier one, and this one is before
+    ///   `wake`; and no input came since.
+    /// - `stays`: where the engine stays settled, and nothing is queued, `poll` returns `None` and changes nothing.
     /// - `settled`: the moment that the engine stores as that at which it settled is such a moment.
     /// - `given`, `traced`: the returned output is appended to the list of outputs. What the member has done still
     ///   traces that list, and its votes stay signed under the member's key.
@@ -202,12 +204,12 @@ impl<S: Assembly<D>, L: Elector<S>, D: Digest> Engine<S, L, D> {
     ///
     /// After `None`:
     ///
-    /// - `rest`: the engine is at rest (`IsEngineAtRest`):
+    /// - `rest`: the engine is at rest (`IsStillAtRest`), since the moment at which it settled:
     ///   - the whole record was returned to be stored;
     ///   - from the last finalized view on, the member has cast each vote that its rule allows, and each certificate
     ///     was returned; asked last, the member had no work for the application;
-    ///   - asked for its next timeout at this moment, after all other calls, the member named one after the moment, and
-    ///     `timeout` returns it: no timeout is due;
+    ///   - asked for its next timeout at that moment, after all other calls, the member named one after this moment,
+    ///     and `timeout` returns it: no timeout is due;
     ///   - no step is planned, and no fetch is due;
     ///   - each block to build is of the current view and was asked for, or is of a later view;
     ///   - no stored vote is of a view below the lowest retained one;
@@ -226,9 +228,10 @@ impl<S: Assembly<D>, L: Elector<S>, D: Digest> Engine<S, L, D> {
     pub fn poll(&mut self, now: u64) -> Result<Option<Output<S, D, Stored>>, Fault>
         ensures front { has_failed self.old.core ≡ false
             → ReturnsFirst self.old.core.outbox.queue.items result self.old self.new }
-        ensures settles { self.old.core.outbox.queue.items ≡ [] → OnOk result (HasSettled now self.new) }
+        ensures settles { self.old.core.outbox.queue.items ≡ []
+            → OnOk result (StaysSettled now self.old ⊎ HasSettled now self.new) }
         ensures stays { has_failed self.old.core ≡ false → self.old.core.outbox.queue.items ≡ []
-            → HasSettled now self.old → StaysAtRest result self.old self.new }
+            → StaysSettled now self.old → StaysAtRest result self.old self.new }
         ensures given { HasReturned S.certificate_bytes (returned_outputs result) self.old.core self.new.core }
         ensures does { ExtendsHistoryOn D.eq L.elect None self.old.core.member.facts self.new.core.member.facts }
         ensures traced { EmitsOn D.eq L.elect S.certificate_bytes S.IsSignature None (returned_outputs result)
@@ -238,7 +241,7 @@ impl<S: Assembly<D>, L: Elector<S>, D: Digest> Engine<S, L, D> {
             → IsSettledAsStored D.eq L.elect S.certificate_bytes self.old
             → OnOk result (IsSettledAsStored D.eq L.elect S.certificate_bytes self.new) }
         ensures rest { IsSettledAsStored D.eq L.elect S.certificate_bytes self.old
-            → IfOk result (λ out. IsNone out → IsEngineAtRest D.eq L.elect S.certificate_bytes now self.new) }
+            → IfOk result (λ out. IsNone out → IsStillAtRest D.eq L.elect S.certificate_bytes now self.new) }
         ensures short { (given : _) → IsJournaled S.certificate_bytes given self.old.core
             → IsSettledAsStored D.eq L.elect S.certificate_bytes self.old
             → IfOk result (λ out. IsNone out → IsShort self.new.plan.options.long_record self.new.core.member.facts) }
@@ -274,79 +277,15 @@ impl<S: Assembly<D>, L: Elector<S>, D: Digest> Engine<S, L, D> {
         if self.core.has_failed() {
             return Err(Fault::Failed);
         }
-        match self.core.next() {
-            Some(output) => Ok(Some(output)),
-            None => self.poll_after_work(now),
+        if !self.core.is_idle() {
+            return Ok(self.core.next());
         }
-    }
-
-    /// Takes all due steps, unless that was done at this moment, then returns the next output.
-    fn poll_after_work(&mut self, now: u64) -> Result<Option<Output<S, D, Stored>>, Fault>
-        requires empty { self.old.core.outbox.queue.items ≡ [] }
-        ensures settles { OnOk result (HasSettled now self.new) }
-        ensures stays { HasSettled now self.old → (result ≡ Ok None) × (self.new ≡ self.old) }
-        ensures given { HasReturned S.certificate_bytes (returned_outputs result) self.old.core self.new.core }
-        ensures does { ExtendsHistoryOn D.eq L.elect None self.old.core.member.facts self.new.core.member.facts }
-        ensures traced { EmitsOn D.eq L.elect S.certificate_bytes S.IsSignature None (returned_outputs result)
-            self.old.core self.new.core }
-        ensures reported { ReportsNoMore (returned_outputs result) self.old.core.outbox self.new.core.outbox }
-        ensures settled { (given : _) → IsJournaled S.certificate_bytes given self.old.core
-            → IsSettledAsStored D.eq L.elect S.certificate_bytes self.old
-            → OnOk result (IsSettledAsStored D.eq L.elect S.certificate_bytes self.new) }
-        ensures rest { IsSettledAsStored D.eq L.elect S.certificate_bytes self.old
-            → IfOk result (λ out. IsNone out → IsEngineAtRest D.eq L.elect S.certificate_bytes now self.new) }
-        ensures short { (given : _) → IsJournaled S.certificate_bytes given self.old.core
-            → IsSettledAsStored D.eq L.elect S.certificate_bytes self.old
-            → IfOk result (λ out. IsNone out → IsShort self.new.plan.options.long_record self.new.core.member.facts) }
-        ensures admitted { IsSettledAsStored D.eq L.elect S.certificate_bytes self.old
-            → HoldsNoneAhead S.participants self.old.core self.old.batcher
-            → IfOk result (λ out. IsNone out → HoldsAdmitted S.participants self.new.core self.new.batcher) }
-        ensures votes { TakesNone self.old.batcher self.new.batcher }
-        ensures held { ForgetsNoOther self.new.core self.old.batcher self.new.batcher }
-        ensures bounded { StaysBounded S.participants self.old.core self.old.batcher self.new.core self.new.batcher }
-        ensures due_work { OnOk result
-            ((given : _) → HasReportedAll given self.old → HasReportedAll (given ++ returned_outputs result) self.new) }
-        ensures waiting { IsSettledAsStored D.eq L.elect S.certificate_bytes self.old
-            → IfOk result
-            (λ out. IsNone out → (given : _) → HasReportedAll given self.old → AllIsReturned given self.new) }
-        ensures works { OnOk result
-            (AreAmong (work_ahead self.old) (work_in (returned_outputs result) ++ work_ahead self.new)) }
-        ensures near { OnOk result (BuildsNear self.old.core self.old.plan → BuildsNear self.new.core self.new.plan) }
-        ensures seen { OnOk result
-            (TracksViews self.old.core.member.facts self.old.plan
-            → TracksViews self.new.core.member.facts self.new.plan) }
-        ensures early { OnOk result (TracksViews self.old.core.member.facts self.old.plan
-            → StaysStoredEarly self.old.plan self.new.core.member.facts self.new.plan) }
-        ensures ignored { OnOk result (self.new.plan.ignored ≡ self.old.plan.ignored) }
-        ensures constants { OnOk result (constants_of self.new.plan ≡ constants_of self.old.plan) }
-        ensures failed { OnErr result (has_failed self.new.core ≡ true) }
-        ensures error { IfErr result (λ fault. fault ≡ OutOfMemory) }
-        ensures provenance { OnOk result
-            (IsCaused D.eq L.elect D.bytes S.certificate_bytes now (forgettable self.new.core.member.facts)
-            (work_in (returned_outputs result)) (held_by self.new) self.old self.new) }
-    {
-        if self.has_settled(now) {
-            return Ok(None);
-        }
-        match self.work(now) {
-            Ok(()) => {
-                self.settled_at = Some(now);
-                Ok(self.core.next())
-            }
+        match self.work_unless_settled(now) {
+            Ok(()) => Ok(self.core.next()),
             Err(_) => {
                 self.core.fail();
                 Err(Fault::OutOfMemory)
             }
-        }
-    }
-
-    /// Returns whether all that is due at a moment was done at that moment, and no input came since.
-    fn has_settled(&self, now: u64) -> bool
-        ensures { IsTrue result ↔ HasSettled now self.now }
-    {
-        match self.settled_at {
-            Some(moment) => moment == now,
-            None => false,
         }
     }
 
@@ -365,7 +304,8 @@ impl<S: Assembly<D>, L: Elector<S>, D: Digest> Engine<S, L, D> {
     }
 
     /// Returns the moment, in milliseconds, at which to call `poll` if no input comes before: that of `timeout`, or the
-    /// earliest one of `fetches`, whichever is earlier.
+    /// earliest one of `fetches`, whichever is earlier. Once `poll` has returned `None`, it does so at each moment
+    /// before this one (`stays`).
     pub fn wake(&self) -> u64
         ensures { IsWake (fetches_of self.now).wanted.items (timeout_of self.now) result }
     {

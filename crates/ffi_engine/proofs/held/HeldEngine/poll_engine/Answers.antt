@@ -1,6 +1,6 @@
 -- How the contract of `poll_engine` follows where the engine gives something out, where it has nothing more to do, and
 -- where it fails.
-use Rattle.std.proofs.Common.{List, [], Some, None, Ok, Err, ap, inr, refl, sym, subst, ◌∙◌}
+use Rattle.std.proofs.Common.{◌⊎◌, List, [], Some, None, Ok, Err, ap, inr, refl, sym, subst, ◌∙◌}
 use Rattle.std.specs.Prelude.{◌++◌, IsOk, OnOk, option_to_list}
 use Rattle.std.proofs.lemmas.Bool.{false≢true}
 use Rattle.simplex_codec.specs.Digests.{bytes_in_digest}
@@ -8,7 +8,7 @@ use Rattle.ffi_scheme.specs.Host.{certificate_bytes, IsOrder}
 use Rattle.engine_planner.specs.PlannedWork.{AreAmong}
 use Rattle.engine_outbox.specs.Outputs.{work_in}
 use Rattle.simplex_engine.specs.Provenance.{forgettable, held_by, IsCaused}
-use Rattle.simplex_engine.specs.AtRest.{HasSettled, ReturnsFirst, StaysAtRest}
+use Rattle.simplex_engine.specs.AtRest.{HasSettled, ReturnsFirst, StaysAtRest, StaysSettled}
 use Rattle.simplex_engine.specs.ApplicationWork.{work_ahead, HasReportedAll}
 use Rattle.engine_outbox.specs.Finalizations.{ReportsNoMore}
 use Rattle.engine_outbox.specs.Continuity.{EmitsOn, IsJournaled}
@@ -32,7 +32,8 @@ returns-in-Ok-Some c =
           front = λ lives. subst (λ answer. ReturnsFirst c.args.self.now.engine.core.outbox.queue.items answer
               c.args.self.now.engine c.give_out.new.self.engine) (c.in-Ok-Some.is ∙ ap Ok c.in-Ok-Some.field-0-is)
               (rw rest.0 (c.poll.ensures.front lives));
-          settles = λ empty. subst (λ answer. OnOk answer (HasSettled c.args.now c.give_out.new.self.engine))
+          settles = λ empty. subst (λ answer. OnOk answer
+              (StaysSettled c.args.now c.args.self.now.engine ⊎ HasSettled c.args.now c.give_out.new.self.engine))
               (c.in-Ok-Some.is ∙ ap Ok c.in-Ok-Some.field-0-is) (rw rest.0 (c.poll.ensures.settles empty));
           stays = λ lives empty at. subst (λ answer.
               StaysAtRest answer c.args.self.now.engine c.give_out.new.self.engine)
@@ -97,7 +98,8 @@ returns-in-Ok-None c =
           front = λ lives. subst (λ answer. ReturnsFirst c.args.self.now.engine.core.outbox.queue.items answer
               c.args.self.now.engine c.poll.new.self) (c.in-Ok-None.is ∙ ap Ok c.in-Ok-None.field-0-is)
               (c.poll.ensures.front lives);
-          settles = λ empty. subst (λ answer. OnOk answer (HasSettled c.args.now c.poll.new.self))
+          settles = λ empty. subst (λ answer. OnOk answer
+              (StaysSettled c.args.now c.args.self.now.engine ⊎ HasSettled c.args.now c.poll.new.self))
               (c.in-Ok-None.is ∙ ap Ok c.in-Ok-None.field-0-is) (c.poll.ensures.settles empty);
           stays = λ lives empty at. subst (λ answer. StaysAtRest answer c.args.self.now.engine c.poll.new.self)
               (c.in-Ok-None.is ∙ ap Ok c.in-Ok-None.field-0-is) (c.poll.ensures.stays lives empty at);
