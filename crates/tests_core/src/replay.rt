@@ -170,7 +170,7 @@ fn settles_the_nullified(state: &State) -> bool {
 }
 
 #[test]
-fn what_a_record_lacks_is_fetched(rt: HostRuntime) -> Result<(), Fail> {
+fn certificates_missing_from_a_record_are_fetched(rt: HostRuntime) -> Result<(), Fail> {
     let (state, effects) = with_gaps(rt.alloc())?;
     let expected = [
         gap_fetch(2, 9),
@@ -191,7 +191,7 @@ fn nullified(view: u64) -> Certificate<PlainScheme, PlainDigest>
 }
 
 #[test]
-fn a_resolver_goes_on_behind_its_record(rt: HostRuntime) -> Result<(), Fail> {
+fn a_resolver_continues_after_its_record(rt: HostRuntime) -> Result<(), Fail> {
     let (mut state, _effects) = with_gaps(rt.alloc())?;
     let settled = Effect::Settled {
         kind: Kind::Nullification,
@@ -311,7 +311,7 @@ fn bad_records() -> [([PlainArtifact; 2], ReplayError); 5] {
 }
 
 #[test]
-fn the_first_bad_entry_is_told(rt: HostRuntime) -> Result<(), Fail> {
+fn the_first_bad_entry_is_reported(rt: HostRuntime) -> Result<(), Fail> {
     for (entries, error) in &bad_records() {
         assert!(rt; is_refused(rt.alloc(), entries, *error)?, "{error}");
     }

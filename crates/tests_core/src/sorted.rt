@@ -27,7 +27,7 @@ fn changes_what_stands(tracked: &mut Tracked<u64>) -> bool {
 }
 
 #[test]
-fn a_value_that_stands_stays(rt: HostRuntime) -> Result<(), Fail> {
+fn a_value_that_is_stored_stays(rt: HostRuntime) -> Result<(), Fail> {
     let mut tracked = Tracked::new(rt.alloc());
     assert!(rt; tracked.insert(view(7), 1)?.is_none());
     assert!(rt; keeps_what_stands(&mut tracked)? && changes_what_stands(&mut tracked));

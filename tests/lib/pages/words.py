@@ -33,6 +33,10 @@ MAY_BE_LONG = re.compile(r'^\s*((pub |ghost )?use |#!\[)|"|\\n\\$')
 COMMENTED = (("crates/**/*.rt", "//"), ("crates/**/*.antt", "--"), ("bindings/**/*.rs", "//"), ("node/**/*.rs", "//"))
 # Documentation says first what it is of: a noun, or what a function does.
 DOCUMENTED = ("bindings/**/*.rs", "node/**/*.rs")
+# Names that are sentences.
+EDITS = ("crates/*/must-fail/*.edit", "tests/mutants/must-fail/*/*.edit", "tests/mutants/swept/*/*.edit")
+TESTED = ("crates/**/*.rt", "bindings/**/*.rs", "node/**/*.rs")
+TEST = re.compile(r"#\[test\](?:\s*#\[[^\]]*\])*\s*fn (\w+)")
 OPENING = re.compile(r"^[/!] (What|Whether|That|Of)\b")
 
 
@@ -117,11 +121,28 @@ def openings():
                 yield from (f"{place}:{line}: begin with a noun or with a verb, not with {it[1]!r}" for it in OPENING.finditer(text))
 
 
+def names_of_tests():
+    """The names of must-fail edits and of tests in Rust and Rattle, each with its file."""
+    for pattern in EDITS:
+        yield from ((path, path.stem) for path in files(pattern))
+    for pattern in TESTED:
+        for path in files(pattern):
+            yield from ((path, name) for name in TEST.findall(path.read_text()))
+
+
+def names_in_dialect():
+    """The names of tests and edits with a word of this repository's own."""
+    for path, name in names_of_tests():
+        words = name.replace("_", " ")
+        yield from (f"{path.relative_to(ROOT)}: {name}: say {it[0]!r} in the field's words" for it in DIALECT.finditer(words))
+
+
 def faults():
-    """What is wrong with the words of comments and of scripts."""
+    """What is wrong with the words of comments, of scripts, and of the names of tests."""
     yield from long_lines()
     yield from gerunds()
     yield from openings()
+    yield from names_in_dialect()
     for path in scripts():
         place = path.relative_to(ROOT)
         for line, text in texts_in(path):

@@ -49,7 +49,7 @@ fn restart_at_9(alloc: Global, member: &mut PlainMember) -> Result<(), Fail> {
 }
 
 #[test]
-fn a_member_begins_behind_the_view_of_its_floor(rt: HostRuntime) -> Result<(), Fail> {
+fn a_member_begins_after_the_view_of_its_floor(rt: HostRuntime) -> Result<(), Fail> {
     let mut member = begun_at_5(rt.alloc())?;
     assert!(rt; stands_at(&mut member, 5, 1));
     restart_at_9(rt.alloc(), &mut member)?;

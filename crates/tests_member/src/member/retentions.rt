@@ -87,7 +87,7 @@ fn lives_as_expected(
 }
 
 #[test]
-fn a_record_is_pruned_by_the_last_life_and_a_retention_grows_only_before(
+fn a_record_is_pruned_by_the_last_lifetime_and_a_retention_grows_only_before(
     rt: HostRuntime,
 ) -> Result<(), Fail> {
     for lives in &LIVES {
@@ -117,7 +117,7 @@ fn has_notarization(member: &PlainMember) -> bool {
 }
 
 #[test]
-fn a_shrunk_retention_leaves_the_state_as_the_last_life_kept_it(
+fn a_shrunk_retention_leaves_the_state_as_the_last_lifetime_kept_it(
     rt: HostRuntime,
 ) -> Result<(), Fail> {
     let mut member = finalized_at_20(rt.alloc())?;

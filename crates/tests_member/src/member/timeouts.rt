@@ -177,7 +177,7 @@ fn with_budget(alloc: Global, budget: u64, are_of_five: bool) -> Result<PlainSta
 }
 
 #[test]
-fn a_view_that_was_given_up_is_skipped_within_the_budget(rt: HostRuntime) -> Result<(), Fail> {
+fn an_abandoned_view_is_skipped_within_the_budget(rt: HostRuntime) -> Result<(), Fail> {
     for (budget, are_of_five, events, (now, wanted)) in &BUDGETS {
         let start = with_budget(rt.alloc(), *budget, *are_of_five)?;
         let mut member = started(rt.alloc(), start)?;
