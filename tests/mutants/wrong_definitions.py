@@ -582,6 +582,38 @@ WRONG_DEFINITIONS = (
         (("pub unsettled : IsUnsettled engine", "pub unsettled : Unit {0}"),), MEETINGS,
     ),
     Wrong(
+        "an engine may begin with offers that were not returned", "laws_meetings/specs/EngineRuns.antt",
+        (("pub reported : HasReportedAll [] engine", "pub reported : Unit {0}"),), MEETINGS,
+    ),
+    Wrong(
+        "an engine may lose what the application must receive", "laws_meetings/specs/EngineRuns.antt",
+        (("→ HasReportedAll (given ++ returned_by call) new", "→ HasReportedAll given old"),), MEETINGS,
+    ),
+    Wrong(
+        "views below the last finalized one await their verdicts", "laws_meetings/specs/AwaitedVerdicts.antt",
+        (("last.finalized < view →", "view < last.finalized →"),), MEETINGS,
+    ),
+    Wrong(
+        "an application is asked for the verdict on a parent", "laws_meetings/specs/AwaitedVerdicts.antt",
+        (("pub of_view : proposal.round.view ≡ view", "pub of_view : proposal.parent ≡ view"),), MEETINGS,
+    ),
+    Wrong(
+        "a verdict is awaited that was given", "laws_meetings/specs/AwaitedVerdicts.antt",
+        (("pub no_verdict : is_offered waiting view ≡ true", "pub no_verdict : is_offered waiting view ≡ false"),), MEETINGS,
+    ),
+    Wrong(
+        "a certified view was refused", "laws_meetings/specs/AwaitedVerdicts.antt",
+        (("is_judged false (round_of x view).certification ≡ true", "is_judged true (round_of x view).certification ≡ true"),), MEETINGS,
+    ),
+    Wrong(
+        "a view awaits a parent that its parent requires", "laws_meetings/specs/AwaitedVerdicts.antt",
+        (("required_certification_parent elect x view p", "required_certification_parent elect x parent p"),), MEETINGS,
+    ),
+    Wrong(
+        "a parent is wrong that a proposal may have", "laws_meetings/specs/AwaitedVerdicts.antt",
+        (("has_valid_parent_span x view p.parent ≡ false", "has_valid_parent_span x view p.parent ≡ true"),), MEETINGS,
+    ),
+    Wrong(
         "at rest certificates of views below the last finalized one were sent", "laws_meetings/specs/Broadcasts.antt",
         (("(kind : KindOfCertificate) (view : ℕ) → last.finalized ≤ view →", "(kind : KindOfCertificate) (view : ℕ) → 0 ≤ view →"),), MEETINGS,
     ),
@@ -607,7 +639,11 @@ WRONG_DEFINITIONS = (
     ),
     Wrong(
         "a member waits for a verdict that it has given", "laws_meetings/specs/Meetings.antt",
-        (("→ has_certified state view ≡ false → Follows", "→ has_certified state view ≡ true → Follows"),), MEETINGS,
+        (("→ has_certified state view ≡ false → awaits view", "→ has_certified state view ≡ true → awaits view"),), MEETINGS,
+    ),
+    Wrong(
+        "a member awaits the verdicts that another one lacks", "laws_meetings/specs/Meetings.antt",
+        (("(AwaitsVerdictOn elect at.process state)", "(AwaitsVerdictOn elect at.process last)"),), MEETINGS,
     ),
     Wrong(
         "members meet whose verdicts differ", "laws_meetings/specs/Meetings.antt",

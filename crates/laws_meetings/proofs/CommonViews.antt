@@ -16,6 +16,7 @@ use Rattle.laws_hosts.specs.HostNetworks.{Host, IsCertifiable, IsHostNetwork}
 use Rattle.laws_hosts.proofs.CallTraces.{AcceptsGood}
 use Rattle.laws_rounds.specs.Finality.{HasFinalized, HasLeft, HasNotarization, SpreadsInRounds}
 use Rattle.laws_rounds.specs.Rounds.{IsAtRest, IsRound, RoundsKeepNetworks}
+use Rattle.laws_meetings.specs.AwaitedVerdicts.{AwaitsVerdictOn, VerdictsAreAwaited}
 use Rattle.laws_meetings.specs.Broadcasts.{SendsAllAtRest}
 use Rattle.laws_meetings.specs.Meetings.{Follows, Reaches, BeganWith, AwaitsVerdict, HasSentCertificate, CertifiesAlike, IsStateOf, ViewsAreFollowed, ViewsMeet}
 use Rattle.laws_meetings.specs.TrackedCertificates.{tracks, has_had, IsOf}
@@ -26,13 +27,14 @@ use Rattle.laws_meetings.proofs.LedViews.{IsLedAhead, IsUncovered}
 use Rattle.laws_meetings.proofs.SentByHosts.{sent_at_rest, sent_by_or_not, reaches}
 
 -- nothing is in the way, where the host has sent what its process began with, and the verdicts agree
-reached_so : {K L D : Type 0} (sent : KindOfCertificate → ℕ → Type 0) (first x y : StateFacts K L D)
+reached_so : {K L D : Type 0} (sent : KindOfCertificate → ℕ → Type 0) (awaits : ℕ → Type 0)
+    (first x y : StateFacts K L D)
     → ((kind : KindOfCertificate) (view : ℕ) → x.finalized ≤ view → has_had kind first view ≡ true → sent kind view)
-    → CertifiesAlike x y → Follows sent first x y → x.current ≤ y.current
-reached_so sent first x y all_sent alike (Reaches is) = is
-reached_so sent first x y all_sent alike (BeganWith kind view is above there had unsent) =
+    → CertifiesAlike x y → Follows sent awaits first x y → x.current ≤ y.current
+reached_so sent awaits first x y all_sent alike (Reaches is) = is
+reached_so sent awaits first x y all_sent alike (BeganWith kind view is above there had unsent) =
     absurd (unsent (all_sent kind view above had))
-reached_so sent first x y all_sent alike (AwaitsVerdict view is judged tracked not_yet) =
+reached_so sent awaits first x y all_sent alike (AwaitsVerdict view is judged tracked not_yet lacking) =
     absurd (false≢true (sym not_yet ∙ alike view judged tracked))
 
 module _ {S L D K G C : Type 0} (same : D → D → Bool) (decides : (d e : D) → same d e ≡ true → d ≡ e)
@@ -43,6 +45,7 @@ module _ {S L D K G C : Type 0} (same : D → D → Bool) (decides : (d e : D) �
     (nullifications : SpreadsInRounds {C = C} same elect bytes_of is_signature keys_of me terms HasLeft)
     (notarizations : SpreadsInRounds {C = C} same elect bytes_of is_signature keys_of me terms HasNotarization)
     (sends : SendsAllAtRest {C = C} same elect bytes bytes_of is_signature keys_of)
+    (verdicts : VerdictsAreAwaited {C = C} same elect bytes bytes_of is_signature keys_of me terms)
     (agree : OfEachNetwork K same elect (λ length members. FinalizedUncovered members length)) where
   abbrev IsNetwork : ℕ → List (Host S L D K G C) → Type 0
   IsNetwork term_length hosts = IsHostNetwork same elect bytes_of is_signature keys_of me terms term_length hosts
@@ -99,6 +102,7 @@ module _ {S L D K G C : Type 0} (same : D → D → Bool) (decides : (d e : D) �
       let traced_i = traced term_length next i first last next_network at_i in
       let traced_j = traced term_length later j begun state later_network at_j in
       followed (λ kind v. HasSentCertificate bytes_of next i kind (round_number last v))
+      (AwaitsVerdictOn elect at_j.process state)
       (λ kind v. sent_by_or_not bytes_of next i at_i.process at_i.is_last kind (round_number last v)) first last state
       same_epoch (traced_i.shows.terms ∙ sym traced_j.shows.terms) traced_i.led traced_j.led.ahead
       traced_j.shows.certified
@@ -111,6 +115,8 @@ module _ {S L D K G C : Type 0} (same : D → D → Bool) (decides : (d e : D) �
         nullification = λ v above there out. shown HasLeft nullifications Nullification v above there out;
         notarization = λ v above there out. shown HasNotarization notarizations Notarization v above there out;
       })
+      (verdicts term_length later later_network j at_j.process begun state at_j.is_last at_j.runs
+      (second_round.at_rest j at_j.process at_j.is_last) at_j.states)
     where
       next_network : IsNetwork term_length next
       next_network = keep term_length (next ∷ []) hosts next network (first_round, refl)
@@ -146,7 +152,8 @@ module _ {S L D K G C : Type 0} (same : D → D → Bool) (decides : (d e : D) �
       → x.settings.epoch ≡ y.settings.epoch → CertifiesAlike x y → x.current ≤ y.current
   comes term_length hosts next later network first_round second_round i j first x begun y apart at_i at_j all_sent
       same_epoch alike =
-      reached_so (λ kind view. HasSentCertificate bytes_of next i kind (round_number x view)) first x y all_sent alike
+      reached_so (λ kind view. HasSentCertificate bytes_of next i kind (round_number x view))
+      (AwaitsVerdictOn elect at_j.process y) first x y all_sent alike
       (views_follow term_length hosts next later network first_round second_round i j first x begun y apart at_i at_j
       same_epoch)
 

@@ -88,13 +88,14 @@ module _ {K L D : Type 0} (sent : KindOfCertificate → ℕ → Type 0) (first x
     | inr new ↦ inl (inl new)
   ]
 
-module _ {K L D : Type 0} (sent : KindOfCertificate → ℕ → Type 0)
+module _ {K L D : Type 0} (sent : KindOfCertificate → ℕ → Type 0) (awaits : ℕ → Type 0)
     (either : (kind : KindOfCertificate) (v : ℕ) → sent kind v ⊎ (sent kind v → ⊥)) (first x y : StateFacts K L D)
     (same_epoch : x.settings.epoch ≡ y.settings.epoch) (same_terms : x.terms.term_length ≡ y.terms.term_length)
     (since : IsLedAhead x) (ahead : y.finalized < y.current)
     (certified_below : (v : ℕ) → has_certified y v ≡ true → v < y.current) (own : IsUncovered x x)
-    (other : IsUncovered x y) (shows : ShowsAll (IsOut sent first x) x y) where
-  by_final : x.current ≡ x.finalized + 1 → tracks Finalization x x.finalized ≡ true → Follows sent first x y
+    (other : IsUncovered x y) (shows : ShowsAll (IsOut sent first x) x y)
+    (lacks : (v : ℕ) → y.finalized < v → has_certified y v ≡ false → awaits v) where
+  by_final : x.current ≡ x.finalized + 1 → tracks Finalization x x.finalized ≡ true → Follows sent awaits first x y
   by_final is there = elim (out_or_not sent first x either Finalization x.finalized) [
     | inl out ↦
         (let by = shows.finalization x.finalized (omega arith) there out in
@@ -104,7 +105,7 @@ module _ {K L D : Type 0} (sent : KindOfCertificate → ℕ → Type 0)
   ]
 
   by_nullified : (v : ℕ) → 1 ≤ v → x.current ≡ next_view Nullification x v → tracks Nullification x v ≡ true
-      → is_among v x.nullified ≡ true → Follows sent first x y
+      → is_among v x.nullified ≡ true → Follows sent awaits first x y
   by_nullified v some is there known = elim (cases_lt v x.finalized) [
     | inl below ↦
         (let past = own v known some (omega (arith, below)) in
@@ -124,19 +125,22 @@ module _ {K L D : Type 0} (sent : KindOfCertificate → ℕ → Type 0)
   ]
 
   by_certified : (v : ℕ) → x.current ≡ v + 1 → tracks Notarization x v ≡ true → has_certified x v ≡ true
-      → Follows sent first x y
+      → Follows sent awaits first x y
   by_certified v is there judged = by_view (cases_lt 0 v)
     where
       above : x.finalized ≤ v
       above = let up = since.ahead in omega (arith, is, up)
 
-      by_verdict : tracks Notarization y v ≡ true → Follows sent first x y
+      by_verdict : tracks Notarization y v ≡ true → Follows sent awaits first x y
       by_verdict tracked = elim (cases_Bool (has_certified y v)) [
         | inl certified ↦ (let below = certified_below v certified in Reaches (omega (arith, is, below)))
-        | inr not_yet ↦ AwaitsVerdict v is judged tracked not_yet
+        | inr not_yet ↦ elim (cases_lt y.finalized v) [
+          | inl over ↦ AwaitsVerdict v is judged tracked not_yet (lacks v over not_yet)
+          | inr final ↦ Reaches (omega (arith, is, final, ahead))
+        ]
       ]
 
-      by_view : (0 < v) ⊎ (v ≤ 0) → Follows sent first x y
+      by_view : (0 < v) ⊎ (v ≤ 0) → Follows sent awaits first x y
       by_view (inr none) = Reaches (omega (arith, is, none, ahead))
       by_view (inl some) = elim (out_or_not sent first x either Notarization v) [
         | inl out ↦
@@ -148,10 +152,10 @@ module _ {K L D : Type 0} (sent : KindOfCertificate → ℕ → Type 0)
         | inr (had, unsent) ↦ BeganWith Notarization v is above there had unsent
       ]
 
-  pub followed : Follows sent first x y
+  pub followed : Follows sent awaits first x y
   followed = by_led since.led
     where
-      by_led : IsLed x → Follows sent first x y
+      by_led : IsLed x → Follows sent awaits first x y
       by_led (IsFirst is) = Reaches (omega (arith, is, ahead))
       by_led (PastFinalized is there) = by_final is there
       by_led (PastCertified v is there judged) = by_certified v is there judged

@@ -49,14 +49,14 @@ IsUncovered x y =
 
 -- ---- verdicts
 
-certified_so : (c : Certification) → verdict_of c ≡ Some true → is_certified c ≡ true
+pub certified_so : (c : Certification) → verdict_of c ≡ Some true → is_certified c ≡ true
 certified_so certification.Ready is = absurd (false≢true (ap is_some is))
 certified_so (certification.Outstanding token) is = absurd (false≢true (ap is_some is))
 certified_so (certification.Judged true) is = refl
 certified_so (certification.Judged false) is = absurd (false≢true (ap (λ o. unwrap_or o true) is))
 certified_so certification.Aborted is = absurd (false≢true (ap is_some is))
 
-verdict_so : (c : Certification) → is_certified c ≡ true → verdict_of c ≡ Some true
+pub verdict_so : (c : Certification) → is_certified c ≡ true → verdict_of c ≡ Some true
 verdict_so certification.Ready is = absurd (false≢true is)
 verdict_so (certification.Outstanding token) is = absurd (false≢true is)
 verdict_so (certification.Judged true) is = refl
@@ -72,12 +72,12 @@ judged_so (certification.Judged false) is = absurd (false≢true is)
 judged_so certification.Aborted is = refl
 
 -- what is there stays
-kept_so : {A : Type 0} (old new : Option A) (a : A) → old ≡ Some a → or_new old new ≡ Some a
+pub kept_so : {A : Type 0} (old new : Option A) (a : A) → old ≡ Some a → or_new old new ≡ Some a
 kept_so old None a is = is
 kept_so None (Some b) a is = absurd (false≢true (ap is_some is))
 kept_so (Some c) (Some b) a is = is
 
-unmapped : {A B : Type 0} (f : A → B) (o : Option A) → is_some (option_map f o) ≡ is_some o
+pub unmapped : {A B : Type 0} (f : A → B) (o : Option A) → is_some (option_map f o) ≡ is_some o
 unmapped f None = refl
 unmapped f (Some a) = refl
 
@@ -178,7 +178,7 @@ higher : (a b : ℕ) → a < b → max a b ≡ b
 higher a b above = omega arith
 
 -- a tracked view that takes a verdict has its notarization, and no other verdict
-taken_parts : {K D : Type 0} (success : Bool) (d : RoundFacts K D) (o : Option (RoundFacts K D)) → is_some o ≡ true
+pub taken_parts : {K D : Type 0} (success : Bool) (d : RoundFacts K D) (o : Option (RoundFacts K D)) → is_some o ≡ true
     → option_map_or (λ (r : RoundFacts K D). is_some r.notarization && not (is_judged (not success) r.certification)) o
     true ≡ true
     → (is_some (unwrap_or o d).notarization ≡ true)

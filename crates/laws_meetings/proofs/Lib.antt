@@ -10,6 +10,10 @@ mod HostCertificates
 mod FollowedViews
 mod CommonViews
 mod Fresh
+mod CandidateViews
+mod CandidateOffers
+mod CandidateRuns
+mod AwaitedVerdicts
 mod CallClauses
 mod LoneRounds
 mod TwoHosts

@@ -91,7 +91,7 @@ module _ {S L D K G C : Type 0} (same : D → D → Bool) (elect : Elect L) (byt
       (settles.settled given kept settled)
 
 -- nothing is ahead of an engine with no output queued and no step planned
-none_ahead : {S L D K G C : Type 0} (engine : Engine S L D K G C) → engine.core.outbox.queue.items ≡ []
+pub none_ahead : {S L D K G C : Type 0} (engine : Engine S L D K G C) → engine.core.outbox.queue.items ≡ []
     → engine.plan.steps.items ≡ [] → work_ahead engine ≡ []
 none_ahead engine queue steps = λ i. work_in (queue i) ++ work_planned (steps i)
 
@@ -106,7 +106,7 @@ module _ {S L D K G C : Type 0} (same : D → D → Bool) (decides : (d e : D) �
   module _ (process : Process S L D K G C) (first last : StateFacts K L D)
       (run : IsEngineRun same elect bytes bytes_of is_signature keys_of process) (at_rest : IsAtRest process)
       (states : HasStates process first last) where
-    engine_rests : (now : ℕ) × IsEngineAtRest same elect bytes_of now process.last
+    pub engine_rests : (now : ℕ) × IsEngineAtRest same elect bytes_of now process.last
     engine_rests =
         rests same elect bytes bytes_of is_signature keys_of
         (alive_before same decides elect bytes bytes_of is_signature keys_of first) at_rest.before []

@@ -10,7 +10,7 @@ use Rattle.engine_outbox.specs.Continuity.{has_failed, IsJournaled, HasReturned}
 use Rattle.engine_outbox.specs.Outputs.{work_in}
 use Rattle.engine_planner.specs.Causes.{Cause}
 use Rattle.engine_planner.specs.PlannedWork.{AreAmong}
-use Rattle.simplex_engine.specs.ApplicationWork.{work_ahead}
+use Rattle.simplex_engine.specs.ApplicationWork.{work_ahead, HasReportedAll}
 use Rattle.simplex_engine.specs.AtRest.{IsEngineAtRest, IsSettledAsStored, IsUnsettled}
 use Rattle.simplex_engine.specs.Provenance.{IsCaused}
 use Rattle.simplex_engine.specs.declared.engine.Engine.{Engine}
@@ -28,22 +28,25 @@ module _ {S D K G C : Type 0} where
   abbrev pub work_returned : EngineCall S D K G C → List (Work S D K G C)
   work_returned call = work_in (returned_by call)
 
--- an engine begins, by the clauses `kept` and `begun` of `start` and `resume`: nothing was returned, and it looks for
--- what is due at the first poll
+-- an engine begins, by the clauses `kept`, `due_work` and `begun` of `start` and `resume`: nothing was returned, the
+-- application is asked for nothing, and the engine looks for what is due at the first poll
 pub record HasBegun {S L D K G C : Type 0} (bytes_of : C → List ℕ) (engine : Engine S L D K G C) : Type 0 where
   pub kept : IsJournaled bytes_of [] engine.core
+  pub reported : HasReportedAll [] engine
   pub unsettled : IsUnsettled engine
 
 module _ {S L D K G C : Type 0} (same : D → D → Bool) (elect : Elect L) (bytes : D → List ℕ)
     (bytes_of : C → List ℕ) where
-  -- a call that does not fail, by the clause `provenance` and by `due_work` or `works`: the work that the member's
-  -- replies ask for was returned or is ahead, and so is what was ahead
+  -- a call that does not fail, by the clauses `provenance`, `due_work` and `works`: the work that the member's replies
+  -- ask for was returned or is ahead, and so is what was ahead, and what the application must receive
   pub record DoesItsWork (call : EngineCall S D K G C) (old new : Engine S L D K G C) : Type 0 where
     pub now : ℕ
     pub came : List (Cause S D K G C)
     pub held : FetchKind → ℕ → Bool
     pub caused : IsCaused same elect bytes bytes_of now came (work_returned call) held old new
     pub ahead : AreAmong (work_ahead old) (work_returned call ++ work_ahead new)
+    pub reports : (given : List (Output S D Stored K G C)) → HasReportedAll given old
+        → HasReportedAll (given ++ returned_by call) new
 
 module _ {S L D K G C : Type 0} (same : D → D → Bool) (elect : Elect L) (bytes_of : C → List ℕ) where
   -- a call that does not fail, by the clauses `to_settle`, `given`, `settled` and `rest`: after a poll that returned

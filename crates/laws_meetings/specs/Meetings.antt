@@ -9,6 +9,7 @@ use Rattle.laws_safety.specs.LifetimeLaws.{KindOfCertificate, Notarization, Null
 use Rattle.laws_hosts.specs.HostNetworks.{Host, Honest, IsHostNetwork}
 use Rattle.laws_hosts.specs.Processes.{Process, carried_by}
 use Rattle.laws_rounds.specs.Rounds.{IsLastProcess, IsRound}
+use Rattle.laws_meetings.specs.AwaitedVerdicts.{AwaitsVerdictOn}
 use Rattle.laws_meetings.specs.Broadcasts.{IsSent, HasStates}
 use Rattle.laws_meetings.specs.EngineRuns.{IsEngineRun}
 use Rattle.laws_meetings.specs.TrackedCertificates.{tracks, has_had, has_certified}
@@ -20,16 +21,19 @@ module _ {K L D : Type 0} where
   next_view kind x view = view + 1
 
   -- the current view of `state` is not below that of `last`, or what is in the way. These are states of two members.
-  -- The process of `last` began with the state `first`, and its host has sent certificates of these kinds and views
-  pub data Follows (sent : KindOfCertificate → ℕ → Type 0) (first last state : StateFacts K L D) : Type 0 where
-    Reaches : last.current ≤ state.current → Follows sent first last state
+  -- The process of `last` began with the state `first`, and its host has sent certificates of these kinds and views;
+  -- the member of `state` awaits verdicts on these views
+  pub data Follows (sent : KindOfCertificate → ℕ → Type 0) (awaits : ℕ → Type 0) (first last state : StateFacts K L D)
+      : Type 0 where
+    Reaches : last.current ≤ state.current → Follows sent awaits first last state
     -- the process of `last` began with the certificate that led to its view, which its host has not sent
     BeganWith : (kind : KindOfCertificate) (view : ℕ) → last.current ≡ next_view kind last view → last.finalized ≤ view
         → tracks kind last view ≡ true → has_had kind first view ≡ true → (sent kind view → ⊥)
-        → Follows sent first last state
-    -- `last` has certified the view below, of which `state` tracks a notarization without a true verdict
+        → Follows sent awaits first last state
+    -- `last` has certified the view below, of which `state` tracks a notarization, and awaits a true verdict
     AwaitsVerdict : (view : ℕ) → last.current ≡ view + 1 → has_certified last view ≡ true
-        → tracks Notarization state view ≡ true → has_certified state view ≡ false → Follows sent first last state
+        → tracks Notarization state view ≡ true → has_certified state view ≡ false → awaits view
+        → Follows sent awaits first last state
 
   -- a process begins at view 1, with no certificate and no verdict
   pub record IsFresh (begun : StateFacts K L D) : Type 0 where
@@ -79,8 +83,9 @@ module _ {S L D K G C : Type 0} (same : D → D → Bool) (elect : Elect L) (byt
         → IsRound same elect bytes_of is_signature keys_of me terms term_length hosts next
         → IsRound same elect bytes_of is_signature keys_of me terms term_length next later
         → (i j : ℕ) (first last begun state : StateFacts K L D) → i ≢ j → IsStateOf next i first last
-        → IsStateOf later j begun state → last.settings.epoch ≡ state.settings.epoch
-        → Follows (λ kind view. HasSentCertificate bytes_of next i kind (round_number last view)) first last state
+        → (at : IsStateOf later j begun state) → last.settings.epoch ≡ state.settings.epoch
+        → Follows (λ kind view. HasSentCertificate bytes_of next i kind (round_number last view))
+        (AwaitsVerdictOn elect at.process state) first last state
 
     -- two honest members of one epoch, whose verdicts agree, are in one view after two rounds, unless one of them has
     -- entered a view in the second

@@ -1,5 +1,6 @@
-//! What is sent at rest, and whether views meet. A function does nothing: its contract is the law.
+//! What is sent and asked at rest, and whether views meet. A function does nothing: its contract is the law.
 
+ghost use Rattle.laws_meetings.specs.AwaitedVerdicts.{VerdictsAreAwaited};
 ghost use Rattle.laws_meetings.specs.Broadcasts.{SendsAllAtRest};
 ghost use Rattle.laws_meetings.specs.Meetings.{ViewsAreFollowed, ViewsMeet};
 
@@ -21,14 +22,33 @@ pub fn all_is_sent_at_rest<S: Scheme<D>, L: Elector<S>, D: Digest>()
     ensures { SendsAllAtRest D.eq L.elect D.bytes S.certificate_bytes S.IsSignature S.participants }
 {}
 
+/// At rest each true verdict that a member lacks is awaited: its application was asked, or another reason is named.
+///
+/// The host is an honest one of a network, its last process has made calls as the engine's contract describes them
+/// (`IsEngineRun`), and that has come to rest. Of each view above the last finalized one that has no true verdict, one
+/// of these is true (`LacksVerdict`):
+///
+/// - `Asked`: in this process the host has carried out `Certify` for a proposal of the view. The application has given
+///   no verdict on it since.
+/// - `Refused`: the verdict is false.
+/// - `NotNotarized`: the member tracks no notarization of the view.
+/// - `AwaitsParent`: the view's proposal requires that the view before is certified first, and this view lacks its
+///   verdict for one of these reasons.
+/// - `WrongParent`: no proposal of the view may have this parent.
+///
+/// So a process that resumes asks again for each verdict that its record lacks.
+pub fn verdicts_are_awaited<S: Scheme<D>, L: Elector<S>, D: Digest>()
+    ensures { VerdictsAreAwaited D.eq L.elect D.bytes S.certificate_bytes S.IsSignature S.participants S.me L.terms }
+{}
+
 /// Each honest host follows each other one: within two rounds it comes to the view in which the other one was after the
 /// first, or above it.
 ///
 /// Of two hosts of one epoch that have not failed. Two things can be in the way (`Follows`):
 ///
 /// - The other one's process began with the certificate that led it to its view, and its host has not sent that.
-/// - The other one has certified the view below. This host tracks a notarization of it too, but its application has
-///   given no true verdict on it.
+/// - The other one has certified the view below. This host tracks a notarization of it too, but awaits a true verdict,
+///   for one of the reasons of `verdicts_are_awaited`.
 ///
 /// Nullifications are never in the way, in terms of whatever length. By `agreement` none that one of the two accepted
 /// covers a view that one of them finalized. So the other one still tracks the nullification that led it to its view,
@@ -42,6 +62,7 @@ pub fn views_are_followed<S: Scheme<D>, L: Elector<S>, D: Digest>()
     nullifications_spread::<S, L, D>();
     notarizations_spread::<S, L, D>();
     all_is_sent_at_rest::<S, L, D>();
+    verdicts_are_awaited::<S, L, D>();
 }
 
 /// Views meet: within two rounds two honest hosts are in one view, unless one of them has entered a view in the second
@@ -61,4 +82,5 @@ pub fn views_meet<S: Scheme<D>, L: Elector<S>, D: Digest>()
     nullifications_spread::<S, L, D>();
     notarizations_spread::<S, L, D>();
     all_is_sent_at_rest::<S, L, D>();
+    verdicts_are_awaited::<S, L, D>();
 }

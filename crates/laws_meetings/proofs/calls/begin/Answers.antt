@@ -1,13 +1,13 @@
 -- from the clauses of `Engine::start`
 use Rattle.simplex_record.specs.Start.{setup_of}
-use Rattle.laws_meetings.proofs.CallClauses.{both_ok}
+use Rattle.laws_meetings.proofs.CallClauses.{all_ok, both_ok}
 use Rattle.laws_meetings.proofs.Fresh.{started_fresh}
 use Rattle.laws_meetings.proofs.calls.begin.Goals as goal
 
 pub returns-clause-begun : goal.returns-clause-begun
 returns-clause-begun g c =
-    both_ok c.start.result c.start.ensures.kept c.start.ensures.begun
-    (λ engine kept begun. record { kept = kept; unsettled = begun.settled_at })
+    all_ok c.start.result c.start.ensures.kept c.start.ensures.due_work c.start.ensures.begun
+    (λ engine kept reported begun. record { kept = kept; reported = reported; unsettled = begun.settled_at })
 
 pub returns-clause-fresh : goal.returns-clause-fresh
 returns-clause-fresh g c payload genesis =

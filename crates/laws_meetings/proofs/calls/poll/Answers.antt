@@ -14,7 +14,7 @@ returns g c = record {
   };
   works = λ alive. does_work g.D.PartialEq.eq g.L.Elector.elect g.D.Digest.bytes
       g.S.CertificateScheme.certificate_bytes _ _ _ _ _ _ c.poll.result c.poll.ensures.provenance
-      c.poll.ensures.works c.poll.ensures.failed alive;
+      c.poll.ensures.works c.poll.ensures.due_work c.poll.ensures.failed alive;
   settles = λ alive. poll_settles g.D.PartialEq.eq g.L.Elector.elect g.D.Digest.bytes
       g.S.CertificateScheme.certificate_bytes _ _ _ c.poll.result c.poll.ensures.given c.poll.ensures.settled
       c.poll.ensures.rest c.poll.ensures.failed alive;

@@ -8,4 +8,4 @@ returns g c =
     g.S.CertificateScheme.certificate_bytes g.S.Scheme.IsSignature g.S.CertificateScheme.participants
     g.S.CertificateScheme.me g.L.Elector.terms c.rounds_keep_networks.ensures c.finality_spreads.ensures
     c.nullifications_spread.ensures c.notarizations_spread.ensures c.all_is_sent_at_rest.ensures
-    c.agreement.ensures.finalized_uncovered
+    c.verdicts_are_awaited.ensures c.agreement.ensures.finalized_uncovered
