@@ -1,13 +1,13 @@
 #!/usr/bin/env python3
 """Tests that two proved builds of the library are the same bytes, wherever they are made.
 
-The first build is that of `bindings/build` in a copy of the sources, over the libraries that `rt ci` or `rt lib` left in this folder, or else
-over those that `rt ci` leaves in the copy. The second one is made at another path, by a kit at another path, which finds no earlier work. There
-each crate below the library is proved and compiled anew, in the same way, over the first build's libraries of the crates below it, many crates
-side by side, and has to become the same bytes as in the first build. So from the lowest crate up each is what a build from nothing makes. Of
-these libraries `bindings/build` then makes the second archive. No copy has a commit.
+The first build is that of `bindings/build` in a copy of the sources, over the libraries that `rt lib` left in this folder, or else makes in
+the copy. The second one is made at another path, by a kit at another path, which finds no earlier work. There each crate below the library is
+proved and compiled anew, over the first build's libraries of the crates below it, many crates side by side, and has to become the same bytes
+as in the first build. So from the lowest crate up each is what a build from nothing makes. Of these libraries `bindings/build` then makes
+the second archive. No copy has a commit.
 
-    tests/bindings/same_bytes.py             the library: an hour or more, after `rt ci` in this folder
+    tests/bindings/same_bytes.py             the library: an hour or more, where `rt lib` left what is below it; else two
     tests/bindings/same_bytes.py --small     a library of two small crates, in minutes
     tests/bindings/same_bytes.py --wrong     the same, and then by wrong builds, which the comparison has to find
 
@@ -116,15 +116,15 @@ def copied(root, tree, names):
 
 
 def first_build(rt, root, names, room):
-    """Copies the library's sources, with the libraries below it: those of the repository, if all are of its sources and made in one way, or those
-    that `rt ci` makes."""
+    """Copies the library's sources, with the libraries below it: those of the repository, if all have the stamp of its sources, or those that
+    `rt lib` makes, the lowest first."""
     tree = copied(root, room / "first", names)
     here = [crate_of(rt, root, name) for name in names]
-    if len({libraries.is_stamped(it) for it in here}) > 1 or not all(libraries.is_current(it, root) for it in here):
-        root = room / "proved"
-        libraries.add_crates(names, tree, root)
-        subprocess.run(["rt", "ci"], cwd=root, env=OUTSIDE, check=True)
-    libraries.lend([crate_of(rt, root, name) for name in names], tree)
+    if all(it.is_built() for it in here):
+        libraries.lend(here, tree)
+    else:
+        for it in sorted(here, key=lambda it: len(it.below())):
+            subprocess.run(["rt", "lib"], cwd=tree / "crates" / it.name, env=OUTSIDE, check=True)
     return tree
 
 
@@ -137,13 +137,13 @@ def make_anew(rt, first, second, names, room):
 
 
 def made_anew(rt, name, first, second, tree):
-    """Proves and compiles a crate of the second build in a tree of its own, over the first build's libraries, in the way of that one; the crate."""
+    """Proves and compiles a crate of the second build in a tree of its own, over the first build's libraries, as `rt lib` does; the crate there."""
     old, begun = crate_of(rt, first, name), time.monotonic()
     libraries.add_crates({name, *(it.name for it in old.below())}, second, tree)
     libraries.lend(old.below(), tree)
     new = crate_of(rt, tree, name)
     with tempfile.TemporaryFile("w+", errors="replace") as new.out:
-        if new.build_rlib(["--jobs", "1"], anew=not libraries.is_stamped(old)):
+        if new.build_rlib(["--jobs", "1"], anew=False):
             new.out.seek(0)
             raise Differ(f"{name} is not proved: {new.out.read()[-2000:]}")
     compare_folders(name, Path(old.rlib), Path(new.rlib))
@@ -212,8 +212,6 @@ def faults_of(given, room):
     root = small_repository(room / "small") if given.small or given.wrong else ROOT
     names = {it.name for it in crate_of(rt, root, CRATE).below()}
     first = first_build(rt, root, names, room)
-    # (`rt ci` makes libraries of statements alone)
-    rt.rtlib.Crate.cuts_libraries = not any(libraries.is_stamped(crate_of(rt, first, name)) for name in names)
     try:
         print(f"same_bytes: two proved builds of {size_of_both(rt, first, names, room)} bytes, of {len(names)} libraries", flush=True)
     except Differ as found:

@@ -19,16 +19,12 @@ def add_crates(names, root, tree):
     shutil.copy(root / "HANDLES", tree)
 
 
-def is_stamped(crate):
-    """Whether `rt lib` made the crate's library: it leaves a stamp beside it, a digest of the sources, and `rt ci` leaves none. What a library
-    of either has for proofs above it differs."""
-    return Path(crate.rlib).with_name("stamp").exists()
-
-
 def is_current(crate, root):
-    """Whether the library of a crate of a repository is proved, of the sources that are there: by its stamp, or else by the times of the files."""
+    """Whether the library of a crate of a repository is of the sources that are there: by the stamp that `rt lib` leaves beside it, a digest of
+    these sources, or else by the times of the files. These don't show a change that came while `rt ci` was at work: take such a library for
+    tests, and for nothing that is said to be proved."""
     library = Path(crate.rlib)
-    if is_stamped(crate):
+    if library.with_name("stamp").exists():
         return crate.is_built()
     return library.is_dir() and library.stat().st_mtime >= last_change(root, crate.name)
 
